@@ -5,6 +5,7 @@
 
 mod adapters;
 mod faults;
+mod limit;
 mod lines;
 mod memory_sink;
 mod memory_source;
@@ -15,6 +16,7 @@ mod tests;
 
 pub use adapters::{ReadSource, WriteSink};
 pub use faults::{Failed, NoMemory};
+pub use limit::Which;
 pub use lines::{Split, split_line};
 pub use memory_sink::MemSink;
 pub use memory_source::{MemSource, PlainSource};
