@@ -1,0 +1,9 @@
+use Rattle.std.proofs.Common.{◌≡◌, ◌-◌, ◌++◌}
+use Rattle.replay_core.specs.Policies.{counted_on, last_counted}
+use Rattle.replay_core.proofs.model_driver.count_on.Given as goal
+
+abbrev pub invariant-loop-turn : goal.invariant-loop-turn
+invariant-loop-turn l = record {
+  handles : l.handles.items ++ counted_on l.now (l.count - l._turn) ≡ counted_on l.last l.count;
+  last : last_counted l.now (l.count - l._turn) ≡ last_counted l.last l.count;
+}

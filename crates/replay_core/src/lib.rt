@@ -1,0 +1,13 @@
+//! Replays the events of a trace against a driver, and writes a line for each result.
+//! Every answer of a run has its cause, and every call to a driver has its command's shape.
+//! What the program's words mean and what is said of a failure is left to the program.
+#![tactic(auto)]
+
+mod adverse_driver;
+mod driver;
+mod due;
+mod model_driver;
+
+pub use adverse_driver::AdverseDriver;
+pub use driver::{Driver, DriverCall, DriverReply, Policy};
+pub use model_driver::ModelDriver;
