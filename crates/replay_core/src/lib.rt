@@ -7,7 +7,9 @@ mod adverse_driver;
 mod driver;
 mod due;
 mod model_driver;
+mod recording_driver;
 
 pub use adverse_driver::AdverseDriver;
 pub use driver::{Driver, DriverCall, DriverReply, Policy};
 pub use model_driver::ModelDriver;
+pub use recording_driver::RecordingDriver;
