@@ -1,2 +1,3 @@
 pub mod Content
 pub mod FaultNames
+pub mod PlainForm

@@ -5,6 +5,8 @@
 
 mod event;
 mod fault;
+mod state;
 
 pub use event::{Event, Name, TraceArg};
 pub use fault::TraceFault;
+pub use state::{AcceptError, TraceState};
