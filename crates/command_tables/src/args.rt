@@ -1,8 +1,8 @@
 //! The handles of a call.
-ghost use Rattle.std.specs.Prelude.{◌≡◌, ◌≤◌, ◌<◌, ◌+◌, ◌^◌, ◌++◌, ◌∷◌, [], ℕ, length, map, sum, take, replicate, true, false, slice_index, slice_index_or, IsOk, OnOk, OnErr};
+ghost use Rattle.std.specs.Prelude.{◌≡◌, ◌≤◌, ◌<◌, ◌+◌, ◌^◌, ◌++◌, ◌∷◌, [], ℕ, length, map, sum, take, replicate, true, false, slice_index, slice_index_or, IfOk, IsOk, OnOk, OnErr};
 ghost use Rattle.command_tables.specs.Handles.{HasPlace, HasRoom, count_in, cut, list_at, put};
 
-use crate::memory::NoMemory;
+use crate::memory::{NoMemory, make_room, refill};
 use std::alloc::Global;
 use std::marker::Model;
 
@@ -17,7 +17,7 @@ pub struct HandleArgs<const P: usize> {
 }
 
 impl<const P: usize> Model for HandleArgs<P> {
-    ghost use Rattle.std.specs.Prelude.{vec_capacity, min};
+    ghost use Rattle.std.specs.Prelude.{min, vec_capacity};
     ghost use Rattle.command_tables.specs.Handles.{Handles, AreWhole, cut};
 
     ghost Value = { Handles };
@@ -79,6 +79,22 @@ impl<const P: usize> HandleArgs<P> {
             handles: Vec::new(alloc),
             unborn: Vec::new(alloc),
         }
+    }
+
+    /// No parameters, and room for `P` of them with so many handles in all.
+    pub fn with_room(alloc: Global, handles: usize) -> Result<HandleArgs<P>, NoMemory>
+        ensures lists { IfOk result (λ args. args.lists ≡ []) }
+        ensures marks { IfOk result (λ args. args.marks ≡ []) }
+        ensures room { IfOk result (λ args. HasRoom args P handles) }
+    {
+        let lengths = Vec::with_capacity(alloc, P)?;
+        let places = Vec::with_capacity(alloc, handles)?;
+        let unborn = Vec::with_capacity(alloc, handles)?;
+        Ok(HandleArgs {
+            lengths,
+            handles: places,
+            unborn,
+        })
     }
 
     /// The number of parameters.
@@ -158,5 +174,24 @@ impl<const P: usize> HandleArgs<P> {
     {
         let at = place_of(&self.lengths, p, k);
         self.unborn[at]
+    }
+
+    /// Takes the parameters, handles and marks of another call. After `NoMemory` the lists and marks are as before; it comes
+    /// only where there was no room.
+    pub fn copy_from(&mut self, other: &HandleArgs<P>) -> Result<(), NoMemory>
+        ensures lists { OnOk result (self.new.lists ≡ other.now.lists) }
+        ensures marks { OnOk result (self.new.marks ≡ other.now.marks) }
+        ensures err_lists { OnErr result (self.new.lists ≡ self.old.lists) }
+        ensures err_marks { OnErr result (self.new.marks ≡ self.old.marks) }
+        ensures succeeds { HasRoom self.old (length other.now.lists) (count_in other.now.lists) → IsOk result }
+        ensures room { HasRoom self.new self.old.slots self.old.room }
+    {
+        make_room(&mut self.lengths, other.lengths.len())?;
+        make_room(&mut self.handles, other.handles.len())?;
+        make_room(&mut self.unborn, other.unborn.len())?;
+        refill(&mut self.lengths, &other.lengths)?;
+        refill(&mut self.handles, &other.handles)?;
+        refill(&mut self.unborn, &other.unborn)?;
+        Ok(())
     }
 }
