@@ -1,2 +1,4 @@
 pub mod Copies
+pub mod Given
 pub mod Handles
+pub mod Stops

@@ -1,3 +1,9 @@
 pub mod Driver
 pub mod Logs
 pub mod Policies
+pub mod Stop
+pub mod Errors
+pub mod Gave
+pub mod Replayed
+pub mod Causes
+pub mod Statuses

@@ -6,10 +6,22 @@
 mod adverse_driver;
 mod driver;
 mod due;
+mod error;
 mod model_driver;
+mod play;
+mod read;
 mod recording_driver;
+mod run;
+mod session;
+mod status;
+mod text;
 
 pub use adverse_driver::AdverseDriver;
 pub use driver::{Driver, DriverCall, DriverReply, Policy};
+pub use error::{ReplayError, SessionError};
 pub use model_driver::ModelDriver;
 pub use recording_driver::RecordingDriver;
+pub use run::replay;
+pub use session::Session;
+pub use status::Status;
+pub use text::Tally;

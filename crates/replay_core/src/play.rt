@@ -1,0 +1,118 @@
+// Replaying the lines of a trace.
+ghost use Rattle.std.specs.Prelude.{◌≡◌, ◌≢◌, ◌≤◌, ℕ, length, OnOk, IfOk, IfErr, Err, Some, None};
+ghost use Rattle.replay_base.specs.Faults.{Rose};
+ghost use Rattle.replay_base.specs.Lines.{lines_of};
+ghost use Rattle.trace_format.specs.declared.fault.TraceFault.{TraceFault};
+ghost use Rattle.trace_format.specs.Content.{content};
+ghost use Rattle.trace_format.specs.Plain.{plain_event};
+ghost use Rattle.trace_format.specs.PlainForm.{at_start, after, fault_at};
+ghost use Rattle.replay_core.specs.Causes.{IsOfTrace, IsOfStep, IsOfPlay};
+ghost use Rattle.replay_core.specs.Stop.{stop_at, stop_from};
+
+use crate::driver::Driver;
+use crate::error::{ReplayError, SessionError};
+use crate::read::MOST_BYTES;
+use crate::session::Session;
+use replay_base::{Sink, put_all, split_line};
+use std::alloc::Global;
+use trace_format::{AcceptError, Event, ParseError, TraceFault, TraceState, parse_line};
+
+// The event of a line.
+fn event_of(alloc: Global, text: &[u8], line: u64) -> Result<Event, ReplayError>
+    ensures ok { IfOk result (λ e. plain_event text.now ≡ Some (content e)) }
+    ensures fault { (n : ℕ) (f : TraceFault) → result ≡ Err (ReplayError.Trace n f) → plain_event text.now ≡ None }
+    ensures not_built { (n : ℕ) (f : TraceFault) → result ≡ Err (ReplayError.Trace n f) → f ≡ TraceFault.NotBuilt }
+    ensures line { (n : ℕ) (f : TraceFault) → result ≡ Err (ReplayError.Trace n f) → n ≡ line }
+    ensures others { IfErr result IsOfTrace }
+{
+    match parse_line(alloc, text) {
+        Ok(event) => Ok(event),
+        Err(ParseError::NoMemory) => Err(ReplayError::NoMemory),
+        Err(ParseError::Fault(fault)) => Err(ReplayError::Trace { line, fault }),
+    }
+}
+
+// The number of an event's call, where the event may stand at its line.
+fn place(state: &mut TraceState, event: &Event, line: u64) -> Result<u64, ReplayError>
+    ensures ok { OnOk result (fault_at state.old (content event.now) ≡ None) }
+    ensures after { OnOk result (state.new ≡ after state.old (content event.now)) }
+    ensures fault { (n : ℕ) (f : TraceFault) → result ≡ Err (ReplayError.Trace n f) → fault_at state.old (content event.now) ≡ Some f }
+    ensures line { (n : ℕ) (f : TraceFault) → result ≡ Err (ReplayError.Trace n f) → n ≡ line }
+    ensures others { IfErr result IsOfTrace }
+{
+    match state.accept(event) {
+        Ok(call) => Ok(call),
+        Err(AcceptError::Fault(fault)) => Err(ReplayError::Trace { line, fault }),
+        Err(AcceptError::Names) | Err(AcceptError::NoMemory) => Err(ReplayError::NoMemory),
+    }
+}
+
+// One event of a session, and its lines.
+fn take<D: Driver>(
+    session: &mut Session,
+    alloc: Global,
+    call: u64,
+    event: &Event,
+    driver: &mut D,
+    lines: &mut Vec<u8>,
+) -> Result<(), SessionError>
+    ensures { IfErr result (λ e. e ≡ SessionError.NoMemory) }
+{
+    lines.clear();
+    match event {
+        Event::Begin { .. } => session.begin(alloc, call, event, driver, lines),
+        Event::Return { thread } => session.finish(alloc, *thread, lines),
+    }
+}
+
+// The same, with the lines written.
+fn step<K: Sink, D: Driver>(
+    session: &mut Session,
+    alloc: Global,
+    call: u64,
+    event: &Event,
+    driver: &mut D,
+    lines: &mut Vec<u8>,
+    out: &mut K,
+) -> Result<(), ReplayError>
+    ensures rose { result ≡ Err ReplayError.Write → Rose (K.faults out.old) (K.faults out.new) }
+    ensures stood { result ≢ Err ReplayError.Write → K.faults out.new ≡ K.faults out.old }
+    ensures others { IfErr result IsOfStep }
+{
+    take(session, alloc, call, event, driver, lines)?;
+    put_all(out, lines).map_err(|_| ReplayError::Write)
+}
+
+/// The events behind the header, up to the first that stops the replay.
+#[tactic(auto, using(crate::proofs::Stops::next_line, crate::proofs::Stops::not_plain, crate::proofs::Stops::out_of_place, crate::proofs::Stops::at_end))]
+pub fn play<K: Sink, D: Driver>(
+    session: &mut Session,
+    alloc: Global,
+    bytes: &[u8],
+    driver: &mut D,
+    out: &mut K,
+) -> Result<(), ReplayError>
+    requires { length bytes.now ≤ MOST_BYTES }
+    ensures ok { OnOk result (stop_from 2 at_start (lines_of bytes.now) ≡ None) }
+    ensures stop { (n : ℕ) (f : TraceFault) → result ≡ Err (ReplayError.Trace n f) → stop_from 2 at_start (lines_of bytes.now) ≡ stop_at n f }
+    ensures rose { result ≡ Err ReplayError.Write → Rose (K.faults out.old) (K.faults out.new) }
+    ensures stood { result ≢ Err ReplayError.Write → K.faults out.new ≡ K.faults out.old }
+    ensures others { IfErr result IsOfPlay }
+{
+    let mut state = TraceState::new(alloc);
+    let mut lines = Vec::new(alloc);
+    let mut rest = bytes;
+    let mut line: u64 = 2;
+    while !rest.is_empty() {
+        let split = split_line(rest);
+        let event = event_of(alloc, split.line, line)?;
+        let call = place(&mut state, &event, line)?;
+        step(session, alloc, call, &event, driver, &mut lines, out)?;
+        line += 1;
+        rest = split.rest;
+    }
+    match state.finish() {
+        Ok(()) => Ok(()),
+        Err(fault) => Err(ReplayError::Trace { line, fault }),
+    }
+}

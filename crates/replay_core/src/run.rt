@@ -1,0 +1,154 @@
+// A replay from its header to its end line.
+ghost use Rattle.std.specs.Prelude.{◌≡◌, ◌≢◌, ◌<◌, ◌≤◌, ℕ, length, OnOk, IfOk, IfErr, MatchOption, IfSome, Err, None};
+ghost use Rattle.replay_base.specs.Faults.{Rose};
+ghost use Rattle.replay_base.specs.Lines.{lines_of};
+ghost use Rattle.trace_format.specs.declared.fault.TraceFault.{TraceFault};
+ghost use Rattle.trace_format.specs.PlainForm.{at_start};
+ghost use Rattle.replay_core.specs.Causes.{IsOfPlay, IsOfStep, IsNoLimit};
+ghost use Rattle.replay_core.specs.Gave.{Gave, GaveTooMuch};
+ghost use Rattle.replay_core.specs.Replayed.{Ended, StoppedAt, StoppedBySize, IsUntouched};
+ghost use Rattle.replay_core.specs.Stop.{stop, stop_at, stop_in, stop_from};
+
+use crate::driver::Driver;
+use crate::error::{ReplayError, SessionError};
+use crate::play::play;
+use crate::read::{MOST_BYTES, Unread, read_all};
+use crate::session::Session;
+use crate::text::end_line;
+use replay_base::{Sink, Source, put_all, split_line};
+use std::alloc::Global;
+use trace_format::TraceFault;
+
+// The whole trace; one that is too large stops at its first line.
+fn load<S: Source>(alloc: Global, trace: &mut S) -> Result<Vec<u8>, ReplayError>
+    ensures ok { IfOk result (λ bytes. Gave (S.left trace.old) (S.left trace.new) bytes.items) }
+    ensures most { IfOk result (λ bytes. length bytes.items ≤ MOST_BYTES) }
+    ensures large { (n : ℕ) (f : TraceFault) → result ≡ Err (ReplayError.Trace n f) → StoppedBySize n f (S.left trace.old) (S.left trace.new) }
+    ensures rose { result ≡ Err ReplayError.Read → Rose (S.faults trace.old) (S.faults trace.new) }
+    ensures stood { result ≢ Err ReplayError.Read → S.faults trace.new ≡ S.faults trace.old }
+    ensures others { IfErr result IsNoLimit }
+    ensures no_write { result ≢ Err ReplayError.Write }
+{
+    match read_all(alloc, trace) {
+        Ok(bytes) => Ok(bytes),
+        Err(Unread::Failed) => Err(ReplayError::Read),
+        Err(Unread::TooLarge) => Err(ReplayError::Trace {
+            line: 1,
+            fault: TraceFault::NotBuilt,
+        }),
+        Err(Unread::NoMemory) => Err(ReplayError::NoMemory),
+    }
+}
+
+// What stands behind the header.
+#[tactic(auto, using(crate::proofs::Stops::header_missing, crate::proofs::Stops::header_wrong, crate::proofs::Stops::header_there))]
+fn behind_header(bytes: &[u8]) -> Option<&[u8]>
+    ensures header { MatchOption result (stop_in (lines_of bytes.now) ≡ stop_at 1 TraceFault.Header) (λ rest. stop_in (lines_of bytes.now) ≡ stop_from 2 at_start (lines_of rest.now)) }
+    ensures shorter { IfSome result (λ rest. length rest.now ≤ length bytes.now) }
+{
+    if bytes.is_empty() {
+        return None;
+    }
+    let split = split_line(bytes);
+    if split.line == b"vktrace 1".as_slice() {
+        Some(split.rest)
+    } else {
+        None
+    }
+}
+
+// The lines of a trace that was read.
+#[tactic(auto, using(crate::proofs::Stops::small_enough))]
+fn play_trace<K: Sink, D: Driver>(
+    session: &mut Session,
+    alloc: Global,
+    bytes: &[u8],
+    driver: &mut D,
+    out: &mut K,
+) -> Result<(), ReplayError>
+    requires { length bytes.now ≤ MOST_BYTES }
+    ensures ok { OnOk result (stop bytes.now ≡ None) }
+    ensures stop { (n : ℕ) (f : TraceFault) → result ≡ Err (ReplayError.Trace n f) → stop bytes.now ≡ stop_at n f }
+    ensures rose { result ≡ Err ReplayError.Write → Rose (K.faults out.old) (K.faults out.new) }
+    ensures stood { result ≢ Err ReplayError.Write → K.faults out.new ≡ K.faults out.old }
+    ensures others { IfErr result IsOfPlay }
+{
+    match behind_header(bytes) {
+        None => Err(ReplayError::Trace {
+            line: 1,
+            fault: TraceFault::Header,
+        }),
+        Some(rest) => play(session, alloc, rest, driver, out),
+    }
+}
+
+fn end_text(session: &Session, alloc: Global) -> Result<Vec<u8>, SessionError>
+    ensures { IfErr result (λ e. e ≡ SessionError.NoMemory) }
+{
+    let mut line = Vec::new(alloc);
+    end_line(&session.tally(), &mut line)?;
+    Ok(line)
+}
+
+// The end line.
+fn put_end<K: Sink>(session: &Session, alloc: Global, out: &mut K) -> Result<(), ReplayError>
+    ensures rose { result ≡ Err ReplayError.Write → Rose (K.faults out.old) (K.faults out.new) }
+    ensures stood { result ≢ Err ReplayError.Write → K.faults out.new ≡ K.faults out.old }
+    ensures others { IfErr result IsOfStep }
+{
+    let line = end_text(session, alloc)?;
+    put_all(out, &line).map_err(|_| ReplayError::Write)
+}
+
+// The lines of a trace that was read, and the end line.
+fn play_whole<K: Sink, D: Driver>(
+    session: &mut Session,
+    alloc: Global,
+    bytes: &[u8],
+    driver: &mut D,
+    out: &mut K,
+) -> Result<(), ReplayError>
+    requires { length bytes.now ≤ MOST_BYTES }
+    ensures ok { OnOk result (stop bytes.now ≡ None) }
+    ensures stop { (n : ℕ) (f : TraceFault) → result ≡ Err (ReplayError.Trace n f) → stop bytes.now ≡ stop_at n f }
+    ensures rose { result ≡ Err ReplayError.Write → Rose (K.faults out.old) (K.faults out.new) }
+    ensures stood { result ≢ Err ReplayError.Write → K.faults out.new ≡ K.faults out.old }
+    ensures others { IfErr result IsOfPlay }
+{
+    match play_trace(session, alloc, bytes, driver, out) {
+        Ok(()) => put_end(session, alloc, out),
+        Err(error) => Err(error),
+    }
+}
+
+/// Replays a trace: reads it whole, replays it line by line up to the first that stops it, and writes the text of each line,
+/// then the end line. Lines count from 1.
+pub fn replay<S: Source, K: Sink, D: Driver>(
+    alloc: Global,
+    trace: &mut S,
+    out: &mut K,
+    driver: &mut D,
+) -> Result<Session, ReplayError>
+    ensures ended { OnOk result (Ended (S.left trace.old) (S.left trace.new)) }
+    ensures stopped { (n : ℕ) (f : TraceFault) → result ≡ Err (ReplayError.Trace n f)
+        → StoppedAt n f (S.left trace.old) (S.left trace.new) (IsUntouched (K.held out.old) (K.held out.new) (D.log driver.old) (D.log driver.new)) }
+    ensures read { result ≡ Err ReplayError.Read → Rose (S.faults trace.old) (S.faults trace.new) }
+    ensures write { result ≡ Err ReplayError.Write → Rose (K.faults out.old) (K.faults out.new) }
+    ensures others { IfErr result IsNoLimit }
+
+    // Before all is read nothing is written, and the driver isn't called.
+    ensures untouched { result ≡ Err ReplayError.Read → IsUntouched (K.held out.old) (K.held out.new) (D.log driver.old) (D.log driver.new) }
+    ensures source_stood { result ≢ Err ReplayError.Read → S.faults trace.new ≡ S.faults trace.old }
+    ensures sink_stood { result ≢ Err ReplayError.Write → K.faults out.new ≡ K.faults out.old }
+{
+    match load(alloc, trace) {
+        Err(error) => Err(error),
+        Ok(bytes) => {
+            let mut session = Session::new(alloc);
+            match play_whole(&mut session, alloc, &bytes, driver, out) {
+                Err(error) => Err(error),
+                Ok(()) => Ok(session),
+            }
+        }
+    }
+}
