@@ -5,6 +5,8 @@
 
 mod event;
 mod fault;
+mod parse;
 
 pub use event::{Event, Name, TraceArg};
 pub use fault::TraceFault;
+pub use parse::{ParseError, read_event};
