@@ -11,7 +11,7 @@ use Rattle.trace_format.specs.Reading.{command_of}
 
 -- each command is the one with its name
 named : (c : CommandId) → command_of (row_of c).name ≡ Some c
-unfolding row_of
+unfolding row_of command_of
 named cmd.AcquireNextImageKHR = refl
 named _ = refl
 
@@ -26,5 +26,6 @@ unnamed word none (c ∷ cs) = go (bytes_eq (row_of c).name word) (bytes_eq-Deci
 
 -- the command that was found is the one with the name
 pub found_by_name : (word : List ℕ) (r : Option CommandId) → IfSome r (λ c. (row_of c).name ≡ word) → IfNone r ((c : CommandId) → (row_of c).name ≢ word) → r ≡ command_of word
+unfolding command_of
 found_by_name word None some none = sym (unnamed word none COMMANDS)
 found_by_name word (Some c) some none = sym (named c) ∙ ap command_of some

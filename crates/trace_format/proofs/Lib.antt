@@ -4,3 +4,5 @@ pub mod ReadLemmas
 pub mod AnswerLemmas
 pub mod LineLemmas
 pub mod CommandLemmas
+pub mod CodeLemmas
+pub mod PlainLemmas

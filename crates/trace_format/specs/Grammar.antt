@@ -3,7 +3,7 @@ use Rattle.std.specs.Prelude.{ℕ, ◌≡◌, ◌≤◌, ◌+◌, ◌<◌, Bool,
 use Rattle.std.specs.List.{flat_map, join_with_byte, AllByRecursion}
 use Rattle.std.specs.Option.{option_map_or}
 use Rattle.command_tables.specs.declared.types.Code.{Code}
-use Rattle.command_tables.specs.declared.types.Code.TheVariants as code
+use Rattle.command_tables.specs.CodeNames.{code_name}
 use Rattle.command_tables.specs.declared.types.Effect.{Effect}
 use Rattle.command_tables.specs.declared.types.Effect.TheVariants as eff
 use Rattle.command_tables.specs.Table.{ParamSpec, RowSpec, row_of}
@@ -22,10 +22,7 @@ arg_text a = if a.many then codes "[" ++ join_with_byte 44 (map one_text a.names
 
 abbrev pub code_text : Option Code → List ℕ
 code_text None = codes "void"
-code_text (Some code.Success) = codes "VK_SUCCESS"
-code_text (Some code.Incomplete) = codes "VK_INCOMPLETE"
-code_text (Some code.ErrorValidationFailedExt) = codes "VK_ERROR_VALIDATION_FAILED_EXT"
-code_text (Some _) = codes "VK_OTHER"
+code_text (Some c) = code_name c
 
 abbrev pub results_text : List Name → List ℕ
 results_text [] = []

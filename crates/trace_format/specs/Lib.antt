@@ -3,3 +3,5 @@ pub mod FaultNames
 pub mod Grammar
 pub mod Reading
 pub mod Steps
+pub mod Plain
+pub mod PlainSamples

@@ -6,7 +6,8 @@ use Rattle.std.specs.Char.{is_ascii_digit}
 use Rattle.command_tables.specs.declared.types.CommandId.{CommandId}
 use Rattle.command_tables.specs.declared.lookup.TheConstants.{COMMANDS}
 use Rattle.command_tables.specs.declared.types.Code.{Code}
-use Rattle.command_tables.specs.declared.types.Code.TheVariants as code
+use Rattle.command_tables.specs.declared.codes.TheConstants.{CODES}
+use Rattle.command_tables.specs.CodeNames.{code_name}
 use Rattle.command_tables.specs.declared.types.Effect.{Effect}
 use Rattle.command_tables.specs.declared.types.Effect.TheVariants as eff
 use Rattle.command_tables.specs.Table.{ParamSpec, RowSpec, row_of}
@@ -136,10 +137,13 @@ results_at e bytes =
     )
     else (if takes_results e 0 then Ok ([], bytes) else Err fault.Results)
 
+-- the code with a name
+unfoldable pub code_named : List ℕ → Option Code
+code_named word = find (λ c. bytes_eq (code_name c) word) CODES
+
+-- a code, or none for void
 abbrev pub code_of : List ℕ → Option (Option Code)
-code_of word =
-    if bytes_eq word (codes "void") then Some None
-    else (if bytes_eq word (codes "VK_SUCCESS") then Some (Some code.Success) else (if bytes_eq word (codes "VK_INCOMPLETE") then Some (Some code.Incomplete) else None))
+code_of word = if bytes_eq word (codes "void") then Some None else (elim (code_named word) [ None ↦ None | Some c ↦ Some (Some c) ])
 
 abbrev pub same_bool : Bool → Bool → Bool
 same_bool true b = b
@@ -158,7 +162,7 @@ payload_at (b ∷ bytes) = if starts (codes " : ") (b ∷ bytes) && nat_lt 3 (le
 
 -- ---- lines
 
-abbrev pub command_of : List ℕ → Option CommandId
+unfoldable pub command_of : List ℕ → Option CommandId
 command_of word = find (λ c. bytes_eq (row_of c).name word) COMMANDS
 
 abbrev pub begin_with : ℕ → CommandId → List ℕ → Result TraceEvent TraceFault

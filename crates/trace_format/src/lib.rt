@@ -9,4 +9,6 @@ mod parse;
 
 pub use event::{Event, Name, TraceArg};
 pub use fault::TraceFault;
-pub use parse::{ParseError, read_event};
+pub use parse::{
+    ParseError, facts_of_plain_events, other_lines, parse_line, plain_lines, read_event,
+};

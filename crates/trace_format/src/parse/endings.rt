@@ -1,7 +1,7 @@
 //! The code and the payload, which end a begin.
 ghost use Rattle.std.specs.Prelude.{◌≡◌};
 ghost use Rattle.command_tables.specs.Table.{seen};
-ghost use Rattle.trace_format.specs.Reading.{code_of, code_at, payload_at, same_bool};
+ghost use Rattle.trace_format.specs.Reading.{code_named, code_of, code_at, payload_at, same_bool};
 ghost use Rattle.trace_format.specs.Steps.{Answers};
 
 use crate::fault::TraceFault;
@@ -10,6 +10,13 @@ use crate::parse::words::split_word;
 use command_tables::{Code, Row};
 use std::alloc::Global;
 
+/// The code with a name.
+fn code_named(word: &[u8]) -> Option<Code>
+    ensures { result ≡ code_named word.now }
+{
+    Code::find(word)
+}
+
 /// A code, or none for `void`.
 fn code_word(word: &[u8]) -> Option<Option<Code>>
     ensures { result ≡ code_of word.now }
@@ -17,13 +24,7 @@ fn code_word(word: &[u8]) -> Option<Option<Code>>
     if word == b"void".as_slice() {
         return Some(None);
     }
-    if word == b"VK_SUCCESS".as_slice() {
-        return Some(Some(Code::Success));
-    }
-    if word == b"VK_INCOMPLETE".as_slice() {
-        return Some(Some(Code::Incomplete));
-    }
-    None
+    Some(Some(code_named(word)?))
 }
 
 /// The code that stands at the front, and what follows it.
