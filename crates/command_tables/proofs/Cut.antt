@@ -1,5 +1,5 @@
 -- A list cut into pieces.
-use Rattle.std.proofs.Common.{◌≡◌, ℕ, zero, suc, Bool, List, [], ◌∷◌, ◌++◌, length, refl, ap, arith, take, drop, ◌+◌, ◌-◌, ◌≤◌, ◌<◌, set, get_or, sum, ◌∙◌, sym, min, replicate}
+use Rattle.std.proofs.Common.{◌≡◌, ℕ, zero, suc, Bool, List, [], ◌∷◌, ◌++◌, length, refl, ap, arith, take, drop, ◌+◌, ◌-◌, ◌≤◌, ◌<◌, set, get_or, sum, ◌∙◌, sym, replicate}
 use Rattle.std.proofs.lemmas.List.{take-append-le, drop-append-le, nil_from_length, drop-drop, take-set-le, drop-set-lt, drop-set-add, take_all, length-take, length-drop, length-append, get_or-take, get_or-drop}
 use Rattle.std.proofs.lemmas.List.Sums.{sum_by-cons, sum_by-take-le, sum_by_push}
 use Rattle.std.proofs.Math.Seq.{take-set-lt}

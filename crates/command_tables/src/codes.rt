@@ -39,7 +39,10 @@ pub static CODES: [Code; 25] = [
 fn find_code(codes: &[Code], name: &[u8]) -> Option<Code>
     ensures { result ≡ spec_find (λ c. bytes_eq (code_name c) name.now) codes.now }
 {
-    codes.iter().copied().find(|code| code.name().as_bytes() == name)
+    codes
+        .iter()
+        .copied()
+        .find(|code| code.name().as_bytes() == name)
 }
 
 impl Code {

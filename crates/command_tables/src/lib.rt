@@ -9,9 +9,9 @@ mod codes;
 mod lookup;
 mod memory;
 mod table;
-mod types;
 #[cfg(test)]
 mod tests;
+mod types;
 
 pub use args::HandleArgs;
 pub use call::LayerCall;

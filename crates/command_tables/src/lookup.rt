@@ -162,5 +162,4 @@ pub fn facts_of_the_table()
     ensures implied { (c : CommandId) → IsTrue (list_all (λ p. implied_fits p.implied p.ty) (row_of c).params) }
     ensures numbered { (c : CommandId) → slice_get COMMANDS (number_of c - 1) ≡ Some c }
     ensures rising { IsTrue (rise (map (λ c. (row_of c).name) COMMANDS)) }
-{
-}
+{}

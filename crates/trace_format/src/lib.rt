@@ -5,8 +5,12 @@
 
 mod event;
 mod fault;
+mod parse;
 mod state;
 
 pub use event::{Event, Name, TraceArg};
 pub use fault::TraceFault;
+pub use parse::{
+    ParseError, facts_of_plain_events, other_lines, parse_line, plain_lines, read_event,
+};
 pub use state::{AcceptError, TraceState};

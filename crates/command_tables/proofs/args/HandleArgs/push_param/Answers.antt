@@ -1,6 +1,6 @@
-use Rattle.std.proofs.Common.{◌≡◌, ◌≤◌, ◌<◌, ◌+◌, ◌++◌, ◌∷◌, [], ap, arith, length, length-append, min, replicate, false, refl, sym, ◌∙◌}
+use Rattle.std.proofs.Common.{◌≡◌, ◌<◌, ◌++◌, ◌∷◌, [], ap, arith, length, replicate, false, refl, ◌∙◌}
 use Rattle.std.proofs.lemmas.List.{length-replicate}
-use Rattle.command_tables.specs.Handles.{Handles, HasRoom, count_in, cut}
+use Rattle.command_tables.specs.Handles.{Handles}
 use Rattle.command_tables.proofs.Cut.{counts_seen, cut_append, filled_up, whole_append}
 use Rattle.command_tables.proofs.args.HandleArgs.push_param.Goals as goal
 

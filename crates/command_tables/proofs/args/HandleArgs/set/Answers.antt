@@ -1,6 +1,6 @@
-use Rattle.std.proofs.Common.{◌≡◌, ap, arith, ◌∙◌}
-use Rattle.command_tables.specs.Handles.{Handles, cut, put}
-use Rattle.command_tables.proofs.Cut.{IsPlace, place_seen, cut_set}
+use Rattle.std.proofs.Common.{ap}
+use Rattle.command_tables.specs.Handles.{Handles}
+use Rattle.command_tables.proofs.Cut.{place_seen, cut_set}
 use Rattle.command_tables.proofs.args.HandleArgs.set.Goals as goal
 
 pub place_of-at-requires-clause-param : goal.place_of-at-requires-clause-param

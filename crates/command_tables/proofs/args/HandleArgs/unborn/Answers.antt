@@ -1,6 +1,6 @@
-use Rattle.std.proofs.Common.{◌≡◌, ℕ, ◌+◌, ◌<◌, ap, arith, false, get_or, length, sum, take, ◌∙◌, sym}
+use Rattle.std.proofs.Common.{◌≡◌, ◌+◌, ◌<◌, ap, arith, false, get_or, length, sum, take, ◌∙◌}
 use Rattle.std.proofs.lemmas.List.{get_or_read}
-use Rattle.command_tables.specs.Handles.{Handles, cut, list_at}
+use Rattle.command_tables.specs.Handles.{Handles}
 use Rattle.command_tables.proofs.Cut.{place_seen, at_place}
 use Rattle.command_tables.proofs.args.HandleArgs.unborn.Goals as goal
 

@@ -1,5 +1,4 @@
-use Rattle.std.proofs.Common.{◌≡◌, ◌+◌, ◌-◌, arith, IfSome}
-use Rattle.command_tables.specs.Numbers.{number_of}
+use Rattle.std.proofs.Common.{◌≡◌, ◌+◌, ◌-◌, arith}
 use Rattle.command_tables.proofs.Named.{number_at}
 use Rattle.command_tables.proofs.types.CommandId.from_number.Goals as goal
 

@@ -1,0 +1,114 @@
+//! A line, from its front.
+ghost use Rattle.std.specs.Prelude.{◌≡◌, map};
+ghost use Rattle.std.specs.List.{list_all};
+ghost use Rattle.command_tables.specs.Table.{seen};
+ghost use Rattle.trace_format.specs.Content.{content, arg_content};
+ghost use Rattle.trace_format.specs.Reading.{is_printable, begin_at, begin_with, return_at, read_line, command_of};
+ghost use Rattle.trace_format.specs.Steps.{Answers, end_with};
+
+use crate::event::{Event, TraceArg};
+use crate::fault::TraceFault;
+use crate::parse::arguments::{after_arguments, arguments, is_first_null};
+use crate::parse::endings::{code, payload};
+use crate::parse::error::ParseError;
+use crate::parse::names::thread;
+use crate::parse::results::{results, split_results};
+use crate::parse::words::split_word;
+use command_tables::{CommandId, Row, find, row};
+use std::alloc::Global;
+
+/// Whether each byte is a printable one, from 0x20 to 0x7E.
+fn is_ascii(line: &[u8]) -> bool
+    ensures { result ≡ list_all is_printable line.now }
+{
+    line.iter().all(|byte| 0x20 <= *byte && *byte <= 0x7E)
+}
+
+/// The command with a name.
+fn command(word: &[u8]) -> Option<CommandId>
+    ensures { result ≡ command_of word.now }
+{
+    find(word)
+}
+
+/// A begin, once its arguments are read.
+fn end_begin(
+    alloc: Global,
+    thread: u32,
+    cmd: CommandId,
+    args: Vec<TraceArg>,
+    bytes: &[u8],
+) -> Result<Event, ParseError>
+    ensures { Answers content result (end_with thread cmd (map arg_content args.items) bytes.now) }
+{
+    let row = row(cmd);
+    let (word, after) = split_results(bytes);
+    let results = results(alloc, row.effect, word)?;
+    let (code, after) = code(row, after)?;
+    let payload = payload(alloc, after)?;
+    Ok(Event::Begin { thread, cmd, args, results, code, payload })
+}
+
+/// A begin, from its arguments on.
+fn begin_with(
+    alloc: Global,
+    thread: u32,
+    cmd: CommandId,
+    bytes: &[u8],
+) -> Result<Event, ParseError>
+    ensures { Answers content result (begin_with thread cmd bytes.now) }
+{
+    let row = row(cmd);
+    let Some(after) = after_arguments(row.params.len(), bytes) else {
+        return Err(ParseError::Fault(TraceFault::Parameter));
+    };
+    let args = arguments(alloc, row.params, bytes)?;
+    if is_first_null(&args) {
+        return Err(ParseError::Fault(TraceFault::Argument));
+    }
+    end_begin(alloc, thread, cmd, args, after)
+}
+
+/// A begin, from its thread on.
+fn begin_at(alloc: Global, bytes: &[u8]) -> Result<Event, ParseError>
+    ensures { Answers content result (begin_at bytes.now) }
+{
+    let (word, after) = split_word(bytes);
+    let Some(thread) = thread(word) else {
+        return Err(ParseError::Fault(TraceFault::Thread));
+    };
+    let Some(rest) = after.strip_prefix(b" ") else {
+        return Err(ParseError::Fault(TraceFault::Thread));
+    };
+    let (word, after) = split_word(rest);
+    match command(word) {
+        None => Err(ParseError::Fault(TraceFault::Command)),
+        Some(cmd) => begin_with(alloc, thread, cmd, after),
+    }
+}
+
+/// A return, from its thread on.
+fn return_at(bytes: &[u8]) -> Result<Event, ParseError>
+    ensures { Answers content result (return_at bytes.now) }
+{
+    match thread(bytes) {
+        None => Err(ParseError::Fault(TraceFault::Thread)),
+        Some(thread) => Ok(Event::Return { thread }),
+    }
+}
+
+/// The event that a line spells, without its line feed, or its first fault. `NoMemory` says nothing of the line.
+pub fn read_event(alloc: Global, line: &[u8]) -> Result<Event, ParseError>
+    ensures { Answers content result (read_line line.now) }
+{
+    if !is_ascii(line) {
+        return Err(ParseError::Fault(TraceFault::NotAscii));
+    }
+    if let Some(rest) = line.strip_prefix(b"b ") {
+        return begin_at(alloc, rest);
+    }
+    match line.strip_prefix(b"r ") {
+        None => Err(ParseError::Fault(TraceFault::Letter)),
+        Some(rest) => return_at(rest),
+    }
+}

@@ -1,0 +1,88 @@
+//! The results of a begin, as its effect needs them.
+ghost use Rattle.std.specs.Prelude.{◌≡◌, length, Ok, Some, None, option_copied};
+ghost use Rattle.trace_format.specs.declared.fault.TraceFault.TheVariants as fault;
+ghost use Rattle.trace_format.specs.Reading.{or_fault, all_of, name_of, pieces, takes_results};
+ghost use Rattle.trace_format.specs.Steps.{Answers, results_word, after_results, names_in, results_of};
+
+use crate::event::Name;
+use crate::fault::TraceFault;
+use crate::parse::error::ParseError;
+use crate::parse::names::name;
+use crate::parse::words::{split_piece, split_word};
+use command_tables::Effect;
+use std::alloc::Global;
+
+/// The most results of a call.
+const RESULTS: usize = 1024;
+
+/// Whether a command of this effect has so many results.
+fn takes(effect: Effect, count: usize) -> bool
+    ensures { result ≡ takes_results effect count }
+{
+    match effect {
+        Effect::Create { many, .. } | Effect::Retrieve { many, .. } => {
+            if many {
+                count <= RESULTS
+            } else {
+                count == 1
+            }
+        }
+        _ => count == 0,
+    }
+}
+
+/// The names between commas.
+fn names_between(alloc: Global, word: &[u8]) -> Result<Vec<Name>, ParseError>
+    ensures { Answers (λ v. v.items) result (or_fault fault.Results (all_of name_of (pieces word.now))) }
+{
+    let mut names = Vec::new(alloc);
+    let mut rest = Some(word);
+    while let Some(bytes) = rest {
+        let (piece, after) = split_piece(bytes);
+        let Some(name) = name(piece) else {
+            return Err(ParseError::Fault(TraceFault::Results));
+        };
+        names.push(name)?;
+        rest = after;
+    }
+    Ok(names)
+}
+
+/// The word of results, where ` = ` stands before it, and what follows.
+pub fn split_results(bytes: &[u8]) -> (Option<&[u8]>, &[u8])
+    ensures word { option_copied result.0 ≡ results_word bytes.now }
+    ensures rest { result.1.now ≡ after_results bytes.now }
+{
+    match bytes.strip_prefix(b" = ") {
+        None => (None, bytes),
+        Some(rest) => {
+            let (word, after) = split_word(rest);
+            (Some(word), after)
+        }
+    }
+}
+
+/// The names of a word of results, or none where there is no word.
+fn names_of(alloc: Global, word: Option<&[u8]>) -> Result<Vec<Name>, ParseError>
+    ensures { Answers (λ v. v.items) result (names_in (option_copied word.entry)) }
+{
+    match word {
+        None => Ok(Vec::new(alloc)),
+        Some(word) => names_between(alloc, word),
+    }
+}
+
+/// The results that a command of this effect has.
+pub fn results(
+    alloc: Global,
+    effect: Effect,
+    word: Option<&[u8]>,
+) -> Result<Vec<Name>, ParseError>
+    ensures { Answers (λ v. v.items) result (results_of effect (option_copied word.entry)) }
+{
+    let names = names_of(alloc, word)?;
+    if !takes(effect, names.len()) {
+        return Err(ParseError::Fault(TraceFault::Results));
+    }
+    Ok(names)
+}
