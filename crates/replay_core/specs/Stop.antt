@@ -13,8 +13,11 @@ pub record Stop : Type 0 where
   pub line : ℕ
   pub fault : TraceFault
 
+abbrev pub at_line : ℕ → TraceFault → Stop
+at_line n f = record { line = n; fault = f }
+
 abbrev pub stop_at : ℕ → TraceFault → Option Stop
-stop_at n f = Some (record { line = n; fault = f })
+stop_at n f = Some (at_line n f)
 
 -- the line stops if its event is out of place, and else the rest decides
 abbrev pub unless_out_of_place : ℕ → Option TraceFault → Option Stop → Option Stop

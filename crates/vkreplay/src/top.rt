@@ -1,0 +1,124 @@
+// All that the program does.
+ghost use Rattle.std.specs.Prelude.{◌≡◌, ◌≢◌, ◌↔◌, ◌⊎◌, ℕ, List, IsSome, Some, None};
+ghost use Rattle.replay_base.specs.Faults.{Rose};
+ghost use Rattle.trace_format.specs.declared.fault.TraceFault.{TraceFault};
+ghost use Rattle.replay_core.specs.Replayed.{Ended, IsUntouched};
+ghost use Rattle.replay_core.specs.Stop.{stop, stop_at};
+ghost use Rattle.vkreplay.specs.Said.{Said, StoppedAndSaid, IsSilent, fault_line};
+ghost use Rattle.vkreplay.specs.Words.{IsRun};
+ghost use Rattle.vkreplay.specs.Statuses.{IsEnd, status_of, line_of, words_line, read_line, write_line, memory_line};
+
+use crate::say::{say, say_fault, say_limit};
+use crate::words::is_run;
+use replay_base::{Sink, Source};
+use replay_core::{Driver, ReplayError, Session, Status, Tally, replay};
+use std::alloc::Global;
+
+/// How a run ended, and its session where it came to its end.
+#[derive(Drop)]
+pub struct Finished {
+    pub status: Status,
+    pub session: Option<Session>,
+}
+
+// Says what stopped a replay.
+fn refuse<L: Sink>(errs: &mut L, error: ReplayError) -> Status
+    ensures status { result ≡ status_of error }
+    ensures line { Said (line_of error) (L.held errs.old) (L.held errs.new) (L.faults errs.old) (L.faults errs.new) }
+{
+    match error {
+        ReplayError::Read => {
+            say(errs, b"vkreplay: read fault\n");
+            Status::ReadFault
+        }
+        ReplayError::Write => {
+            say(errs, b"vkreplay: write fault\n");
+            Status::WriteFault
+        }
+        ReplayError::Trace { line, fault } => {
+            say_fault(errs, line, fault);
+            Status::Malformed
+        }
+        ReplayError::Limit { which } => {
+            say_limit(errs, which);
+            Status::Limit
+        }
+        ReplayError::NoMemory => {
+            say(errs, b"vkreplay: no memory\n");
+            Status::NoMemory
+        }
+    }
+}
+
+// Whether something was reported.
+fn status_at_end(tally: Tally) -> Status
+    ensures { IsEnd result }
+{
+    if tally.reports == 0 {
+        Status::Clean
+    } else {
+        Status::Reported
+    }
+}
+
+/// Runs the program: `words` are the command line's without the program's name, and the one word `run` replays the trace.
+/// A failure of the error sink changes no status.
+#[tactic(auto, using(crate::proofs::Complete::ended_no_stop))]
+pub fn replay_main<S: Source, K: Sink, L: Sink, D: Driver>(
+    alloc: Global,
+    words: &[String],
+    trace: &mut S,
+    out: &mut K,
+    errs: &mut L,
+    driver: &mut D,
+) -> Finished
+    // Each status has its cause.
+    ensures usage { (result.status ≡ Status.Usage) ↔ (IsRun words.now → ⊥) }
+    ensures run { result.status ≢ Status.Usage → IsRun words.now }
+    ensures ended { IsEnd result.status → Ended (S.left trace.old) (S.left trace.new) }
+    ensures malformed { result.status ≡ Status.Malformed
+        → StoppedAndSaid (S.left trace.old) (S.left trace.new) (IsUntouched (K.held out.old) (K.held out.new) (D.log driver.old) (D.log driver.new)) (L.held errs.old) (L.held errs.new) (L.faults errs.old) (L.faults errs.new) }
+    ensures read { result.status ≡ Status.ReadFault → Rose (S.faults trace.old) (S.faults trace.new) }
+    ensures write { result.status ≡ Status.WriteFault → Rose (K.faults out.old) (K.faults out.new) }
+    ensures limit { result.status ≢ Status.Limit }
+    ensures session { IsSome result.session ↔ IsEnd result.status }
+
+    // What is left undone.
+    ensures untouched { (result.status ≡ Status.Usage) ⊎ (result.status ≡ Status.ReadFault) → IsUntouched (K.held out.old) (K.held out.new) (D.log driver.old) (D.log driver.new) }
+    ensures unread { result.status ≡ Status.Usage → S.left trace.new ≡ S.left trace.old }
+    ensures source_stood { result.status ≢ Status.ReadFault → S.faults trace.new ≡ S.faults trace.old }
+    ensures sink_stood { result.status ≢ Status.WriteFault → K.faults out.new ≡ K.faults out.old }
+
+    // What is said.
+    ensures silent { IsEnd result.status → IsSilent (L.held errs.old) (L.held errs.new) (L.faults errs.old) (L.faults errs.new) }
+    ensures said_words { result.status ≡ Status.Usage → Said words_line (L.held errs.old) (L.held errs.new) (L.faults errs.old) (L.faults errs.new) }
+    ensures said_read { result.status ≡ Status.ReadFault → Said read_line (L.held errs.old) (L.held errs.new) (L.faults errs.old) (L.faults errs.new) }
+    ensures said_write { result.status ≡ Status.WriteFault → Said write_line (L.held errs.old) (L.held errs.new) (L.faults errs.old) (L.faults errs.new) }
+    ensures said_memory { result.status ≡ Status.NoMemory → Said memory_line (L.held errs.old) (L.held errs.new) (L.faults errs.old) (L.faults errs.new) }
+
+    // Where the source tells its bytes and no count rose: a trace with no stop ends, and one with a stop is malformed there.
+    ensures complete { (bs : List ℕ) → S.left trace.old ≡ Some bs → stop bs ≡ None → IsRun words.now
+        → (Rose (S.faults trace.old) (S.faults trace.new) → ⊥) → (Rose (K.faults out.old) (K.faults out.new) → ⊥)
+        → IsEnd result.status ⊎ (result.status ≡ Status.NoMemory) }
+    ensures stops { (bs : List ℕ) (n : ℕ) (f : TraceFault) → S.left trace.old ≡ Some bs → stop bs ≡ stop_at n f → IsRun words.now
+        → (Rose (S.faults trace.old) (S.faults trace.new) → ⊥) → (Rose (K.faults out.old) (K.faults out.new) → ⊥)
+        → ((result.status ≡ Status.Malformed) × Said (fault_line n f) (L.held errs.old) (L.held errs.new) (L.faults errs.old) (L.faults errs.new)) ⊎ (result.status ≡ Status.NoMemory) }
+{
+    if !is_run(words) {
+        say(errs, b"vkreplay: words not understood\n");
+        return Finished {
+            status: Status::Usage,
+            session: None,
+        };
+    }
+    match replay(alloc, trace, out, driver) {
+        Ok(session) => Finished {
+            status: status_at_end(session.tally()),
+            session: Some(session),
+        },
+        Err(error) => Finished {
+            status: refuse(errs, error),
+            session: None,
+        },
+    }
+}
