@@ -1,6 +1,7 @@
 pub mod WordLemmas
 pub mod NameLemmas
 pub mod ReadLemmas
+pub mod RestLemmas
 pub mod AnswerLemmas
 pub mod LineLemmas
 pub mod CommandLemmas

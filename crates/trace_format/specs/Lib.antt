@@ -1,6 +1,7 @@
 pub mod Content
 pub mod FaultNames
 pub mod Grammar
+pub mod Words
 pub mod Reading
 pub mod Steps
 pub mod Plain
