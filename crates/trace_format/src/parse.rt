@@ -7,6 +7,8 @@ mod names;
 mod plain;
 mod results;
 mod samples;
+#[cfg(test)]
+mod tests;
 mod words;
 
 pub use error::ParseError;
