@@ -13,7 +13,7 @@ use Rattle.command_tables.specs.Tests.{same_code, same_command, same_type}
 use Rattle.trace_format.specs.declared.event.Name.{Name}
 use Rattle.trace_format.specs.declared.fault.TraceFault.{TraceFault}
 use Rattle.trace_format.specs.declared.fault.TraceFault.TheVariants as fault
-use Rattle.trace_format.specs.Content.{Arg, BeginEvent, TraceEvent, Begin, Return}
+use Rattle.trace_format.specs.Content.{Arg, TraceEvent, Begin, Return}
 
 -- the first fault of which the test holds
 abbrev pub first_fault : List (Bool × TraceFault) → Option TraceFault
@@ -140,9 +140,9 @@ breaks_instance before e = makes_instance e && list_any makes_instance before ||
 abbrev pub fault_after : List TraceEvent → TraceEvent → Option TraceFault
 fault_after before (Begin b) =
     first_fault (
-      (is_open b.thread before, fault.Busy) ∷ (not (list_all (is_known before) (names_used (row_of b.cmd).params b.args)), fault.Unknown)
-        ∷ (not (list_all (is_of_type before) (names_used (row_of b.cmd).params b.args)), fault.WrongType)
-        ∷ (not (count_on b.thread (names_given b.thread before + 1) b.results), fault.Sequence) ∷ (breaks_instance before (Begin b), fault.Instance) ∷ []
+    (is_open b.thread before, fault.Busy) ∷ (not (list_all (is_known before) (names_used (row_of b.cmd).params b.args)), fault.Unknown)
+    ∷ (not (list_all (is_of_type before) (names_used (row_of b.cmd).params b.args)), fault.WrongType)
+    ∷ (not (count_on b.thread (names_given b.thread before + 1) b.results), fault.Sequence) ∷ (breaks_instance before (Begin b), fault.Instance) ∷ []
     )
 fault_after before (Return thread) = first_fault ((not (is_open thread before), fault.Idle) ∷ (breaks_instance before (Return thread), fault.Instance) ∷ [])
 

@@ -1,5 +1,5 @@
 -- Events that show each form of the grammar. Source: this project.
-use Rattle.std.specs.Prelude.{ℕ, true, false, Bool, Option, Some, None, List, [], ◌∷◌, ◌++◌, codes, replicate}
+use Rattle.std.specs.Prelude.{ℕ, true, false, Option, Some, None, List, [], ◌∷◌, ◌++◌, codes, replicate}
 use Rattle.std.specs.List.{join_with_byte}
 use Rattle.command_tables.specs.declared.types.CommandId.{CommandId}
 use Rattle.command_tables.specs.declared.types.CommandId.TheVariants as cmd
@@ -65,6 +65,10 @@ waits_line count = codes "b 1 vkWaitForFences %1.3 [" ++ (join_with_byte 44 (rep
 abbrev pub with_instance : List TraceEvent
 with_instance = Return 1 ∷ instance ∷ []
 
--- and of its physical device
+-- one result of a command that may have any number
+abbrev pub devices : TraceEvent
+devices = begins 1 cmd.EnumeratePhysicalDevices (one (Some (name 1 1)) ∷ []) (name 1 2 ∷ []) (Some code.Success) []
+
+-- then the begin and the return of the enumeration of its physical device
 abbrev pub with_device : List TraceEvent
-with_device = Return 1 ∷ begins 1 cmd.EnumeratePhysicalDevices (one (Some (name 1 1)) ∷ []) (name 1 2 ∷ []) (Some code.Success) [] ∷ with_instance
+with_device = Return 1 ∷ devices ∷ with_instance
