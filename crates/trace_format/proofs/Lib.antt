@@ -1,3 +1,8 @@
+pub mod Texts
+pub mod Names
+pub mod Lists
+pub mod Parts
+pub mod Lines
 pub mod WordLemmas
 pub mod NameLemmas
 pub mod ReadLemmas

@@ -3,6 +3,8 @@ pub mod FaultNames
 pub mod Grammar
 pub mod Words
 pub mod Reading
+pub mod Accepting
+pub mod Samples
 pub mod Steps
 pub mod Plain
 pub mod PlainSamples
