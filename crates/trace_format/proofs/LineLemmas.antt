@@ -1,10 +1,10 @@
 -- A begin, part by part, as the parser reads it.
-use Rattle.std.proofs.Common.{◌≡◌, ℕ, Bool, true, false, Option, Some, None, Result, Ok, Err, List, [], ◌∷◌, map, length, refl, ap, ◌∙◌, codes, option_map, unwrap_or}
+use Rattle.std.proofs.Common.{◌≡◌, ℕ, Bool, true, false, Option, Some, None, Result, Ok, Err, List, [], map, length, refl, ap, ◌∙◌, codes, option_map, unwrap_or}
 use Rattle.std.specs.Option.{ok_or}
 use Rattle.command_tables.specs.declared.types.CommandId.{CommandId}
 use Rattle.command_tables.specs.declared.types.Effect.{Effect}
 use Rattle.command_tables.specs.declared.types.Row.{Row}
-use Rattle.command_tables.specs.Table.{RowSpec, ParamSpec, row_of, seen, seen_param}
+use Rattle.command_tables.specs.Table.{RowSpec, row_of, seen, seen_param}
 use Rattle.trace_format.specs.declared.event.Name.{Name}
 use Rattle.trace_format.specs.declared.parse.error.ParseError.{ParseError}
 use Rattle.trace_format.specs.declared.parse.error.ParseError.TheVariants as error
@@ -61,7 +61,7 @@ begin_split thread cmd bytes = go (words_at (row_of cmd).params bytes) (words_ar
   where
     go : (o : Option (List (List ℕ) × List ℕ)) → WordsAre (row_of cmd).params bytes o
         → ok_or o fault.Parameter >>= (λ words. ok_or (args_in (row_of cmd).params words.0) fault.Argument >>= (λ args. ending_at thread cmd args words.1))
-          ≡ begin_by thread cmd (rest_of o) (args_in (row_of cmd).params (words_in (row_of cmd).params bytes))
+        ≡ begin_by thread cmd (rest_of o) (args_in (row_of cmd).params (words_in (row_of cmd).params bytes))
     go None are = refl
     go (Some x) are = ap (λ ws. ok_or (args_in (row_of cmd).params ws) fault.Argument >>= (λ args. ending_at thread cmd args x.1)) are
 

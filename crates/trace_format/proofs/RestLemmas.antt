@@ -60,9 +60,11 @@ words_are (p ∷ ps) bytes = go (bytes_eq (take 1 bytes) (codes " ")) (words_are
     add : (o : Option (List (List ℕ) × List ℕ)) → WordsAre ps (from 32 (drop 1 bytes)) o → WordsAre (p ∷ ps) bytes (with_word (until 32 (drop 1 bytes)) o)
     add (Some x) h = ap (λ ws. until 32 (drop 1 bytes) ∷ ws) h
     add None h = tt
+
     full : (t : Bool) → WordsAre ps (from 32 (drop 1 bytes)) (words_at ps (from 32 (drop 1 bytes))) → WordsAre (p ∷ ps) bytes (and_then (only_if t (until 32 (drop 1 bytes), from 32 (drop 1 bytes))) (with_first ps))
     full true h = add (words_at ps (from 32 (drop 1 bytes))) h
     full false h = tt
+
     go : (space : Bool) → WordsAre ps (from 32 (drop 1 bytes)) (words_at ps (from 32 (drop 1 bytes))) → WordsAre (p ∷ ps) bytes (and_then (and_then (only_if space (drop 1 bytes)) cut_word) (with_first ps))
     go true h = full (is_nonempty (until 32 (drop 1 bytes))) h
     go false h = tt

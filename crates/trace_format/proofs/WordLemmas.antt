@@ -1,5 +1,5 @@
 -- Words and pieces.
-use Rattle.std.proofs.Common.{◌≡◌, ◌==◌, ◌<◌, ◌≤◌, ◌+◌, ℕ, suc, Bool, true, false, not, cond, List, [], ◌∷◌, length, take, drop, refl, ap, sym, ◌∙◌, arith}
+use Rattle.std.proofs.Common.{◌≡◌, ◌==◌, ◌<◌, ◌≤◌, ◌+◌, ℕ, suc, Bool, true, false, not, cond, List, [], ◌∷◌, length, take, drop, refl, ap, ◌∙◌, arith}
 use Rattle.std.specs.List.{prefix_len, onto_first}
 use Rattle.trace_format.specs.Words.{from, pieces, until}
 
@@ -14,7 +14,7 @@ cut_at c (b ∷ bytes) = go (b == c) (cut_at c bytes)
   where
     go : (stops : Bool) → (take (count_before c bytes) bytes ≡ until c bytes) × (drop (count_before c bytes) bytes ≡ from c bytes)
         → (take (cond (not stops) (1 + count_before c bytes) 0) (b ∷ bytes) ≡ cond stops [] (b ∷ until c bytes))
-          × (drop (cond (not stops) (1 + count_before c bytes) 0) (b ∷ bytes) ≡ cond stops (b ∷ bytes) (from c bytes))
+        × (drop (cond (not stops) (1 + count_before c bytes) 0) (b ∷ bytes) ≡ cond stops (b ∷ bytes) (from c bytes))
     go true rest = (refl, refl)
     go false rest =
         let one : 1 + count_before c bytes ≡ suc (count_before c bytes) = omega arith in

@@ -22,7 +22,8 @@ const PLACES: usize = 1024;
 
 /// The names between commas, where null is none.
 fn names_between(alloc: Global, inside: &[u8]) -> Result<Vec<Option<Name>>, ParseError>
-    ensures { Answers (λ v. v.items) result (ok_or (all_of one_of (pieces inside.now)) fault.Argument) }
+    ensures { Answers (λ v. v.items) result
+        (ok_or (all_of one_of (pieces inside.now)) fault.Argument) }
 {
     let mut names = Vec::new(alloc);
     let mut rest = Some(inside);
@@ -87,12 +88,10 @@ fn argument(alloc: Global, param: &Param, word: &[u8]) -> Result<TraceArg, Parse
 }
 
 /// The arguments that the words at the front spell.
-fn all_arguments(
-    alloc: Global,
-    params: &[Param],
-    bytes: &[u8],
-) -> Result<Vec<TraceArg>, ParseError>
-    ensures { Answers (λ v. map arg_content v.items) result (ok_or (args_of (map seen_param params.now) (words_in (map seen_param params.now) bytes.now)) fault.Argument) }
+fn all_arguments(alloc: Global, params: &[Param], bytes: &[u8]) -> Result<Vec<TraceArg>, ParseError>
+    ensures { let ps = map seen_param params.now in
+        Answers (λ v. map arg_content v.items) result
+        (ok_or (args_of ps (words_in ps bytes.now)) fault.Argument) }
 {
     let mut args = Vec::new(alloc);
     let mut rest = bytes;
@@ -106,7 +105,8 @@ fn all_arguments(
 
 /// What follows the words of the parameters, where each has one.
 pub fn after_words<'a>(params: &[Param], bytes: &'a [u8]) -> Option<&'a [u8]>
-    ensures { option_copied result ≡ option_map (λ x. x.1) (words_at (map seen_param params.now) bytes.now) }
+    ensures { option_copied result
+        ≡ option_map (λ x. x.1) (words_at (map seen_param params.now) bytes.now) }
 {
     let mut rest = bytes;
     for _param in params {
@@ -134,12 +134,10 @@ fn is_first_named(args: &[TraceArg]) -> bool
 }
 
 /// The arguments of the parameters, whose words stand at the front, where the first is not null.
-pub fn arguments(
-    alloc: Global,
-    params: &[Param],
-    bytes: &[u8],
-) -> Result<Vec<TraceArg>, ParseError>
-    ensures { Answers (λ v. map arg_content v.items) result (ok_or (args_in (map seen_param params.now) (words_in (map seen_param params.now) bytes.now)) fault.Argument) }
+pub fn arguments(alloc: Global, params: &[Param], bytes: &[u8]) -> Result<Vec<TraceArg>, ParseError>
+    ensures { let ps = map seen_param params.now in
+        Answers (λ v. map arg_content v.items) result
+        (ok_or (args_in ps (words_in ps bytes.now)) fault.Argument) }
 {
     let args = all_arguments(alloc, params, bytes)?;
     if !is_first_named(&args) {

@@ -1,11 +1,11 @@
 //! A line, from its front.
-ghost use Rattle.std.specs.Prelude.{◌≡◌, map};
+ghost use Rattle.std.specs.Prelude.{◌≡◌, IfOk, codes, map};
 ghost use Rattle.std.specs.List.{list_all};
 ghost use Rattle.command_tables.specs.Table.{seen};
 ghost use Rattle.trace_format.specs.Content.{content, arg_content};
-ghost use Rattle.trace_format.specs.Grammar.{is_printable};
-ghost use Rattle.trace_format.specs.Words.{command_of};
-ghost use Rattle.trace_format.specs.Reading.{begin_at, read_line, return_at, tail_at};
+ghost use Rattle.trace_format.specs.Grammar.{IsEvent, is_printable};
+ghost use Rattle.trace_format.specs.Words.{after, command_of};
+ghost use Rattle.trace_format.specs.Reading.{begin_at, by_letter, read_line, return_at, tail_at};
 ghost use Rattle.trace_format.specs.Steps.{Answers, end_with};
 
 use crate::event::{Event, TraceArg};
@@ -50,16 +50,18 @@ fn end_begin(
         return Err(ParseError::Fault(TraceFault::Code));
     };
     let payload = payload(alloc, after)?;
-    Ok(Event::Begin { thread, cmd, args, results, code, payload })
+    Ok(Event::Begin {
+        thread,
+        cmd,
+        args,
+        results,
+        code,
+        payload,
+    })
 }
 
 /// A begin, from its arguments on.
-fn begin_with(
-    alloc: Global,
-    thread: u32,
-    cmd: CommandId,
-    bytes: &[u8],
-) -> Result<Event, ParseError>
+fn begin_with(alloc: Global, thread: u32, cmd: CommandId, bytes: &[u8]) -> Result<Event, ParseError>
     ensures { Answers content result (tail_at thread cmd bytes.now) }
 {
     let row = row(cmd);
@@ -100,14 +102,11 @@ fn return_at(bytes: &[u8]) -> Result<Event, ParseError>
     }
 }
 
-/// The event that a line spells, without its line feed, or its first fault. `NoMemory` says nothing of the line.
-#[tactic(auto, unfolding(crate::specs::Reading::read_line))]
-pub fn read_event(alloc: Global, line: &[u8]) -> Result<Event, ParseError>
-    ensures { Answers content result (read_line line.now) }
+/// A begin or a return, by how the line begins.
+fn by_letter(alloc: Global, line: &[u8]) -> Result<Event, ParseError>
+    ensures { Answers content result
+        (by_letter (after (codes "b ") line.now) (after (codes "r ") line.now)) }
 {
-    if !is_ascii(line) {
-        return Err(ParseError::Fault(TraceFault::NotAscii));
-    }
     if let Some(rest) = line.strip_prefix(b"b ") {
         return begin_at(alloc, rest);
     }
@@ -115,4 +114,16 @@ pub fn read_event(alloc: Global, line: &[u8]) -> Result<Event, ParseError>
         None => Err(ParseError::Fault(TraceFault::Letter)),
         Some(rest) => return_at(rest),
     }
+}
+
+/// The event that a line spells, without its line feed, or its first fault. `NoMemory` says nothing of the line.
+#[tactic(auto, unfolding(crate::specs::Reading::read_line))]
+pub fn read_event(alloc: Global, line: &[u8]) -> Result<Event, ParseError>
+    ensures answer { Answers content result (read_line line.now) }
+    ensures grammar { IfOk result (λ event. IsEvent (content event)) }
+{
+    if !is_ascii(line) {
+        return Err(ParseError::Fault(TraceFault::NotAscii));
+    }
+    by_letter(alloc, line)
 }

@@ -23,11 +23,7 @@ fn takes(effect: Effect, count: usize) -> bool
 {
     match effect {
         Effect::Create { many, .. } | Effect::Retrieve { many, .. } => {
-            if many {
-                count <= RESULTS
-            } else {
-                count == 1
-            }
+            if many { count <= RESULTS } else { count == 1 }
         }
         _ => count == 0,
     }
@@ -35,7 +31,8 @@ fn takes(effect: Effect, count: usize) -> bool
 
 /// The names between commas.
 fn names_between(alloc: Global, word: &[u8]) -> Result<Vec<Name>, ParseError>
-    ensures { Answers (λ v. v.items) result (ok_or (all_of name_of (pieces word.now)) fault.Results) }
+    ensures { Answers (λ v. v.items) result
+        (ok_or (all_of name_of (pieces word.now)) fault.Results) }
 {
     let mut names = Vec::new(alloc);
     let mut rest = Some(word);
@@ -66,7 +63,8 @@ pub fn split_results(bytes: &[u8]) -> (Option<&[u8]>, &[u8])
 
 /// The names of a word of results, or none where there is no word.
 fn names_of(alloc: Global, word: Option<&[u8]>) -> Result<Vec<Name>, ParseError>
-    ensures { Answers (λ v. v.items) result (ok_or (names_in (option_copied word.entry)) fault.Results) }
+    ensures { Answers (λ v. v.items) result
+        (ok_or (names_in (option_copied word.entry)) fault.Results) }
 {
     match word {
         None => Ok(Vec::new(alloc)),
@@ -75,12 +73,9 @@ fn names_of(alloc: Global, word: Option<&[u8]>) -> Result<Vec<Name>, ParseError>
 }
 
 /// The results that a command of this effect has.
-pub fn results(
-    alloc: Global,
-    effect: Effect,
-    word: Option<&[u8]>,
-) -> Result<Vec<Name>, ParseError>
-    ensures { Answers (λ v. v.items) result (ok_or (results_of effect (option_copied word.entry)) fault.Results) }
+pub fn results(alloc: Global, effect: Effect, word: Option<&[u8]>) -> Result<Vec<Name>, ParseError>
+    ensures { Answers (λ v. v.items) result
+        (ok_or (results_of effect (option_copied word.entry)) fault.Results) }
 {
     let names = names_of(alloc, word)?;
     if !takes(effect, names.len()) {

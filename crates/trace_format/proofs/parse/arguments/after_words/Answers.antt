@@ -1,4 +1,4 @@
-use Rattle.std.proofs.Common.{◌≡◌, ◌∙◌, ap, sym, option_copied}
+use Rattle.std.proofs.Common.{◌∙◌, ap, sym, option_copied}
 use Rattle.trace_format.proofs.RestLemmas.{rest_more_at, rest_none_at}
 use Rattle.trace_format.proofs.parse.arguments.after_words.Goals as goal
 

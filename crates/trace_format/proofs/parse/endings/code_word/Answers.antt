@@ -1,4 +1,4 @@
-use Rattle.std.proofs.Common.{◌≡◌, ◌∙◌, ap, sym, Some, option_map}
+use Rattle.std.proofs.Common.{◌∙◌, ap, sym, Some, option_map}
 use Rattle.trace_format.proofs.CodeLemmas.{code_found, code_void}
 use Rattle.trace_format.proofs.parse.endings.code_word.Goals as goal
 

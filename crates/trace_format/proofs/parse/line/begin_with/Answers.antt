@@ -11,7 +11,7 @@ pub returns-in_err-args : goal.returns-in_err-args
 returns-in_err-args c =
     let p = err_from_is_err_and c.from_residual.result c.from_residual.ensures.1 in
     rw (p.1, p.2, begin_rest c.args.thread c.args.cmd c.args.bytes.now c.row-row.result.now (Some c.in-Some.after.now) c.row-row.ensures c.in-Some.ensures) (
-      begin_fault c.args.thread c.args.cmd c.in-Some.after.now (λ (v : Vec TraceArg Global). map arg_content v.items) c.in_err-args.field-0.0 _ c.in_err-args.ensures
+    begin_fault c.args.thread c.args.cmd c.in-Some.after.now (λ (v : Vec TraceArg Global). map arg_content v.items) c.in_err-args.field-0.0 _ c.in_err-args.ensures
     )
 
 pub returns : goal.returns
@@ -19,7 +19,7 @@ returns c =
     let there = is_there (λ (v : Vec TraceArg Global). map arg_content v.items) c.in_ok-args.args fault.Argument _ c.in_ok-args.ensures in
     rw (
       begin_rest c.args.thread c.args.cmd c.args.bytes.now c.row-row.result.now (Some c.in-Some.after.now) c.row-row.ensures c.in-Some.ensures,
-      begin_ends c.args.thread c.args.cmd c.in-Some.after.now (map arg_content c.in_ok-args.args.items) _ there
+      begin_ends c.args.thread c.args.cmd c.in-Some.after.now (map arg_content c.in_ok-args.args.items) _ there,
     ) c.end_begin.ensures
 
 pub returns-in_default : goal.returns-in_default

@@ -7,5 +7,5 @@ abbrev pub invariant-loop-digit : goal.invariant-loop-digit
 invariant-loop-digit l = record {
   digits : all_ascii_digits (drop l.digit-index l.word) ≡ all_ascii_digits l.word;
   so_far : value_after l.value (drop l.digit-index l.word) ≡ value_after 0 l.word;
-  small : l.value < 10 ^ l.digit-index
+  small : l.value < 10 ^ l.digit-index;
 }

@@ -1,4 +1,4 @@
-use Rattle.std.proofs.Common.{◌≡◌, ◌∙◌, ap, take, drop, arith}
+use Rattle.std.proofs.Common.{◌∙◌, ap, take, drop, arith}
 use Rattle.std.proofs.lemmas.List.Sums.{prefix_len-le-length}
 use Rattle.trace_format.proofs.WordLemmas.{cut_at}
 use Rattle.trace_format.proofs.parse.words.split_before.Goals as goal

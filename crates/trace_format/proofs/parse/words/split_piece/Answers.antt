@@ -1,4 +1,4 @@
-use Rattle.std.proofs.Common.{◌≡◌, ◌∙◌, sym}
+use Rattle.std.proofs.Common.{◌∙◌, sym}
 use Rattle.trace_format.proofs.WordLemmas.{one_piece, more_pieces, rest_is_shorter}
 use Rattle.trace_format.proofs.parse.words.split_piece.Goals as goal
 
