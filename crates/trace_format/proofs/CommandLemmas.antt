@@ -7,7 +7,7 @@ use Rattle.command_tables.specs.declared.types.CommandId.{CommandId}
 use Rattle.command_tables.specs.declared.types.CommandId.TheVariants as cmd
 use Rattle.command_tables.specs.declared.lookup.TheConstants.{COMMANDS}
 use Rattle.command_tables.specs.Table.{row_of}
-use Rattle.trace_format.specs.Reading.{command_of}
+use Rattle.trace_format.specs.Words.{command_of}
 
 -- each command is the one with its name
 named : (c : CommandId) → command_of (row_of c).name ≡ Some c

@@ -1,6 +1,12 @@
+pub mod Texts
+pub mod Names
+pub mod Lists
+pub mod Parts
+pub mod Lines
 pub mod WordLemmas
 pub mod NameLemmas
 pub mod ReadLemmas
+pub mod RestLemmas
 pub mod AnswerLemmas
 pub mod LineLemmas
 pub mod CommandLemmas

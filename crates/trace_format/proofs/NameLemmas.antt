@@ -1,43 +1,51 @@
--- Numbers and names.
-use Rattle.std.proofs.Common.{◌≡◌, ◌<◌, ◌≤◌, ◌+◌, ◌*◌, ◌^◌, ℕ, suc, Bool, true, false, cond, Option, Some, None, List, [], ◌∷◌, length, take, drop, refl, ap, sym, ◌∙◌, arith, codes, length-drop, nat_lt, add-one}
-use Rattle.std.proofs.lemmas.Bool.{lt-ltb}
-use Rattle.std.proofs.lemmas.List.{drop-drop}
-use Rattle.std.specs.List.{prefix_len}
-use Rattle.std.specs.Str.{bytes_eq}
-use Rattle.std.proofs.Math.Nat.{pow-le-pow_right, pow-suc}
-use Rattle.trace_format.specs.declared.event.Name.{Name}
-use Rattle.trace_format.specs.Reading.{name_of, name_with, number_of, is_no_dot}
+-- Numbers.
+use Rattle.std.proofs.Common.{◌≡◌, ◌<◌, ◌≤◌, ◌+◌, ◌-◌, ◌*◌, ◌^◌, ◌==◌, ℕ, Bool, true, false, not, nat_le, ◌&&◌, None, List, [], ◌∷◌, length, drop, get_or, refl, arith}
+use Rattle.std.proofs.lemmas.Bool.{leb-true}
+use Rattle.std.proofs.lemmas.Bool.Decides.{nat_tests}
+use Rattle.std.proofs.lemmas.List.{at_drop_more}
+use Rattle.std.proofs.Math.Nat.{pow-le-pow_right}
+use Rattle.std.specs.Char.{is_ascii_digit}
+use Rattle.std.specs.Str.{all_ascii_digits}
+use Rattle.trace_format.specs.Words.{has_no_leading_zero, number_up_to, only_if, value_after}
 
--- a number of so many digits stays below that power of ten
-pub digit_more : (n d i : ℕ) → n < 10 ^ i → d ≤ 9 → n * 10 + d < 10 ^ (i + 1)
-digit_more n d i h k = rw add-one (let e : 10 ^ suc i ≡ 10 ^ i * 10 = pow-suc 10 i in omega arith)
-
--- which fits where there are at most seven
+-- a number of at most seven digits
 pub digits_fit : (n i : ℕ) → n < 10 ^ i → i ≤ 7 → n < 10000000
 digits_fit n i h k = let e : 10 ^ i ≤ 10 ^ 7 = pow-le-pow_right {n = 10} (omega arith) k in omega arith
 
--- where something stands from place k on, k lies inside
-cut_inside : (k : ℕ) (rest : List ℕ) (b : ℕ) (after : List ℕ) → drop k rest ≡ b ∷ after → nat_lt k (length rest) ≡ true
-cut_inside k rest b after e = lt-ltb k (length rest) (omega (arith, length-drop k rest, ap length e))
+-- one digit more is read
+pub value_more : (n : ℕ) (word : List ℕ) (i : ℕ) → i < length word → value_after n (drop i word) ≡ value_after (10 * n + (get_or word i 0 - 48)) (drop (i + 1) word)
+value_more n word i h = at_drop_more (value_after n) word i 0 h
 
--- and after its first byte the rest is one byte shorter
-cut_after : (k : ℕ) (rest : List ℕ) (b : ℕ) (after : List ℕ) → drop k rest ≡ b ∷ after → drop (k + 1) rest ≡ after
-cut_after k rest b after e = sym (drop-drop 1 k rest) ∙ ap (drop 1) e
+pub digits_more : (word : List ℕ) (i : ℕ) → i < length word → all_ascii_digits (drop i word) ≡ (is_ascii_digit (get_or word i 0) && all_ascii_digits (drop (i + 1) word))
+digits_more word i h = at_drop_more all_ascii_digits word i 0 h
 
--- how many bytes of a name stand before its dot
-abbrev before_dot : List ℕ → ℕ
-before_dot word = prefix_len is_no_dot (drop 1 word)
+-- further digits make no number smaller
+grows : (n : ℕ) (digits : List ℕ) → n ≤ value_after n digits
+grows n [] = omega arith
+grows n (d ∷ digits) = omega (arith, grows (10 * n + (d - 48)) digits)
 
--- a name is its thread and its number
-name_read : (word digits : List ℕ) (dot : ℕ) → bytes_eq (take 1 word) (codes "%") ≡ true → drop (before_dot word) (drop 1 word) ≡ dot ∷ digits
-    → name_of word ≡ name_with (number_of 1024 (take (before_dot word) (drop 1 word))) (number_of 4194304 digits)
-name_read word digits dot percent cut = rw (percent, cut_inside (before_dot word) (drop 1 word) dot digits cut, cut_after (before_dot word) (drop 1 word) dot digits cut) refl
+-- the first of two tests
+left_true : (a b : Bool) → (a && b) ≡ true → a ≡ true
+left_true true b h = refl
+left_true false b h = cc
 
--- the same, part by part
-pub name_by_parts : (word rest before after digits : List ℕ) (dot : ℕ) (thread number : Option ℕ) → bytes_eq (take 1 word) (codes "%") ≡ true → rest ≡ drop 1 word
-    → before ≡ take (prefix_len is_no_dot rest) rest → after ≡ drop (prefix_len is_no_dot rest) rest → after ≡ dot ∷ digits
-    → thread ≡ number_of 1024 before → number ≡ number_of 4194304 digits → name_with thread number ≡ name_of word
-name_by_parts word rest before after digits dot thread number percent is_rest is_before is_after cut is_thread is_number =
-    let cut_here : drop (before_dot word) (drop 1 word) ≡ dot ∷ digits = rw is_rest at (sym is_after ∙ cut) in
-    let before_here : before ≡ take (before_dot word) (drop 1 word) = rw is_rest at is_before in
-    rw (is_thread, is_number, before_here) (sym (name_read word digits dot percent cut_here))
+-- a digit that is not `0`
+first_counts : (d : ℕ) → is_ascii_digit d ≡ true → not (d == 48) ≡ true → 49 ≤ d
+first_counts d digit counts = grind (arith, nat_tests)
+
+-- more than seven digits without a leading zero are a number above each limit
+eight_digits : (word : List ℕ) → 7 < length word → all_ascii_digits word ≡ true → has_no_leading_zero word ≡ true → 10000000 ≤ value_after 0 word
+eight_digits (a ∷ b ∷ c ∷ d ∷ e ∷ f ∷ g ∷ h ∷ rest) many digits first =
+    let counts : 49 ≤ a = first_counts a (left_true _ _ digits) first in
+    omega (arith, grows (10 * (10 * (10 * (10 * (10 * (10 * (10 * (10 * 0 + (a - 48)) + (b - 48)) + (c - 48)) + (d - 48)) + (e - 48)) + (f - 48)) + (g - 48)) + (h - 48)) rest)
+eight_digits _ many digits first = absurd (omega arith)
+
+pub too_long : (limit : ℕ) (word : List ℕ) → limit < 10000000 → 7 < length word → number_up_to limit word ≡ None
+unfolding number_up_to
+too_long limit word small many = go (all_ascii_digits word) (has_no_leading_zero word) (nat_le (value_after 0 word) limit) (eight_digits word many) (leb-true (value_after 0 word) limit)
+  where
+    go : (digits first below : Bool) → (digits ≡ true → first ≡ true → 10000000 ≤ value_after 0 word) → (below ≡ true → value_after 0 word ≤ limit) → only_if (digits && first && below) (value_after 0 word) ≡ None
+    go true true true above within = absurd (omega (arith, above refl refl, within refl))
+    go true true false above within = refl
+    go true false below above within = refl
+    go false first below above within = refl

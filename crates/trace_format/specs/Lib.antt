@@ -1,7 +1,10 @@
 pub mod Content
 pub mod FaultNames
 pub mod Grammar
+pub mod Words
 pub mod Reading
+pub mod Accepting
+pub mod Samples
 pub mod Steps
 pub mod Plain
 pub mod PlainForm

@@ -41,7 +41,9 @@ is_plain_end _ _ = false
 -- an event of the plain form: a return of thread 1, or a begin of thread 1 of one of the five commands, without a payload
 abbrev pub is_plain : TraceEvent → Bool
 is_plain (Return thread) = thread == 1
-is_plain (Begin b) = (b.thread == 1) && is_plain_command b.cmd && list_all is_plain_arg b.args && is_plain_end b.code b.results && (length b.payload == 0)
+is_plain (Begin b) =
+    (b.thread == 1) && is_plain_command b.cmd && list_all is_plain_arg b.args && is_plain_end b.code b.results
+    && (length b.payload == 0)
 
 -- an event, where it is plain
 abbrev pub if_plain : Result TraceEvent TraceFault → Option TraceEvent

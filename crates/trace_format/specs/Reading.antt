@@ -1,195 +1,116 @@
--- How a line is read from its front: the event that it spells, or its first fault.
-use Rattle.std.specs.Prelude.{ℕ, zero, suc, ◌+◌, ◌-◌, ◌*◌, Bool, true, false, not, ◌&&◌, ◌||◌, if◌then◌else◌, ◌==◌, nat_le, nat_lt, Option, Some, None, Result, Ok, Err, List, [], ◌∷◌, ◌++◌, map, fold, length, take, drop, take_while, find, codes, is_some}
-use Rattle.std.specs.List.{list_all, prefix_len}
-use Rattle.std.specs.Str.{bytes_eq}
-use Rattle.std.specs.Char.{is_ascii_digit}
+-- How a line is read from its front: the event that it spells, or its first fault. Source: this project.
+use Rattle.std.specs.Prelude.{ℕ, Bool, true, false, not, Option, Some, None, Result, Ok, Err, List, [], ◌∷◌, length, codes, is_some, if◌then◌else◌}
+use Rattle.std.specs.List.{list_all}
+use Rattle.std.specs.Option.{ok_or, option_map}
 use Rattle.command_tables.specs.declared.types.CommandId.{CommandId}
-use Rattle.command_tables.specs.declared.lookup.TheConstants.{COMMANDS}
 use Rattle.command_tables.specs.declared.types.Code.{Code}
-use Rattle.command_tables.specs.declared.codes.TheConstants.{CODES}
-use Rattle.command_tables.specs.CodeNames.{code_name}
 use Rattle.command_tables.specs.declared.types.Effect.{Effect}
-use Rattle.command_tables.specs.declared.types.Effect.TheVariants as eff
 use Rattle.command_tables.specs.Table.{ParamSpec, RowSpec, row_of}
 use Rattle.trace_format.specs.declared.event.Name.{Name}
 use Rattle.trace_format.specs.declared.fault.TraceFault.{TraceFault}
 use Rattle.trace_format.specs.declared.fault.TraceFault.TheVariants as fault
-use Rattle.trace_format.specs.Content.{Arg, BeginEvent, TraceEvent, Begin, Return}
+use Rattle.trace_format.specs.Content.{Arg, TraceEvent, Begin, Return}
+use Rattle.trace_format.specs.Grammar.{is_printable, takes}
+use Rattle.trace_format.specs.Words.{after, all_of, and_then, args_of, code_of, command_of, from, is_nonempty, name_of, only_if, pieces, thread_of, until}
 
+-- a reading that has no fault goes on to a further one
 infixl 10 ◌>>=◌
 abbrev pub ◌>>=◌ : {A B : Type 0} → Result A TraceFault → (A → Result B TraceFault) → Result B TraceFault
 (Ok x) >>= f = f x
 (Err e) >>= f = Err e
 
-abbrev pub or_fault : {A : Type 0} → TraceFault → Option A → Result A TraceFault
-or_fault e None = Err e
-or_fault e (Some x) = Ok x
+-- ---- the parts of a line, each with what follows it
 
-abbrev pub unless : Bool → TraceFault → Result (List ℕ) TraceFault → Result (List ℕ) TraceFault
-unless good e next = if good then next else Err e
+-- a word that is not empty
+abbrev pub cut_word : List ℕ → Option (List ℕ × List ℕ)
+cut_word rest = only_if (is_nonempty (until 32 rest)) (until 32 rest, from 32 rest)
 
--- ---- words
+-- such a word, after one space
+abbrev pub word_at : List ℕ → Option (List ℕ × List ℕ)
+word_at bytes = and_then (after (codes " ") bytes) cut_word
 
-abbrev pub is_no_space : ℕ → Bool
-is_no_space b = not (b == 32)
+-- such a word for each parameter
+abbrev pub words_at : List ParamSpec → List ℕ → Option (List (List ℕ) × List ℕ)
+words_at [] bytes = Some ([], bytes)
+words_at (p ∷ ps) bytes = and_then (word_at bytes) (λ first. option_map (λ others. (first.0 ∷ others.0, others.1)) (words_at ps first.1))
 
--- the word at the front, and what follows it
-abbrev pub word_of : List ℕ → List ℕ
-word_of bytes = take (prefix_len is_no_space bytes) bytes
+-- the first argument, where there is one, is not null
+abbrev pub has_first : List Arg → Bool
+has_first [] = true
+has_first (a ∷ args) = list_all is_some a.names
 
-abbrev pub after_word : List ℕ → List ℕ
-after_word bytes = drop (prefix_len is_no_space bytes) bytes
+-- the arguments that these words spell
+abbrev pub args_in : List ParamSpec → List (List ℕ) → Option (List Arg)
+args_in ps words = and_then (args_of ps words) (λ args. only_if (has_first args) args)
 
-abbrev pub starts : List ℕ → List ℕ → Bool
-starts text bytes = bytes_eq (take (length text) bytes) text
+-- names of results that a command with this effect takes
+abbrev pub names_at : Effect → List ℕ → Option (List Name × List ℕ)
+names_at e rest = and_then (all_of name_of (pieces (until 32 rest))) (λ names. only_if (takes e (length names)) (names, from 32 rest))
 
--- the words of the n parameters, each after one space, and what follows them
-abbrev pub argument_words : ℕ → List ℕ → Option (List (List ℕ) × List ℕ)
-argument_words zero bytes = Some ([], bytes)
-argument_words (suc n) bytes =
-    let word = word_of (drop 1 bytes) in
-    if starts (codes " ") bytes && nat_lt 0 (length word)
-    then elim (argument_words n (after_word (drop 1 bytes))) [ None ↦ None | Some x ↦ Some (word ∷ x.0, x.1) ]
-    else None
+-- ` = ` and such names, or nothing where the command may have no results
+abbrev pub results_or : Effect → List ℕ → Option (List ℕ) → Option (List Name × List ℕ)
+results_or e bytes None = only_if (takes e 0) ([], bytes)
+results_or e bytes (Some rest) = names_at e rest
 
-abbrev pub to_first : ℕ → List (List ℕ) → List (List ℕ)
-to_first b [] = (b ∷ []) ∷ []
-to_first b (w ∷ ws) = (b ∷ w) ∷ ws
+-- the results, where a command with this effect has any
+abbrev pub results_at : Effect → List ℕ → Option (List Name × List ℕ)
+results_at e bytes = results_or e bytes (after (codes " = ") bytes)
 
--- the pieces between commas
-abbrev pub pieces : List ℕ → List (List ℕ)
-pieces [] = [] ∷ []
-pieces (b ∷ bytes) = if b == 44 then [] ∷ pieces bytes else to_first b (pieces bytes)
+-- a code is there exactly where one is asked for
+abbrev pub agrees : Bool → Bool → Bool
+agrees true b = b
+agrees false b = not b
 
--- ---- numbers and names
+-- a code of the row's form
+abbrev pub code_in : RowSpec → List ℕ → Option (Option Code × List ℕ)
+code_in row rest = and_then (code_of (until 32 rest)) (λ code. only_if (agrees row.returns (is_some code)) (code, from 32 rest))
 
-abbrev pub has_no_leading_zero : List ℕ → Bool
-has_no_leading_zero [] = false
-has_no_leading_zero (b ∷ bytes) = not (b == 48)
+-- such a code, after one space
+abbrev pub code_at : RowSpec → List ℕ → Option (Option Code × List ℕ)
+code_at row bytes = and_then (after (codes " ") bytes) (code_in row)
 
--- a decimal number from 1 to limit
-abbrev pub number_of : ℕ → List ℕ → Option ℕ
-number_of limit word =
-    let n = fold (λ acc b. acc * 10 + (b - 48)) 0 word in
-    if list_all is_ascii_digit word && has_no_leading_zero word && nat_le (length word) 7 && nat_le n limit then Some n else None
-
-abbrev pub thread_of : List ℕ → Option ℕ
-thread_of word = number_of 1024 word
-
-abbrev pub name_with : Option ℕ → Option ℕ → Option Name
-name_with (Some t) (Some n) = Some (record { thread = t; number = n })
-name_with _ _ = None
-
-abbrev pub is_no_dot : ℕ → Bool
-is_no_dot b = not (b == 46)
-
-abbrev pub name_of : List ℕ → Option Name
-name_of word =
-    let rest = drop 1 word in
-    let dot = prefix_len is_no_dot rest in
-    if starts (codes "%") word && nat_lt dot (length rest) then name_with (thread_of (take dot rest)) (number_of 4194304 (drop (dot + 1) rest)) else None
-
-abbrev pub one_of : List ℕ → Option (Option Name)
-one_of word = if bytes_eq word (codes "null") then Some None else (elim (name_of word) [ None ↦ None | Some n ↦ Some (Some n) ])
-
-abbrev pub all_of : {X : Type 0} → (List ℕ → Option X) → List (List ℕ) → Option (List X)
-all_of f [] = Some []
-all_of f (w ∷ ws) = elim (f w) [ None ↦ None | Some x ↦ elim (all_of f ws) [ None ↦ None | Some xs ↦ Some (x ∷ xs) ] ]
-
-abbrev pub ends_with_bracket : List ℕ → Bool
-ends_with_bracket word = nat_le 2 (length word) && starts (codes "[") word && bytes_eq (drop (length word - 1) word) (codes "]")
-
-abbrev pub list_of : List ℕ → Option Arg
-list_of word =
-    let inside = take (length word - 2) (drop 1 word) in
-    let names = if length inside == 0 then Some [] else all_of one_of (pieces inside) in
-    if ends_with_bracket word then (elim names [ None ↦ None | Some ns ↦ if nat_le (length ns) 1024 then Some (record { many = true; names = ns }) else None ]) else None
-
-abbrev pub arg_of : ParamSpec → List ℕ → Option Arg
-arg_of p word = if p.many then list_of word else (elim (one_of word) [ None ↦ None | Some n ↦ Some (record { many = false; names = n ∷ [] }) ])
-
-abbrev pub args_of : List ParamSpec → List (List ℕ) → Option (List Arg)
-args_of [] words = Some []
-args_of (p ∷ ps) [] = None
-args_of (p ∷ ps) (w ∷ ws) = elim (arg_of p w) [ None ↦ None | Some a ↦ elim (args_of ps ws) [ None ↦ None | Some as' ↦ Some (a ∷ as') ] ]
-
-abbrev pub is_null_first : List Arg → Bool
-is_null_first [] = false
-is_null_first (a ∷ rest) = not (list_all is_some a.names)
-
--- ---- results and code
-
-abbrev pub takes_results : Effect → ℕ → Bool
-takes_results (eff.Create t owner false) n = n == 1
-takes_results (eff.Create t owner true) n = nat_le n 1024
-takes_results (eff.Retrieve t owner false) n = n == 1
-takes_results (eff.Retrieve t owner true) n = nat_le n 1024
-takes_results _ n = n == 0
-
-abbrev pub results_at : Effect → List ℕ → Result (List Name × List ℕ) TraceFault
-results_at e bytes =
-    if starts (codes " = ") bytes
-    then (
-      elim (all_of name_of (pieces (word_of (drop 3 bytes)))) [
-        None ↦ Err fault.Results
-      | Some ns ↦ if takes_results e (length ns) then Ok (ns, after_word (drop 3 bytes)) else Err fault.Results
-      ]
-    )
-    else (if takes_results e 0 then Ok ([], bytes) else Err fault.Results)
-
--- the code with a name
-unfoldable pub code_named : List ℕ → Option Code
-code_named word = find (λ c. bytes_eq (code_name c) word) CODES
-
--- a code, or none for void
-abbrev pub code_of : List ℕ → Option (Option Code)
-code_of word = if bytes_eq word (codes "void") then Some None else (elim (code_named word) [ None ↦ None | Some c ↦ Some (Some c) ])
-
-abbrev pub same_bool : Bool → Bool → Bool
-same_bool true b = b
-same_bool false b = not b
-
-abbrev pub code_at : RowSpec → List ℕ → Result (Option Code × List ℕ) TraceFault
-code_at row bytes =
-    elim (code_of (word_of (drop 1 bytes))) [
-      None ↦ Err fault.Code
-    | Some c ↦ if starts (codes " ") bytes && same_bool row.returns (is_some c) then Ok (c, after_word (drop 1 bytes)) else Err fault.Code
-    ]
-
-abbrev pub payload_at : List ℕ → Result (List ℕ) TraceFault
-payload_at [] = Ok []
-payload_at (b ∷ bytes) = if starts (codes " : ") (b ∷ bytes) && nat_lt 3 (length (b ∷ bytes)) then Ok (drop 3 (b ∷ bytes)) else Err fault.Code
+-- the payload: nothing, or ` : ` and at least one byte
+abbrev pub payload_at : List ℕ → Option (List ℕ)
+payload_at [] = Some []
+payload_at (b ∷ bytes) = and_then (after (codes " : ") (b ∷ bytes)) (λ payload. only_if (is_nonempty payload) payload)
 
 -- ---- lines
 
-unfoldable pub command_of : List ℕ → Option CommandId
-command_of word = find (λ c. bytes_eq (row_of c).name word) COMMANDS
-
-abbrev pub begin_with : ℕ → CommandId → List ℕ → Result TraceEvent TraceFault
-begin_with thread cmd bytes = do
-  words ← or_fault fault.Parameter (argument_words (length (row_of cmd).params) bytes)
-  args ← or_fault fault.Argument (args_of (row_of cmd).params words.0)
-  results ← (if is_null_first args then Err fault.Argument else results_at (row_of cmd).effect words.1)
-  code ← code_at (row_of cmd) results.1
-  payload ← payload_at code.1
+-- results, code and payload
+unfoldable pub ending_at : ℕ → CommandId → List Arg → List ℕ → Result TraceEvent TraceFault
+ending_at thread cmd args bytes = do
+  results ← ok_or (results_at (row_of cmd).effect bytes) fault.Results
+  code ← ok_or (code_at (row_of cmd) results.1) fault.Code
+  payload ← ok_or (payload_at code.1) fault.Code
   Ok (Begin (record { thread = thread; cmd = cmd; args = args; results = results.0; code = code.0; payload = payload }))
 
-abbrev pub begin_at : List ℕ → Result TraceEvent TraceFault
-begin_at bytes = do
-  thread ← or_fault fault.Thread (thread_of (word_of bytes))
-  rest ← unless (starts (codes " ") (after_word bytes)) fault.Thread (Ok (drop 1 (after_word bytes)))
-  cmd ← or_fault fault.Command (command_of (word_of rest))
-  begin_with thread cmd (after_word rest)
+-- what follows a begin's command: arguments and the rest
+unfoldable pub tail_at : ℕ → CommandId → List ℕ → Result TraceEvent TraceFault
+tail_at thread cmd bytes = do
+  words ← ok_or (words_at (row_of cmd).params bytes) fault.Parameter
+  args ← ok_or (args_in (row_of cmd).params words.0) fault.Argument
+  ending_at thread cmd args words.1
 
-abbrev pub return_at : List ℕ → Result TraceEvent TraceFault
+-- what follows `b `: a thread, one space, a command and the rest
+unfoldable pub begin_at : List ℕ → Result TraceEvent TraceFault
+begin_at bytes = do
+  thread ← ok_or (thread_of (until 32 bytes)) fault.Thread
+  rest ← ok_or (after (codes " ") (from 32 bytes)) fault.Thread
+  cmd ← ok_or (command_of (until 32 rest)) fault.Command
+  tail_at thread cmd (from 32 rest)
+
+-- what follows `r `: a thread, and nothing more
+unfoldable pub return_at : List ℕ → Result TraceEvent TraceFault
 return_at bytes = do
-  thread ← or_fault fault.Thread (thread_of bytes)
+  thread ← ok_or (thread_of bytes) fault.Thread
   Ok (Return thread)
 
-abbrev pub is_printable : ℕ → Bool
-is_printable b = nat_le 32 b && nat_le b 126
+-- a line that begins with `b `, or else with `r `
+abbrev pub by_letter : Option (List ℕ) → Option (List ℕ) → Result TraceEvent TraceFault
+by_letter (Some rest) _ = begin_at rest
+by_letter None (Some rest) = return_at rest
+by_letter None None = Err fault.Letter
 
-abbrev pub read_line : List ℕ → Result TraceEvent TraceFault
-read_line line =
-    if not (list_all is_printable line) then Err fault.NotAscii
-    else (if starts (codes "b ") line then begin_at (drop 2 line) else (if starts (codes "r ") line then return_at (drop 2 line) else Err fault.Letter))
+-- the event that a line spells, or the first of its faults 2 to 9
+unfoldable pub read_line : List ℕ → Result TraceEvent TraceFault
+read_line line = if list_all is_printable line then by_letter (after (codes "b ") line) (after (codes "r ") line) else Err fault.NotAscii

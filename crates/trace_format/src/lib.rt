@@ -5,12 +5,18 @@
 
 mod event;
 mod fault;
+mod laws;
 mod parse;
+mod samples;
 mod state;
 
 pub use event::{Event, Name, TraceArg};
 pub use fault::TraceFault;
+pub use laws::{a_line_spells_one_event, reading_agrees_with_spelling};
 pub use parse::{
-    ParseError, facts_of_plain_events, other_lines, parse_line, plain_lines, read_event,
+    ParseError, facts_of_plain_events, lines_not_plain, parse_line, plain_lines, read_event,
+};
+pub use samples::{
+    events_after_events, lines_with_one_fault, lines_with_two_faults, longest_list, spelled_lines,
 };
 pub use state::{AcceptError, TraceState};

@@ -7,9 +7,11 @@ mod names;
 mod plain;
 mod results;
 mod samples;
+#[cfg(test)]
+mod tests;
 mod words;
 
 pub use error::ParseError;
 pub use line::read_event;
 pub use plain::{facts_of_plain_events, parse_line};
-pub use samples::{other_lines, plain_lines};
+pub use samples::{lines_not_plain, plain_lines};

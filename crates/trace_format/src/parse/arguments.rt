@@ -1,17 +1,19 @@
 //! The arguments of a begin, each read by its parameter.
-ghost use Rattle.std.specs.Prelude.{◌≡◌, map, length, option_map, option_copied, Option, List, ℕ, Some, None, take, drop, ◌-◌, if◌then◌else◌, Ok, [], ◌∷◌, false, not, is_some};
+ghost use Rattle.std.specs.Prelude.{◌≡◌, map, is_some, option_copied, option_map, Ok};
 ghost use Rattle.std.specs.List.{list_all};
+ghost use Rattle.std.specs.Option.{ok_or};
 ghost use Rattle.command_tables.specs.Table.{seen_param};
 ghost use Rattle.trace_format.specs.declared.fault.TraceFault.TheVariants as fault;
 ghost use Rattle.trace_format.specs.Content.{arg_content};
-ghost use Rattle.trace_format.specs.Reading.{or_fault, all_of, one_of, pieces, ends_with_bracket, list_of, arg_of, args_of, argument_words, is_null_first};
-ghost use Rattle.trace_format.specs.Steps.{Answers, words_in, places_of};
+ghost use Rattle.trace_format.specs.Words.{all_of, arg_of, args_of, list_of, one_of, pieces, places_of, single};
+ghost use Rattle.trace_format.specs.Reading.{args_in, has_first, words_at};
+ghost use Rattle.trace_format.specs.Steps.{Answers, words_in};
 
 use crate::event::{Name, TraceArg};
 use crate::fault::TraceFault;
 use crate::parse::error::ParseError;
 use crate::parse::names::one;
-use crate::parse::words::{after_argument, skip_one, split_piece, split_word};
+use crate::parse::words::{next_word, skip_one, split_before, split_piece};
 use command_tables::Param;
 use std::alloc::Global;
 
@@ -20,7 +22,8 @@ const PLACES: usize = 1024;
 
 /// The names between commas, where null is none.
 fn names_between(alloc: Global, inside: &[u8]) -> Result<Vec<Option<Name>>, ParseError>
-    ensures { Answers (λ v. v.items) result (or_fault fault.Argument (all_of one_of (pieces inside.now))) }
+    ensures { Answers (λ v. v.items) result
+        (ok_or (all_of one_of (pieces inside.now)) fault.Argument) }
 {
     let mut names = Vec::new(alloc);
     let mut rest = Some(inside);
@@ -37,7 +40,7 @@ fn names_between(alloc: Global, inside: &[u8]) -> Result<Vec<Option<Name>>, Pars
 
 /// The places of a list, whose brackets are taken off.
 fn places(alloc: Global, inside: &[u8]) -> Result<Vec<Option<Name>>, ParseError>
-    ensures { Answers (λ v. v.items) result (or_fault fault.Argument (places_of inside.now)) }
+    ensures { Answers (λ v. v.items) result (ok_or (places_of inside.now) fault.Argument) }
 {
     if inside.is_empty() {
         return Ok(Vec::new(alloc));
@@ -45,22 +48,17 @@ fn places(alloc: Global, inside: &[u8]) -> Result<Vec<Option<Name>>, ParseError>
     names_between(alloc, inside)
 }
 
-/// What stands between the brackets.
-fn inside_brackets(word: &[u8]) -> Option<&[u8]>
-    ensures { option_copied result ≡ (if ends_with_bracket word.now then Some (take (length word.now - 2) (drop 1 word.now)) else None) }
-{
-    word.strip_prefix(b"[")?.strip_suffix(b"]")
-}
-
 /// A list, in brackets.
+#[tactic(auto, unfolding(crate::specs::Words::list_of))]
 fn list(alloc: Global, word: &[u8]) -> Result<TraceArg, ParseError>
-    ensures { Answers arg_content result (or_fault fault.Argument (list_of word.now)) }
+    ensures { Answers arg_content result (ok_or (list_of word.now) fault.Argument) }
 {
-    let Some(inside) = inside_brackets(word) else {
+    let Some(rest) = word.strip_prefix(b"[") else {
         return Err(ParseError::Fault(TraceFault::Argument));
     };
+    let (inside, end) = split_before(b']', rest);
     let names = places(alloc, inside)?;
-    if names.len() > PLACES {
+    if end != b"]".as_slice() || names.len() > PLACES {
         return Err(ParseError::Fault(TraceFault::Argument));
     }
     Ok(TraceArg { many: true, names })
@@ -68,7 +66,7 @@ fn list(alloc: Global, word: &[u8]) -> Result<TraceArg, ParseError>
 
 /// One place.
 fn single(alloc: Global, one: Option<Name>) -> Result<TraceArg, ParseError>
-    ensures { Answers arg_content result (Ok (record { many = false; names = one ∷ [] })) }
+    ensures { Answers arg_content result (Ok (single one)) }
 {
     let mut names = Vec::new(alloc);
     names.push(one)?;
@@ -76,8 +74,9 @@ fn single(alloc: Global, one: Option<Name>) -> Result<TraceArg, ParseError>
 }
 
 /// The argument of a parameter.
+#[tactic(auto, unfolding(crate::specs::Words::arg_of))]
 fn argument(alloc: Global, param: &Param, word: &[u8]) -> Result<TraceArg, ParseError>
-    ensures { Answers arg_content result (or_fault fault.Argument (arg_of (seen_param param.now) word.now)) }
+    ensures { Answers arg_content result (ok_or (arg_of param.now.many word.now) fault.Argument) }
 {
     if param.many {
         return list(alloc, word);
@@ -88,48 +87,61 @@ fn argument(alloc: Global, param: &Param, word: &[u8]) -> Result<TraceArg, Parse
     }
 }
 
-/// The arguments of the parameters, whose words stand at the front.
-pub fn arguments(
-    alloc: Global,
-    params: &[Param],
-    bytes: &[u8],
-) -> Result<Vec<TraceArg>, ParseError>
-    ensures { Answers (λ v. map arg_content v.items) result (or_fault fault.Argument (args_of (map seen_param params.now) (words_in (length params.now) bytes.now))) }
+/// The arguments that the words at the front spell.
+fn all_arguments(alloc: Global, params: &[Param], bytes: &[u8]) -> Result<Vec<TraceArg>, ParseError>
+    ensures { let ps = map seen_param params.now in
+        Answers (λ v. map arg_content v.items) result
+        (ok_or (args_of ps (words_in ps bytes.now)) fault.Argument) }
 {
     let mut args = Vec::new(alloc);
     let mut rest = bytes;
     for param in params {
-        let (word, after) = split_word(skip_one(rest));
+        let (word, after) = split_before(b' ', skip_one(rest));
         args.push(argument(alloc, param, word)?)?;
         rest = after;
     }
     Ok(args)
 }
 
-/// What follows the words of `count` parameters, where each word is there.
-pub fn after_arguments(count: usize, bytes: &[u8]) -> Option<&[u8]>
-    ensures { option_copied result ≡ option_map (λ x. x.1) (argument_words count bytes.now) }
+/// What follows the words of the parameters, where each has one.
+pub fn after_words<'a>(params: &[Param], bytes: &'a [u8]) -> Option<&'a [u8]>
+    ensures { option_copied result
+        ≡ option_map (λ x. x.1) (words_at (map seen_param params.now) bytes.now) }
 {
     let mut rest = bytes;
-    for _ in 0..count {
-        rest = after_argument(rest)?;
+    for _param in params {
+        let (_, after) = next_word(rest)?;
+        rest = after;
     }
     Some(rest)
 }
 
-/// Whether a place is null.
-fn has_null(names: &[Option<Name>]) -> bool
-    ensures { result ≡ not (list_all is_some names.now) }
+/// Whether no place is null.
+fn are_names(places: &[Option<Name>]) -> bool
+    ensures { result ≡ list_all is_some places.now }
 {
-    !names.iter().all(|name| name.is_some())
+    places.iter().all(|place| place.is_some())
 }
 
-/// Whether the first argument has a null.
-pub fn is_first_null(args: &[TraceArg]) -> bool
-    ensures { result ≡ is_null_first (map arg_content args.now) }
+/// Whether the first argument, where there is one, is not null.
+fn is_first_named(args: &[TraceArg]) -> bool
+    ensures { result ≡ has_first (map arg_content args.now) }
 {
     match args.first() {
-        None => false,
-        Some(arg) => has_null(&arg.names),
+        None => true,
+        Some(arg) => are_names(&arg.names),
     }
+}
+
+/// The arguments of the parameters, whose words stand at the front, where the first is not null.
+pub fn arguments(alloc: Global, params: &[Param], bytes: &[u8]) -> Result<Vec<TraceArg>, ParseError>
+    ensures { let ps = map seen_param params.now in
+        Answers (λ v. map arg_content v.items) result
+        (ok_or (args_in ps (words_in ps bytes.now)) fault.Argument) }
+{
+    let args = all_arguments(alloc, params, bytes)?;
+    if !is_first_named(&args) {
+        return Err(ParseError::Fault(TraceFault::Argument));
+    }
+    Ok(args)
 }

@@ -1,21 +1,17 @@
 //! The code and the payload, which end a begin.
-ghost use Rattle.std.specs.Prelude.{◌≡◌};
+ghost use Rattle.std.specs.Prelude.{◌≡◌, option_map};
+ghost use Rattle.std.specs.Option.{ok_or};
 ghost use Rattle.command_tables.specs.Table.{seen};
-ghost use Rattle.trace_format.specs.Reading.{code_named, code_of, code_at, payload_at, same_bool};
+ghost use Rattle.trace_format.specs.declared.fault.TraceFault.TheVariants as fault;
+ghost use Rattle.trace_format.specs.Words.{code_of};
+ghost use Rattle.trace_format.specs.Reading.{code_at, payload_at};
 ghost use Rattle.trace_format.specs.Steps.{Answers};
 
 use crate::fault::TraceFault;
 use crate::parse::error::ParseError;
-use crate::parse::words::split_word;
+use crate::parse::words::split_before;
 use command_tables::{Code, Row};
 use std::alloc::Global;
-
-/// The code with a name.
-fn code_named(word: &[u8]) -> Option<Code>
-    ensures { result ≡ code_named word.now }
-{
-    Code::find(word)
-}
 
 /// A code, or none for `void`.
 fn code_word(word: &[u8]) -> Option<Option<Code>>
@@ -24,27 +20,24 @@ fn code_word(word: &[u8]) -> Option<Option<Code>>
     if word == b"void".as_slice() {
         return Some(None);
     }
-    Some(Some(code_named(word)?))
+    Some(Some(Code::find(word)?))
 }
 
-/// The code that stands at the front, and what follows it.
-pub fn code<'a>(row: &Row, bytes: &'a [u8]) -> Result<(Option<Code>, &'a [u8]), ParseError>
-    ensures { Answers (λ r. (r.0, r.1.now)) result (code_at (seen row.now) bytes.now) }
+/// The code that stands after one space, where it is of the row's form, and what follows it.
+pub fn code<'a>(row: &Row, bytes: &'a [u8]) -> Option<(Option<Code>, &'a [u8])>
+    ensures { option_map (λ r. (r.0, r.1.now)) result ≡ code_at (seen row.now) bytes.now }
 {
-    let fault = ParseError::Fault(TraceFault::Code);
-    let Some(rest) = bytes.strip_prefix(b" ") else {
-        return Err(fault);
-    };
-    let (word, after) = split_word(rest);
-    match code_word(word) {
-        Some(code) if code.is_some() == row.returns => Ok((code, after)),
-        _ => Err(fault),
+    let (word, after) = split_before(b' ', bytes.strip_prefix(b" ")?);
+    let code = code_word(word)?;
+    if code.is_some() != row.returns {
+        return None;
     }
+    Some((code, after))
 }
 
 /// The payload, to the end of the line.
 pub fn payload(alloc: Global, bytes: &[u8]) -> Result<Vec<u8>, ParseError>
-    ensures { Answers (λ v. v.items) result (payload_at bytes.now) }
+    ensures { Answers (λ v. v.items) result (ok_or (payload_at bytes.now) fault.Code) }
 {
     if bytes.is_empty() {
         return Ok(Vec::new(alloc));

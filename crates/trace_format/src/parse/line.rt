@@ -1,19 +1,21 @@
 //! A line, from its front.
-ghost use Rattle.std.specs.Prelude.{◌≡◌, map};
+ghost use Rattle.std.specs.Prelude.{◌≡◌, IfOk, codes, map};
 ghost use Rattle.std.specs.List.{list_all};
 ghost use Rattle.command_tables.specs.Table.{seen};
 ghost use Rattle.trace_format.specs.Content.{content, arg_content};
-ghost use Rattle.trace_format.specs.Reading.{is_printable, begin_at, begin_with, return_at, read_line, command_of};
+ghost use Rattle.trace_format.specs.Grammar.{IsEvent, is_printable};
+ghost use Rattle.trace_format.specs.Words.{after, command_of};
+ghost use Rattle.trace_format.specs.Reading.{begin_at, by_letter, read_line, return_at, tail_at};
 ghost use Rattle.trace_format.specs.Steps.{Answers, end_with};
 
 use crate::event::{Event, TraceArg};
 use crate::fault::TraceFault;
-use crate::parse::arguments::{after_arguments, arguments, is_first_null};
+use crate::parse::arguments::{after_words, arguments};
 use crate::parse::endings::{code, payload};
 use crate::parse::error::ParseError;
 use crate::parse::names::thread;
 use crate::parse::results::{results, split_results};
-use crate::parse::words::split_word;
+use crate::parse::words::split_before;
 use command_tables::{CommandId, Row, find, row};
 use std::alloc::Global;
 
@@ -44,43 +46,45 @@ fn end_begin(
     let row = row(cmd);
     let (word, after) = split_results(bytes);
     let results = results(alloc, row.effect, word)?;
-    let (code, after) = code(row, after)?;
+    let Some((code, after)) = code(row, after) else {
+        return Err(ParseError::Fault(TraceFault::Code));
+    };
     let payload = payload(alloc, after)?;
-    Ok(Event::Begin { thread, cmd, args, results, code, payload })
+    Ok(Event::Begin {
+        thread,
+        cmd,
+        args,
+        results,
+        code,
+        payload,
+    })
 }
 
 /// A begin, from its arguments on.
-fn begin_with(
-    alloc: Global,
-    thread: u32,
-    cmd: CommandId,
-    bytes: &[u8],
-) -> Result<Event, ParseError>
-    ensures { Answers content result (begin_with thread cmd bytes.now) }
+fn begin_with(alloc: Global, thread: u32, cmd: CommandId, bytes: &[u8]) -> Result<Event, ParseError>
+    ensures { Answers content result (tail_at thread cmd bytes.now) }
 {
     let row = row(cmd);
-    let Some(after) = after_arguments(row.params.len(), bytes) else {
+    let Some(after) = after_words(row.params, bytes) else {
         return Err(ParseError::Fault(TraceFault::Parameter));
     };
     let args = arguments(alloc, row.params, bytes)?;
-    if is_first_null(&args) {
-        return Err(ParseError::Fault(TraceFault::Argument));
-    }
     end_begin(alloc, thread, cmd, args, after)
 }
 
 /// A begin, from its thread on.
+#[tactic(auto, unfolding(crate::specs::Reading::begin_at))]
 fn begin_at(alloc: Global, bytes: &[u8]) -> Result<Event, ParseError>
     ensures { Answers content result (begin_at bytes.now) }
 {
-    let (word, after) = split_word(bytes);
+    let (word, after) = split_before(b' ', bytes);
     let Some(thread) = thread(word) else {
         return Err(ParseError::Fault(TraceFault::Thread));
     };
     let Some(rest) = after.strip_prefix(b" ") else {
         return Err(ParseError::Fault(TraceFault::Thread));
     };
-    let (word, after) = split_word(rest);
+    let (word, after) = split_before(b' ', rest);
     match command(word) {
         None => Err(ParseError::Fault(TraceFault::Command)),
         Some(cmd) => begin_with(alloc, thread, cmd, after),
@@ -88,6 +92,7 @@ fn begin_at(alloc: Global, bytes: &[u8]) -> Result<Event, ParseError>
 }
 
 /// A return, from its thread on.
+#[tactic(auto, unfolding(crate::specs::Reading::return_at))]
 fn return_at(bytes: &[u8]) -> Result<Event, ParseError>
     ensures { Answers content result (return_at bytes.now) }
 {
@@ -97,13 +102,11 @@ fn return_at(bytes: &[u8]) -> Result<Event, ParseError>
     }
 }
 
-/// The event that a line spells, without its line feed, or its first fault. `NoMemory` says nothing of the line.
-pub fn read_event(alloc: Global, line: &[u8]) -> Result<Event, ParseError>
-    ensures { Answers content result (read_line line.now) }
+/// A begin or a return, by how the line begins.
+fn by_letter(alloc: Global, line: &[u8]) -> Result<Event, ParseError>
+    ensures { Answers content result
+        (by_letter (after (codes "b ") line.now) (after (codes "r ") line.now)) }
 {
-    if !is_ascii(line) {
-        return Err(ParseError::Fault(TraceFault::NotAscii));
-    }
     if let Some(rest) = line.strip_prefix(b"b ") {
         return begin_at(alloc, rest);
     }
@@ -111,4 +114,16 @@ pub fn read_event(alloc: Global, line: &[u8]) -> Result<Event, ParseError>
         None => Err(ParseError::Fault(TraceFault::Letter)),
         Some(rest) => return_at(rest),
     }
+}
+
+/// The event that a line spells, without its line feed, or its first fault. `NoMemory` says nothing of the line.
+#[tactic(auto, unfolding(crate::specs::Reading::read_line))]
+pub fn read_event(alloc: Global, line: &[u8]) -> Result<Event, ParseError>
+    ensures answer { Answers content result (read_line line.now) }
+    ensures grammar { IfOk result (λ event. IsEvent (content event)) }
+{
+    if !is_ascii(line) {
+        return Err(ParseError::Fault(TraceFault::NotAscii));
+    }
+    by_letter(alloc, line)
 }

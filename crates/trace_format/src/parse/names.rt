@@ -1,21 +1,20 @@
 //! Numbers and names.
-ghost use Rattle.std.specs.Prelude.{◌≡◌, ◌*◌, ◌+◌, ◌-◌, ◌≤◌, length, fold, Some, None, if◌then◌else◌};
-ghost use Rattle.std.specs.List.{list_all};
-ghost use Rattle.std.specs.Char.{is_ascii_digit};
-ghost use Rattle.trace_format.specs.Reading.{number_of, name_of, one_of};
+ghost use Rattle.std.specs.Prelude.{◌≡◌, ◌≤◌, ◌<◌, length};
+ghost use Rattle.std.specs.Str.{all_ascii_digits};
+ghost use Rattle.trace_format.specs.Words.{name_of, number_up_to, one_of, only_if, thread_of, value_after};
 
 use crate::event::Name;
 use crate::parse::words::split_before;
 
 /// The greatest number of a thread.
 const THREADS: u32 = 1024;
-/// The greatest number of a thread's result.
+/// The greatest number of a result.
 const NUMBERS: u32 = 4_194_304;
 
-/// The value of a word of at most seven digits.
+/// The number that at most seven digits spell.
 fn value(word: &[u8]) -> Option<u32>
     requires { length word.now ≤ 7 }
-    ensures { result ≡ (if list_all is_ascii_digit word.now then Some (fold (λ n d. n * 10 + (d - 48)) 0 word.now) else None) }
+    ensures { result ≡ only_if (all_ascii_digits word.now) (value_after 0 word.now) }
 {
     let mut value = 0;
     for digit in word {
@@ -28,11 +27,16 @@ fn value(word: &[u8]) -> Option<u32>
 }
 
 /// A decimal number from 1 to `limit`, without leading zeros.
+#[tactic(auto, unfolding(crate::specs::Words::number_up_to))]
 fn number(limit: u32, word: &[u8]) -> Option<u32>
-    ensures { result ≡ number_of limit word.now }
+    requires { limit < 10000000 }
+    ensures { result ≡ number_up_to limit word.now }
 {
+    if word.len() > 7 {
+        return None;
+    }
     let first = word.first()?;
-    if *first == b'0' || word.len() > 7 {
+    if *first == b'0' {
         return None;
     }
     let number = value(word)?;
@@ -41,24 +45,26 @@ fn number(limit: u32, word: &[u8]) -> Option<u32>
 
 /// A thread, as 1 to 1,024.
 pub fn thread(word: &[u8]) -> Option<u32>
-    ensures { result ≡ number_of 1024 word.now }
+    ensures { result ≡ thread_of word.now }
 {
     number(THREADS, word)
 }
 
 /// A name, as `%` thread `.` number.
+#[tactic(auto, unfolding(crate::specs::Words::name_of))]
 pub fn name(word: &[u8]) -> Option<Name>
     ensures { result ≡ name_of word.now }
 {
     let rest = word.strip_prefix(b"%")?;
     let (before, after) = split_before(b'.', rest);
-    let (_, digits) = after.split_first()?;
     let thread = thread(before)?;
+    let digits = after.strip_prefix(b".")?;
     let number = number(NUMBERS, digits)?;
     Some(Name { thread, number })
 }
 
 /// A name, or none for `null`.
+#[tactic(auto, unfolding(crate::specs::Words::one_of))]
 pub fn one(word: &[u8]) -> Option<Option<Name>>
     ensures { result ≡ one_of word.now }
 {

@@ -1,14 +1,16 @@
 //! The results of a begin, as its effect needs them.
-ghost use Rattle.std.specs.Prelude.{◌≡◌, length, Ok, Some, None, option_copied};
+ghost use Rattle.std.specs.Prelude.{◌≡◌, option_copied};
+ghost use Rattle.std.specs.Option.{ok_or};
 ghost use Rattle.trace_format.specs.declared.fault.TraceFault.TheVariants as fault;
-ghost use Rattle.trace_format.specs.Reading.{or_fault, all_of, name_of, pieces, takes_results};
-ghost use Rattle.trace_format.specs.Steps.{Answers, results_word, after_results, names_in, results_of};
+ghost use Rattle.trace_format.specs.Grammar.{takes};
+ghost use Rattle.trace_format.specs.Words.{all_of, name_of, pieces};
+ghost use Rattle.trace_format.specs.Steps.{Answers, after_results, names_in, results_of, results_word};
 
 use crate::event::Name;
 use crate::fault::TraceFault;
 use crate::parse::error::ParseError;
 use crate::parse::names::name;
-use crate::parse::words::{split_piece, split_word};
+use crate::parse::words::{split_before, split_piece};
 use command_tables::Effect;
 use std::alloc::Global;
 
@@ -17,15 +19,11 @@ const RESULTS: usize = 1024;
 
 /// Whether a command of this effect has so many results.
 fn takes(effect: Effect, count: usize) -> bool
-    ensures { result ≡ takes_results effect count }
+    ensures { result ≡ takes effect count }
 {
     match effect {
         Effect::Create { many, .. } | Effect::Retrieve { many, .. } => {
-            if many {
-                count <= RESULTS
-            } else {
-                count == 1
-            }
+            if many { count <= RESULTS } else { count == 1 }
         }
         _ => count == 0,
     }
@@ -33,7 +31,8 @@ fn takes(effect: Effect, count: usize) -> bool
 
 /// The names between commas.
 fn names_between(alloc: Global, word: &[u8]) -> Result<Vec<Name>, ParseError>
-    ensures { Answers (λ v. v.items) result (or_fault fault.Results (all_of name_of (pieces word.now))) }
+    ensures { Answers (λ v. v.items) result
+        (ok_or (all_of name_of (pieces word.now)) fault.Results) }
 {
     let mut names = Vec::new(alloc);
     let mut rest = Some(word);
@@ -56,7 +55,7 @@ pub fn split_results(bytes: &[u8]) -> (Option<&[u8]>, &[u8])
     match bytes.strip_prefix(b" = ") {
         None => (None, bytes),
         Some(rest) => {
-            let (word, after) = split_word(rest);
+            let (word, after) = split_before(b' ', rest);
             (Some(word), after)
         }
     }
@@ -64,7 +63,8 @@ pub fn split_results(bytes: &[u8]) -> (Option<&[u8]>, &[u8])
 
 /// The names of a word of results, or none where there is no word.
 fn names_of(alloc: Global, word: Option<&[u8]>) -> Result<Vec<Name>, ParseError>
-    ensures { Answers (λ v. v.items) result (names_in (option_copied word.entry)) }
+    ensures { Answers (λ v. v.items) result
+        (ok_or (names_in (option_copied word.entry)) fault.Results) }
 {
     match word {
         None => Ok(Vec::new(alloc)),
@@ -73,12 +73,9 @@ fn names_of(alloc: Global, word: Option<&[u8]>) -> Result<Vec<Name>, ParseError>
 }
 
 /// The results that a command of this effect has.
-pub fn results(
-    alloc: Global,
-    effect: Effect,
-    word: Option<&[u8]>,
-) -> Result<Vec<Name>, ParseError>
-    ensures { Answers (λ v. v.items) result (results_of effect (option_copied word.entry)) }
+pub fn results(alloc: Global, effect: Effect, word: Option<&[u8]>) -> Result<Vec<Name>, ParseError>
+    ensures { Answers (λ v. v.items) result
+        (ok_or (results_of effect (option_copied word.entry)) fault.Results) }
 {
     let names = names_of(alloc, word)?;
     if !takes(effect, names.len()) {

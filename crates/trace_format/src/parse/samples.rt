@@ -9,15 +9,20 @@ ghost use Rattle.trace_format.specs.PlainSamples.{own, given, begun};
 /// Lines that are spelled plainly, with their events.
 pub fn plain_lines()
     ensures returned { plain_event (codes "r 1") ≡ Some (Return 1) }
-    ensures instance { plain_event (codes "b 1 vkCreateInstance = %1.1 VK_SUCCESS") ≡ Some (begun cmd.CreateInstance [] (own 1 ∷ []) (Some code.Success)) }
-    ensures enumerated { plain_event (codes "b 1 vkEnumeratePhysicalDevices %1.1 = %1.2 VK_SUCCESS") ≡ Some (begun cmd.EnumeratePhysicalDevices (given 1) (own 2 ∷ []) (Some code.Success)) }
-    ensures device { plain_event (codes "b 1 vkCreateDevice %1.20 = %1.4194304 VK_SUCCESS") ≡ Some (begun cmd.CreateDevice (given 20) (own 4194304 ∷ []) (Some code.Success)) }
-    ensures device_destroyed { plain_event (codes "b 1 vkDestroyDevice %1.4194304 void") ≡ Some (begun cmd.DestroyDevice (given 4194304) [] None) }
-    ensures instance_destroyed { plain_event (codes "b 1 vkDestroyInstance %1.1 void") ≡ Some (begun cmd.DestroyInstance (given 1) [] None) }
+    ensures instance { plain_event (codes "b 1 vkCreateInstance = %1.1 VK_SUCCESS")
+        ≡ Some (begun cmd.CreateInstance [] (own 1 ∷ []) (Some code.Success)) }
+    ensures enumerated { plain_event (codes "b 1 vkEnumeratePhysicalDevices %1.1 = %1.2 VK_SUCCESS")
+        ≡ Some (begun cmd.EnumeratePhysicalDevices (given 1) (own 2 ∷ []) (Some code.Success)) }
+    ensures device { plain_event (codes "b 1 vkCreateDevice %1.20 = %1.4194304 VK_SUCCESS")
+        ≡ Some (begun cmd.CreateDevice (given 20) (own 4194304 ∷ []) (Some code.Success)) }
+    ensures device_destroyed { plain_event (codes "b 1 vkDestroyDevice %1.4194304 void")
+        ≡ Some (begun cmd.DestroyDevice (given 4194304) [] None) }
+    ensures instance_destroyed { plain_event (codes "b 1 vkDestroyInstance %1.1 void")
+        ≡ Some (begun cmd.DestroyInstance (given 1) [] None) }
 {}
 
 /// Lines that are not.
-pub fn other_lines()
+pub fn lines_not_plain()
     ensures other_thread { plain_event (codes "r 2") ≡ None }
     ensures leading_zero { plain_event (codes "b 1 vkDestroyInstance %1.01 void") ≡ None }
     ensures above_the_limit { plain_event (codes "b 1 vkDestroyDevice %1.4194305 void") ≡ None }

@@ -1,5 +1,5 @@
 use Rattle.std.proofs.Common.{◌≡◌, option_copied}
-use Rattle.trace_format.specs.Reading.{all_of, one_of, pieces}
+use Rattle.trace_format.specs.Words.{all_of, one_of, pieces}
 use Rattle.trace_format.specs.Steps.{pieces_after}
 use Rattle.trace_format.proofs.ReadLemmas.{with_front, left_of}
 use Rattle.trace_format.proofs.parse.arguments.names_between.Given as goal

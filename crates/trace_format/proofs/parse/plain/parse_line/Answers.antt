@@ -1,4 +1,4 @@
-use Rattle.std.proofs.Common.{◌≡◌, ◌∙◌, sym}
+use Rattle.std.proofs.Common.{◌∙◌, sym}
 use Rattle.trace_format.specs.Content.{content}
 use Rattle.trace_format.proofs.PlainLemmas.{plain_is}
 use Rattle.trace_format.proofs.parse.plain.parse_line.Goals as goal

@@ -1,5 +1,5 @@
 use Rattle.std.proofs.Common.{◌≡◌, option_copied}
-use Rattle.trace_format.specs.Reading.{all_of, name_of, pieces}
+use Rattle.trace_format.specs.Words.{all_of, name_of, pieces}
 use Rattle.trace_format.specs.Steps.{pieces_after}
 use Rattle.trace_format.proofs.ReadLemmas.{with_front, left_of}
 use Rattle.trace_format.proofs.parse.results.names_between.Given as goal

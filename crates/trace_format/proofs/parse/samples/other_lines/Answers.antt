@@ -1,9 +1,0 @@
-use Rattle.std.proofs.Common.{refl}
-use Rattle.command_tables.specs.Table.{row_of}
-use Rattle.trace_format.specs.Reading.{code_named, command_of}
-use Rattle.trace_format.specs.Plain.{is_plain_command}
-use Rattle.trace_format.proofs.parse.samples.other_lines.Goals as goal
-
-pub returns : goal.returns
-unfolding row_of command_of code_named is_plain_command
-returns c = record { other_thread = refl; leading_zero = refl; above_the_limit = refl; name_of_another = refl; other_code = refl; payload = refl; no_result = refl; two_results = refl; other_command = refl; space_behind = refl }
