@@ -33,7 +33,11 @@ fn put_number<L: Sink>(errs: &mut L, line: u64) -> Result<(), Failed>
     ensures front { OnErr result (GrownByFront (L.held errs.old) (L.held errs.new) (number_text line)) }
     ensures cause { HasCause (L.faults errs.old) (L.faults errs.new) result }
 {
-    put_two(errs, b"vkreplay: line ", Buffer::new().format(line).as_bytes())?;
+    put_two(
+        errs,
+        b"vkreplay: line ",
+        Buffer::new().format(line).as_bytes(),
+    )?;
     Ok(())
 }
 

@@ -1,24 +1,25 @@
 // Whole runs over memory: what each prints, says and asks the driver.
-ghost use Rattle.std.specs.Prelude.{IsTrue};
-ghost use Rattle.replay_core.specs.Driver.{are_handles};
-
-use crate::top::replay_main;
+use crate::top::{Finished, replay_main};
 use command_tables::CommandId;
 use replay_base::{MemSink, MemSource};
-use replay_core::{AdverseDriver, DriverCall, DriverReply, ModelDriver, RecordingDriver, Status};
+use replay_core::{AdverseDriver, Driver, DriverCall, ModelDriver, RecordingDriver, Status};
 use std::alloc::Global;
 use std::process::Abort;
 use std::test::Fail;
 
-const FIRST: &str = "vktrace 1\nb 1 vkCreateInstance = %1.1 VK_SUCCESS\nr 1\nb 1 vkEnumeratePhysicalDevices %1.1 = %1.2 VK_SUCCESS\nr 1\nb 1 vkCreateDevice %1.2 = %1.3 VK_SUCCESS\nr 1\nb 1 vkDestroyDevice %1.3 void\nr 1\nb 1 vkDestroyInstance %1.1 void\nr 1\n";
+const FIRST: &str =
+    "vktrace 1\nb 1 vkCreateInstance = %1.1 VK_SUCCESS\nr 1\nb 1 vkEnumeratePhysicalDevices %1.1 = %1.2 VK_SUCCESS\nr 1\nb 1 vkCreateDevice %1.2 = %1.3 VK_SUCCESS\nr 1\nb 1 vkDestroyDevice %1.3 void\nr 1\nb 1 vkDestroyInstance %1.1 void\nr 1\n";
 
-const FIRST_TEXT: &str = "ret 1 vkCreateInstance VK_SUCCESS born=1\nret 2 vkEnumeratePhysicalDevices VK_SUCCESS born=1\nret 3 vkCreateDevice VK_SUCCESS born=1\nret 4 vkDestroyDevice void\nret 5 vkDestroyInstance void\nend calls=5 skipped=0 reports=0\n";
+const FIRST_TEXT: &str =
+    "ret 1 vkCreateInstance VK_SUCCESS born=1\nret 2 vkEnumeratePhysicalDevices VK_SUCCESS born=1\nret 3 vkCreateDevice VK_SUCCESS born=1\nret 4 vkDestroyDevice void\nret 5 vkDestroyInstance void\nend calls=5 skipped=0 reports=0\n";
 
-// Which words, trace and faults a run is given, and what it must answer, print and say.
+// The words, the trace, how many letters follow it, and the numbers of the first call of the source and the sink that
+// fails; and what the run must answer, print and say.
 #[derive(Clone, Copy)]
 struct Run {
     words: &'static str,
     trace: &'static str,
+    letters: usize,
     read_fails: u64,
     write_fails: u64,
     status: Status,
@@ -29,6 +30,7 @@ struct Run {
 const CLEAN: Run = Run {
     words: "run",
     trace: FIRST,
+    letters: 0,
     read_fails: 0,
     write_fails: 0,
     status: Status::Clean,
@@ -36,140 +38,262 @@ const CLEAN: Run = Run {
     errs: "",
 };
 
-fn check(rt: &impl Abort, alloc: Global, run: Run) -> Result<(), Fail> {
-    let words = run
-        .words
-        .split_whitespace()
-        .map(|word| String::from_str(alloc, word))
-        .collect::<Result<Vec<String>, _>>(alloc)??;
-    let mut trace = MemSource::new(run.trace.as_bytes().to_vec(alloc)?, vec![in alloc; run.read_fails]?);
-    let mut out = MemSink::new(alloc, 4096, vec![in alloc; run.write_fails]?).ok().ok_or("memory")?;
-    let mut errs = MemSink::new(alloc, 4096, Vec::new(alloc)).ok().ok_or("memory")?;
+const MALFORMED: Run = Run {
+    status: Status::Malformed,
+    out: "",
+    ..CLEAN
+};
+
+const RUNS: [Run; 22] = [
+    CLEAN,
+    Run {
+        trace: "vktrace 1",
+        out: "end calls=0 skipped=0 reports=0\n",
+        ..CLEAN
+    },
+    Run {
+        write_fails: 2,
+        status: Status::WriteFault,
+        out: "ret 1 vkCreateInstance VK_SUCCESS born=1\n",
+        errs: "vkreplay: write fault\n",
+        ..CLEAN
+    },
+    Run {
+        read_fails: 1,
+        status: Status::ReadFault,
+        out: "",
+        errs: "vkreplay: read fault\n",
+        ..CLEAN
+    },
+    Run {
+        words: "",
+        status: Status::Usage,
+        out: "",
+        errs: "vkreplay: words not understood\n",
+        ..CLEAN
+    },
+    Run {
+        words: "run --driver any",
+        status: Status::Usage,
+        out: "",
+        errs: "vkreplay: words not understood\n",
+        ..CLEAN
+    },
+    // A device that is destroyed twice.
+    Run {
+        trace: "vktrace 1\nb 1 vkCreateInstance = %1.1 VK_SUCCESS\nr 1\nb 1 vkEnumeratePhysicalDevices %1.1 = %1.2 VK_SUCCESS\nr 1\nb 1 vkCreateDevice %1.2 = %1.3 VK_SUCCESS\nr 1\nb 1 vkDestroyDevice %1.3 void\nr 1\nb 1 vkDestroyDevice %1.3 void\nr 1\n",
+        status: Status::Reported,
+        out: "ret 1 vkCreateInstance VK_SUCCESS born=1\nret 2 vkEnumeratePhysicalDevices VK_SUCCESS born=1\nret 3 vkCreateDevice VK_SUCCESS born=1\nret 4 vkDestroyDevice void\nreport 5 0 VUID-vkDestroyDevice-device-parameter %1.3\nret 5 vkDestroyDevice void\nend calls=5 skipped=1 reports=1\n",
+        ..CLEAN
+    },
+    // A begin in place of a return that is due, and a trace that ends where one is due.
+    Run {
+        trace: "vktrace 1\nb 1 vkCreateInstance = %1.1 VK_SUCCESS\nb 1 vkEnumeratePhysicalDevices %1.1 = %1.2 VK_SUCCESS\nr 1\n",
+        errs: "vkreplay: line 3: Busy\n",
+        ..MALFORMED
+    },
+    Run {
+        trace: "vktrace 1\nb 1 vkCreateInstance = %1.1 VK_SUCCESS\nr 1\nb 1 vkEnumeratePhysicalDevices %1.1 = %1.2 VK_SUCCESS\nr 1\nb 1 vkCreateDevice %1.2 = %1.3 VK_SUCCESS\n",
+        out: "ret 1 vkCreateInstance VK_SUCCESS born=1\nret 2 vkEnumeratePhysicalDevices VK_SUCCESS born=1\n",
+        errs: "vkreplay: line 7: NotBuilt\n",
+        ..MALFORMED
+    },
+    Run {
+        trace: "",
+        errs: "vkreplay: line 1: Header\n",
+        ..MALFORMED
+    },
+    Run {
+        trace: "\n",
+        errs: "vkreplay: line 1: Header\n",
+        ..MALFORMED
+    },
+    Run {
+        trace: "vktrace 1\r\n",
+        errs: "vkreplay: line 1: Header\n",
+        ..MALFORMED
+    },
+    Run {
+        trace: "vktrace 1\nb 1 vkCreateInstance = %1.1 VK_SUCCESS\r\nr 1\n",
+        errs: "vkreplay: line 2: NotBuilt\n",
+        ..MALFORMED
+    },
+    Run {
+        trace: "vktrace 1\nr 1\0\n",
+        errs: "vkreplay: line 2: NotBuilt\n",
+        ..MALFORMED
+    },
+    Run {
+        trace: "vktrace 1\n\nb 1 vkCreateInstance = %1.1 VK_SUCCESS\nr 1\n",
+        errs: "vkreplay: line 2: NotBuilt\n",
+        ..MALFORMED
+    },
+    // The greatest number is plainly spelled, and one above it isn't.
+    Run {
+        trace: "vktrace 1\nb 1 vkCreateInstance = %1.4194304 VK_SUCCESS\n",
+        errs: "vkreplay: line 2: NotBuilt\n",
+        ..MALFORMED
+    },
+    Run {
+        trace: "vktrace 1\nb 1 vkCreateInstance = %1.1 VK_SUCCESS\nb 1 vkCreateInstance = %1.4194304 VK_SUCCESS\n",
+        errs: "vkreplay: line 3: Busy\n",
+        ..MALFORMED
+    },
+    Run {
+        trace: "vktrace 1\nb 1 vkCreateInstance = %1.1 VK_SUCCESS\nb 1 vkCreateInstance = %1.4194305 VK_SUCCESS\n",
+        errs: "vkreplay: line 3: NotBuilt\n",
+        ..MALFORMED
+    },
+    Run {
+        trace: "vktrace 1\nb 1 vkCreateInstance = %1.1 VK_SUCCESS\nb 1 vkDestroyDevice %1.4194304 void\n",
+        errs: "vkreplay: line 3: Busy\n",
+        ..MALFORMED
+    },
+    Run {
+        trace: "vktrace 1\nb 1 vkCreateInstance = %1.1 VK_SUCCESS\nb 1 vkDestroyDevice %1.4194305 void\n",
+        errs: "vkreplay: line 3: NotBuilt\n",
+        ..MALFORMED
+    },
+    // 1,048,576 bytes are read line by line, and one more isn't.
+    Run {
+        trace: "vktrace 1\n",
+        letters: 1_048_566,
+        errs: "vkreplay: line 2: NotBuilt\n",
+        ..MALFORMED
+    },
+    Run {
+        trace: "vktrace 1\n",
+        letters: 1_048_567,
+        errs: "vkreplay: line 1: NotBuilt\n",
+        ..MALFORMED
+    },
+];
+
+fn words_of(alloc: Global, text: &str) -> Result<Vec<String>, Fail> {
+    let mut words = Vec::new(alloc);
+    for word in text.split_whitespace() {
+        words.push(String::from_str(alloc, word)?)?;
+    }
+    Ok(words)
+}
+
+fn bytes_of(alloc: Global, run: &Run) -> Result<Vec<u8>, Fail> {
+    let mut bytes = Vec::from_slice(alloc, run.trace.as_bytes())?;
+    for _ in 0..run.letters {
+        bytes.push(b'x')?;
+    }
+    Ok(bytes)
+}
+
+fn sink(alloc: Global, fails: u64) -> Result<MemSink, Fail> {
+    let fails = vec![in alloc; fails]?;
+    Ok(MemSink::new(alloc, 4096, fails).ok().ok_or("no memory")?)
+}
+
+fn ends_as_it_must(rt: &impl Abort, alloc: Global, run: &Run) -> Result<(), Fail> {
+    let words = words_of(alloc, run.words)?;
+    let mut trace = MemSource::new(bytes_of(alloc, run)?, vec![in alloc; run.read_fails]?);
+    let mut out = sink(alloc, run.write_fails)?;
+    let mut errs = sink(alloc, 0)?;
     let mut driver = ModelDriver::new();
-    let finished = replay_main(alloc, &words, &mut trace, &mut out, &mut errs, &mut driver);
-    assert_eq!(rt; finished.status, run.status);
-    assert_eq!(rt; out.bytes(), run.out.as_bytes());
-    assert_eq!(rt; errs.bytes(), run.errs.as_bytes());
-    assert_eq!(rt; finished.session.is_some(), matches!(run.status, Status::Clean | Status::Reported));
+    let Finished { status, session } = replay_main(
+        alloc,
+        &words,
+        &mut trace,
+        &mut out,
+        &mut errs,
+        &mut driver,
+    );
+    assert_eq!(rt; status, run.status);
+    assert!(rt; out.bytes() == run.out.as_bytes(), "{}", run.trace);
+    assert!(rt; errs.bytes() == run.errs.as_bytes(), "{}", run.trace);
+    let ended = status == Status::Clean || status == Status::Reported;
+    assert_eq!(rt; session.is_some(), ended);
     Ok(())
 }
 
 #[test]
 fn each_end_of_a_run(rt: HostRuntime) -> Result<(), Fail> {
-    let runs = [
-        CLEAN,
-        Run {
-            write_fails: 2,
-            status: Status::WriteFault,
-            out: "ret 1 vkCreateInstance VK_SUCCESS born=1\n",
-            errs: "vkreplay: write fault\n",
-            ..CLEAN
-        },
-        Run {
-            read_fails: 1,
-            status: Status::ReadFault,
-            out: "",
-            errs: "vkreplay: read fault\n",
-            ..CLEAN
-        },
-        Run {
-            words: "",
-            status: Status::Usage,
-            out: "",
-            errs: "vkreplay: words not understood\n",
-            ..CLEAN
-        },
-        Run {
-            words: "run --driver any",
-            status: Status::Usage,
-            out: "",
-            errs: "vkreplay: words not understood\n",
-            ..CLEAN
-        },
-        Run {
-            trace: "vktrace 1\nb 1 vkCreateInstance = %1.1 VK_SUCCESS\nr 1\nb 1 vkCreateBuffer %1.1 = %1.2 VK_SUCCESS\nr 1\n",
-            status: Status::Malformed,
-            out: "ret 1 vkCreateInstance VK_SUCCESS born=1\n",
-            errs: "vkreplay: line 4: NotBuilt\n",
-            ..CLEAN
-        },
-    ];
-    for run in runs {
-        check(&rt, rt.alloc(), run)?;
+    for run in RUNS.iter() {
+        ends_as_it_must(&rt, rt.alloc(), run)?;
     }
     Ok(())
 }
 
-// The first handle of a call, or 0 where it has no argument.
-fn first_handle(call: &DriverCall) -> u64 {
-    if call.body.args.len() == 0 {
+// A driver's call as its command and its first handle, which is 0 where it has no argument.
+fn told(call: &DriverCall) -> (CommandId, u64) {
+    let first = if call.body.args.len() == 0 {
         0
     } else {
         call.body.args.param(0).first().copied().unwrap_or(0)
-    }
+    };
+    (call.body.cmd, first)
 }
 
-fn asked(
+// What a driver is told at a trace that ends with this line.
+fn told_by<D: Driver + Drop>(
     rt: &impl Abort,
     alloc: Global,
     trace: &str,
-    values: &[u64],
+    inner: D,
     end: &str,
-) -> Result<Vec<u64>, Fail>
-    requires { IsTrue (are_handles values.now) }
-{
-    let words = vec![in alloc; String::from_str(alloc, "run")?]?;
-    let mut source = MemSource::new(trace.as_bytes().to_vec(alloc)?, Vec::new(alloc));
-    let mut out = MemSink::new(alloc, 4096, Vec::new(alloc)).ok().ok_or("memory")?;
-    let mut errs = MemSink::new(alloc, 4096, Vec::new(alloc)).ok().ok_or("memory")?;
-    let adverse = AdverseDriver::new(Vec::from_slice(alloc, values)?);
-    let mut driver = RecordingDriver::new(alloc, adverse);
-    let finished = replay_main(alloc, &words, &mut source, &mut out, &mut errs, &mut driver);
-    assert_eq!(rt; finished.status, Status::Clean);
-    assert!(rt; out.bytes().ends_with(end.as_bytes()));
-    let mut handles = Vec::new(alloc);
+) -> Result<Vec<(CommandId, u64)>, Fail> {
+    let words = words_of(alloc, "run")?;
+    let bytes = Vec::from_slice(alloc, trace.as_bytes())?;
+    let mut source = MemSource::new(bytes, Vec::new(alloc));
+    let mut out = sink(alloc, 0)?;
+    let mut errs = sink(alloc, 0)?;
+    let mut driver = RecordingDriver::new(alloc, inner);
+    replay_main(alloc, &words, &mut source, &mut out, &mut errs, &mut driver);
+    assert!(rt; out.bytes().ends_with(end.as_bytes()), "{end}");
+    let mut calls = Vec::new(alloc);
     for (call, _) in driver.log() {
-        handles.push(first_handle(call))?;
+        calls.push(told(call))?;
     }
-    Ok(handles)
+    Ok(calls)
 }
 
 #[test]
-fn the_driver_is_asked_for_what_it_answered(rt: HostRuntime) -> Result<(), Fail> {
+fn the_driver_is_told_what_it_answered(rt: HostRuntime) -> Result<(), Fail> {
     let alloc = rt.alloc();
-    let end = "end calls=5 skipped=0 reports=0\n";
-    let handles = asked(&rt, alloc, FIRST, &[1, 2, 3], end)?;
-    assert_eq!(rt; handles.as_slice(), [0, 1, 2, 3, 1].as_slice());
-    let handles = asked(&rt, alloc, FIRST, &[7, 7, 9], end)?;
-    assert_eq!(rt; handles.as_slice(), [0, 7, 7, 9, 7].as_slice());
-    let two_devices = "vktrace 1\nb 1 vkCreateInstance = %1.1 VK_SUCCESS\nr 1\nb 1 vkEnumeratePhysicalDevices %1.1 = %1.2 VK_SUCCESS\nr 1\nb 1 vkCreateDevice %1.2 = %1.3 VK_SUCCESS\nr 1\nb 1 vkCreateDevice %1.2 = %1.4 VK_SUCCESS\nr 1\nb 1 vkDestroyDevice %1.3 void\nr 1\nb 1 vkDestroyInstance %1.1 void\nr 1";
-    let end = "end calls=6 skipped=0 reports=0\n";
-    let handles = asked(&rt, alloc, two_devices, &[7, 7, 9], end)?;
-    assert_eq!(rt; handles.as_slice(), [0, 7, 7, 7, 9, 7].as_slice());
-    Ok(())
-}
-
-#[test]
-fn the_model_driver_counts(rt: HostRuntime) -> Result<(), Fail> {
-    let alloc = rt.alloc();
-    let words = vec![in alloc; String::from_str(alloc, "run")?]?;
-    let mut source = MemSource::new(FIRST.as_bytes().to_vec(alloc)?, Vec::new(alloc));
-    let mut out = MemSink::new(alloc, 4096, Vec::new(alloc)).ok().ok_or("memory")?;
-    let mut errs = MemSink::new(alloc, 4096, Vec::new(alloc)).ok().ok_or("memory")?;
-    let mut driver = RecordingDriver::new(alloc, ModelDriver::new());
-    let finished = replay_main(alloc, &words, &mut source, &mut out, &mut errs, &mut driver);
-    assert_eq!(rt; finished.status, Status::Clean);
-    assert_eq!(rt; driver.log().len(), 5);
-    let wanted: [(CommandId, u64); 5] = [
+    let calls = told_by(&rt, alloc, FIRST, ModelDriver::new(), FIRST_TEXT)?;
+    let wanted = [
         (CommandId::CreateInstance, 0),
         (CommandId::EnumeratePhysicalDevices, 1),
         (CommandId::CreateDevice, 2),
         (CommandId::DestroyDevice, 3),
         (CommandId::DestroyInstance, 1),
     ];
-    for ((call, _), (cmd, handle)) in driver.log().iter().zip(wanted) {
-        assert!(rt; call.body.cmd == cmd);
-        assert_eq!(rt; first_handle(call), handle);
-    }
+    assert!(rt; calls.as_slice() == wanted.as_slice());
+    Ok(())
+}
+
+fn adverse(alloc: Global) -> Result<AdverseDriver, Fail> {
+    Ok(AdverseDriver::new(Vec::from_slice(alloc, &[7, 7, 9])?))
+}
+
+#[test]
+fn the_driver_may_answer_one_handle_twice(rt: HostRuntime) -> Result<(), Fail> {
+    let alloc = rt.alloc();
+    let calls = told_by(&rt, alloc, FIRST, adverse(alloc)?, FIRST_TEXT)?;
+    let wanted = [
+        (CommandId::CreateInstance, 0),
+        (CommandId::EnumeratePhysicalDevices, 7),
+        (CommandId::CreateDevice, 7),
+        (CommandId::DestroyDevice, 9),
+        (CommandId::DestroyInstance, 7),
+    ];
+    assert!(rt; calls.as_slice() == wanted.as_slice());
+    Ok(())
+}
+
+#[test]
+fn a_second_device_is_a_sixth_call(rt: HostRuntime) -> Result<(), Fail> {
+    let alloc = rt.alloc();
+    let trace =
+        "vktrace 1\nb 1 vkCreateInstance = %1.1 VK_SUCCESS\nr 1\nb 1 vkEnumeratePhysicalDevices %1.1 = %1.2 VK_SUCCESS\nr 1\nb 1 vkCreateDevice %1.2 = %1.3 VK_SUCCESS\nr 1\nb 1 vkCreateDevice %1.2 = %1.4 VK_SUCCESS\nr 1\nb 1 vkDestroyDevice %1.3 void\nr 1\nb 1 vkDestroyInstance %1.1 void\nr 1";
+    let end = "end calls=6 skipped=0 reports=0\n";
+    let calls = told_by(&rt, alloc, trace, adverse(alloc)?, end)?;
+    assert_eq!(rt; calls.len(), 6);
     Ok(())
 }
