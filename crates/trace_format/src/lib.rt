@@ -8,6 +8,8 @@ mod fault;
 mod laws;
 mod parse;
 mod samples;
+#[cfg(test)]
+mod tests;
 
 pub use event::{Event, Name, TraceArg};
 pub use fault::TraceFault;
