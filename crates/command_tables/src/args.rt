@@ -1,6 +1,6 @@
 //! The handles of a call.
 ghost use Rattle.std.specs.Prelude.{◌≡◌, ◌≤◌, ◌<◌, ◌+◌, ◌^◌, ◌++◌, ◌∷◌, [], ℕ, length, map, sum, take, replicate, true, false, slice_index, slice_index_or, IfOk, IsOk, OnOk, OnErr};
-ghost use Rattle.command_tables.specs.Handles.{HasPlace, HasRoom, count_in, cut, list_at, put};
+ghost use Rattle.command_tables.specs.Handles.{HasMarks, HasPlace, HasRoom, count_in, cut, list_at, put};
 
 use crate::memory::{NoMemory, make_room, refill};
 use std::alloc::Global;
@@ -102,6 +102,7 @@ impl<const P: usize> HandleArgs<P> {
     pub fn len(&self) -> usize
         ensures count { result ≡ length self.now.lists }
         ensures limit { result ≤ P }
+        ensures marks { HasMarks self.now }
     {
         self.lengths.len()
     }

@@ -16,6 +16,7 @@ digits_fit n i h k = let e : 10 ^ i ≤ 10 ^ 7 = pow-le-pow_right {n = 10} (omeg
 pub value_more : (n : ℕ) (word : List ℕ) (i : ℕ) → i < length word → value_after n (drop i word) ≡ value_after (10 * n + (get_or word i 0 - 48)) (drop (i + 1) word)
 value_more n word i h = at_drop_more (value_after n) word i 0 h
 
+-- and is a digit or not
 pub digits_more : (word : List ℕ) (i : ℕ) → i < length word → all_ascii_digits (drop i word) ≡ (is_ascii_digit (get_or word i 0) && all_ascii_digits (drop (i + 1) word))
 digits_more word i h = at_drop_more all_ascii_digits word i 0 h
 
@@ -40,6 +41,7 @@ eight_digits (a ∷ b ∷ c ∷ d ∷ e ∷ f ∷ g ∷ h ∷ rest) many digits 
     omega (arith, grows (10 * (10 * (10 * (10 * (10 * (10 * (10 * (10 * 0 + (a - 48)) + (b - 48)) + (c - 48)) + (d - 48)) + (e - 48)) + (f - 48)) + (g - 48)) + (h - 48)) rest)
 eight_digits _ many digits first = absurd (omega arith)
 
+-- so a long word is no number within the limit
 pub too_long : (limit : ℕ) (word : List ℕ) → limit < 10000000 → 7 < length word → number_up_to limit word ≡ None
 unfolding number_up_to
 too_long limit word small many = go (all_ascii_digits word) (has_no_leading_zero word) (nat_le (value_after 0 word) limit) (eight_digits word many) (leb-true (value_after 0 word) limit)

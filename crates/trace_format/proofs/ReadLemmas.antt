@@ -37,6 +37,7 @@ args_more_at front ps i d bytes skipped word after a h is_skipped is_word is_aft
     at_drop_more (λ qs. with_front front (args_here qs bytes)) ps i d h ∙ args_more front (get_or ps i d) (drop (i + 1) ps) bytes a here
     ∙ ap (λ rest. with_front (front ++ a ∷ []) (args_here (drop (i + 1) ps) rest)) (sym (is_after ∙ ap (from 32) is_skipped))
 
+-- and where it is not read
 pub args_none_at : (front : List Arg) (ps : List Param) (i : ℕ) (d : Param) (bytes skipped word : List ℕ) → i < length ps → skipped ≡ drop 1 bytes → word ≡ until 32 skipped
     → arg_of (get_or ps i d).many word ≡ None → with_front front (args_here (drop i ps) bytes) ≡ None
 args_none_at front ps i d bytes skipped word h is_skipped is_word e =

@@ -39,13 +39,13 @@ abbrev pub after_results : List ℕ → List ℕ
 after_results bytes = unwrap_or (option_map (from 32) (after (codes " = ") bytes)) bytes
 
 -- the names of a word of results, or none where there is no word
-abbrev pub names_in : Option (List ℕ) → Option (List Name)
-names_in None = Some []
-names_in (Some word) = all_of name_of (pieces word)
+abbrev pub names_of_word : Option (List ℕ) → Option (List Name)
+names_of_word None = Some []
+names_of_word (Some word) = all_of name_of (pieces word)
 
 -- the results that a command with this effect has
 abbrev pub results_of : Effect → Option (List ℕ) → Option (List Name)
-results_of effect word = and_then (names_in word) (λ names. only_if (takes effect (length names)) names)
+results_of effect word = and_then (names_of_word word) (λ names. only_if (takes effect (length names)) names)
 
 -- what a begin is read as, once its words are arguments
 abbrev pub end_with : ℕ → CommandId → List Arg → List ℕ → Result TraceEvent TraceFault

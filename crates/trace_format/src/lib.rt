@@ -9,6 +9,8 @@ mod laws;
 mod parse;
 mod samples;
 mod state;
+#[cfg(test)]
+mod tests;
 
 pub use event::{Event, Name, TraceArg};
 pub use fault::TraceFault;

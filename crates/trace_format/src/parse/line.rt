@@ -116,7 +116,8 @@ fn by_letter(alloc: Global, line: &[u8]) -> Result<Event, ParseError>
     }
 }
 
-/// The event that a line spells, without its line feed, or its first fault. `NoMemory` says nothing of the line.
+/// The event that a line spells, without its line feed, or the first of its faults `NotAscii` to `Code`. `NoMemory` says
+/// nothing of the line.
 #[tactic(auto, unfolding(crate::specs::Reading::read_line))]
 pub fn read_event(alloc: Global, line: &[u8]) -> Result<Event, ParseError>
     ensures answer { Answers content result (read_line line.now) }

@@ -4,7 +4,7 @@ ghost use Rattle.std.specs.Option.{ok_or};
 ghost use Rattle.trace_format.specs.declared.fault.TraceFault.TheVariants as fault;
 ghost use Rattle.trace_format.specs.Grammar.{takes};
 ghost use Rattle.trace_format.specs.Words.{all_of, name_of, pieces};
-ghost use Rattle.trace_format.specs.Steps.{Answers, after_results, names_in, results_of, results_word};
+ghost use Rattle.trace_format.specs.Steps.{Answers, after_results, names_of_word, results_of, results_word};
 
 use crate::event::Name;
 use crate::fault::TraceFault;
@@ -64,7 +64,7 @@ pub fn split_results(bytes: &[u8]) -> (Option<&[u8]>, &[u8])
 /// The names of a word of results, or none where there is no word.
 fn names_of(alloc: Global, word: Option<&[u8]>) -> Result<Vec<Name>, ParseError>
     ensures { Answers (λ v. v.items) result
-        (ok_or (names_in (option_copied word.entry)) fault.Results) }
+        (ok_or (names_of_word (option_copied word.entry)) fault.Results) }
 {
     match word {
         None => Ok(Vec::new(alloc)),
