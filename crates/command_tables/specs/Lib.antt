@@ -1,0 +1,7 @@
+pub mod Table
+pub mod Numbers
+pub mod CodeNames
+pub mod Tests
+pub mod Facts
+pub mod Handles
+pub mod Calls

@@ -1,0 +1,10 @@
+//! The events of a recorded trace, and how a line of the trace spells one.
+//! Promises that an event has one spelling, and that reading a line from its front gives the event that it spells or the first fault.
+//! Leaves to others what the events do to objects, and where the lines come from.
+#![tactic(auto)]
+
+mod event;
+mod fault;
+
+pub use event::{Event, Name, TraceArg};
+pub use fault::TraceFault;
