@@ -12,14 +12,14 @@ ghost use Rattle.object_model.specs.Uses.{uses, overlaps};
 use command_tables::ObjectType;
 
 /// An object of the application, known by its type and a number that it alone has in its type.
-#[derive(Clone, Copy, PartialEq, Eq)]
+#[derive(Clone, Copy, Debug, PartialEq, Eq)]
 pub struct Object {
     pub ty: ObjectType,
     pub number: u64,
 }
 
 /// What stands in one place of a call. A written name that stands for no object is `Unborn` and never `Null`.
-#[derive(Clone, Copy, PartialEq, Eq)]
+#[derive(Clone, Copy, Debug, PartialEq, Eq)]
 pub enum Argument {
     Null,
     Unborn,

@@ -1,0 +1,40 @@
+//! What a trace means: its events judged one by one, the reports, the answers, the text, and what the drivers are told.
+//! Promises that the driver calls of a trace are those of the trace without its skipped calls and without layers.
+//! Leaves to others how a trace is read, how a chain is built, and which rules hold of objects.
+#![tactic(auto)]
+
+use object_model::Object;
+use trace_format::Name;
+
+/// A checking or wrapping part of a layer. The parts of a chain are numbered from 1, from the application down.
+#[derive(Clone, Copy, Debug, PartialEq, Eq)]
+pub enum PartKind {
+    /// Reports uses that overlap between threads.
+    Threads,
+    /// Reports arguments that don't live or have another owner, and parents that are destroyed before their children.
+    Lifetimes,
+    /// Gives the layers above it handles of its own.
+    Unique,
+}
+
+/// A name and the object for which it stands.
+#[derive(Clone, Copy, Debug, PartialEq, Eq)]
+pub struct Named {
+    pub name: Name,
+    pub object: Object,
+}
+
+/// A result that was born: its place among the call's results, its name, and the object for which it stands.
+#[derive(Clone, Copy, Debug, PartialEq, Eq)]
+pub struct Born {
+    pub place: usize,
+    pub name: Name,
+    pub object: Object,
+}
+
+/// An object and the number, from 0, of the driver that calls on it go to.
+#[derive(Clone, Copy, Debug, PartialEq, Eq)]
+pub struct Routed {
+    pub object: Object,
+    pub driver: u32,
+}
