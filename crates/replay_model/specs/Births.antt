@@ -12,7 +12,7 @@ use Rattle.command_tables.specs.declared.types.Code.TheVariants as code
 use Rattle.command_tables.specs.declared.types.ObjectType.{ObjectType}
 use Rattle.command_tables.specs.declared.types.Effect.{Effect}
 use Rattle.command_tables.specs.declared.types.Effect.TheVariants as eff
-use Rattle.command_tables.specs.Table.{RowSpec, row_of}
+use Rattle.command_tables.specs.Table.{row_of}
 use Rattle.command_tables.specs.Tests.{same_command, same_code, same_type}
 use Rattle.trace_format.specs.declared.event.Name.{Name}
 use Rattle.object_model.specs.declared.Object.{Object}

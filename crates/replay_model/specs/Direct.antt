@@ -1,6 +1,6 @@
 -- What the drivers are told, by what they answered. Replies stand newest first, one for each driver call; a begin takes as many as it has drivers.
 -- Source: this project; a handle that a driver answered is what it is told (Khronos Vulkan-Loader interface documents, "Driver interface").
-use Rattle.std.specs.Prelude.{ℕ, ◌+◌, Bool, not, if◌then◌else◌, ◌==◌, Option, Some, None, List, [], ◌∷◌, ◌++◌, map, filter, find, length, slice_get, unwrap_or, take, drop, reverse}
+use Rattle.std.specs.Prelude.{ℕ, ◌+◌, not, if◌then◌else◌, ◌==◌, List, [], ◌∷◌, ◌++◌, map, filter, find, length, slice_get, unwrap_or, take, drop, reverse}
 use Rattle.std.specs.List.{zip}
 use Rattle.std.specs.Option.{option_map_or}
 use Rattle.command_tables.specs.declared.types.CommandId.TheVariants as cmd

@@ -1,5 +1,5 @@
 -- The events of a trace, each judged by those before it. Source: this project.
-use Rattle.std.specs.Prelude.{ℕ, ◌+◌, Bool, true, false, ◌&&◌, ◌||◌, if◌then◌else◌, Option, Some, None, is_some, List, [], ◌∷◌, find}
+use Rattle.std.specs.Prelude.{ℕ, ◌+◌, Bool, ◌&&◌, ◌||◌, if◌then◌else◌, Option, Some, None, is_some, List, [], ◌∷◌, find}
 use Rattle.std.specs.List.{range_with_len}
 use Rattle.std.specs.Option.{option_map_or}
 use Rattle.command_tables.specs.declared.types.CommandId.{CommandId}
@@ -16,7 +16,7 @@ use Rattle.replay_model.specs.declared.Routed.{Routed}
 use Rattle.replay_model.specs.Setup.{Setup, refusal_of}
 use Rattle.replay_model.specs.Past.{Opened, Report, Began, Returned, Past, calls_in, is_of, open_calls, named, arguments_in, history, retrievals, routed}
 use Rattle.replay_model.specs.Births.{made_by}
-use Rattle.replay_model.specs.Places.{Checked, checked, Findings, findings}
+use Rattle.replay_model.specs.Places.{Checked, checked, findings}
 
 -- ---- which drivers a call goes to
 
@@ -48,8 +48,15 @@ begun_by s number names routes checks e =
     let refused = is_refused s e.cmd e.payload in
     record {
       opened = record {
-        number = number; thread = e.thread; cmd = e.cmd; args = args; results = e.results; code = e.code; payload = e.payload;
-        stop = found.stop; refused = refused;
+        number = number;
+        thread = e.thread;
+        cmd = e.cmd;
+        args = args;
+        results = e.results;
+        code = e.code;
+        payload = e.payload;
+        stop = found.stop;
+        refused = refused;
         drivers = if refused || is_some found.stop then [] else receivers s.drivers routes (first_in args 0);
       };
       reports = found.reports;

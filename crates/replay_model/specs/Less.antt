@@ -1,8 +1,8 @@
 -- A trace without its skipped calls. Source: this project.
-use Rattle.std.specs.Prelude.{◌≡◌, ℕ, Bool, true, if◌then◌else◌, Option, None, List, [], ◌∷◌, find, ⊤}
+use Rattle.std.specs.Prelude.{◌≡◌, if◌then◌else◌, None, List, [], ◌∷◌, find, ⊤}
 use Rattle.trace_format.specs.Content.{TraceEvent, Begin, Return}
-use Rattle.replay_model.specs.Setup.{Outcome, Chain, Setup}
-use Rattle.replay_model.specs.Past.{Opened, Began, Returned, Past, is_skipped, is_of, open_calls}
+use Rattle.replay_model.specs.Setup.{Chain, Setup}
+use Rattle.replay_model.specs.Past.{Began, Returned, Past, is_skipped, is_of, open_calls}
 use Rattle.replay_model.specs.Judged.{judged}
 
 -- the events of the calls that aren't skipped

@@ -3,7 +3,7 @@
 use Rattle.std.specs.Prelude.{ℕ, ◌+◌, Bool, true, false, not, ◌&&◌, if◌then◌else◌, ◌==◌, nat_le, Option, Some, None, List, [], ◌∷◌, ◌++◌, map}
 use Rattle.std.specs.Option.{option_map_or}
 use Rattle.command_tables.specs.declared.types.CommandId.TheVariants as cmd
-use Rattle.command_tables.specs.Table.{RowSpec, row_of}
+use Rattle.command_tables.specs.Table.{row_of}
 use Rattle.command_tables.specs.Tests.{same_command}
 use Rattle.object_model.specs.History.{Call, Begins, Returns, History, alive}
 use Rattle.object_model.specs.Rules.{Failure, failures, loader_failures}

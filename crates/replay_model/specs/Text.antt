@@ -1,6 +1,6 @@
 -- The lines that a trace prints. Source: this project; the identifiers have the form of the Vulkan 1.3 specification's implicit valid usage statements (VUID-),
 -- or are this project's own (VKR-).
-use Rattle.std.specs.Prelude.{ℕ, ◌+◌, Bool, true, false, ◌&&◌, if◌then◌else◌, nat_lt, Option, Some, None, List, [], ◌∷◌, ◌++◌, find, length, slice_get, unwrap_or, codes, decimal}
+use Rattle.std.specs.Prelude.{ℕ, ◌+◌, Bool, ◌&&◌, if◌then◌else◌, nat_lt, Option, Some, None, List, [], ◌∷◌, ◌++◌, find, length, slice_get, unwrap_or, codes, decimal}
 use Rattle.std.specs.List.{flat_map}
 use Rattle.std.specs.Option.{option_map_or}
 use Rattle.command_tables.specs.declared.types.CommandId.{CommandId}
@@ -9,11 +9,10 @@ use Rattle.command_tables.specs.declared.types.Code.{Code}
 use Rattle.command_tables.specs.declared.types.Code.TheVariants as code
 use Rattle.command_tables.specs.declared.types.Rule.{Rule}
 use Rattle.command_tables.specs.declared.types.Rule.TheVariants as rule
-use Rattle.command_tables.specs.Table.{ParamSpec, RowSpec, row_of}
+use Rattle.command_tables.specs.Table.{ParamSpec, row_of}
 use Rattle.command_tables.specs.Tests.{same_command}
 use Rattle.trace_format.specs.declared.event.Name.{Name}
 use Rattle.trace_format.specs.Content.{Arg, BeginEvent, TraceEvent, Begin, Return}
-use Rattle.object_model.specs.Rules.{Failure}
 use Rattle.replay_model.specs.Setup.{Setup, refusal_of, outcome_text}
 use Rattle.replay_model.specs.Past.{Opened, Report, Judged, Began, Returned, Past, is_skipped, is_of, open_calls, calls_in}
 use Rattle.replay_model.specs.Births.{succeeds, type_made}
@@ -61,7 +60,7 @@ written_at args p k = unwrap_or (slice_get (option_map_or (λ a. a.names) (slice
 abbrev pub report_line : ℕ → CommandId → ParamSpec → Option Name → Report → List ℕ
 report_line number c p name r =
     codes "report " ++ decimal number ++ codes " " ++ decimal r.place ++ codes " " ++ identifier (row_of c).name p.name r.failure.rule ++ codes " " ++ one_text name
-      ++ index_text p.many r.failure.index ++ detail_text r.failure.rule r.failure.detail ++ codes "\n"
+    ++ index_text p.many r.failure.index ++ detail_text r.failure.rule r.failure.detail ++ codes "\n"
 
 -- the line of a report at a begin
 abbrev pub report_text : BeginEvent → ℕ → Report → List ℕ

@@ -3,6 +3,15 @@
 //! Leaves to others how a trace is read, how a chain is built, and which rules hold of objects.
 #![tactic(auto)]
 
+ghost use Rattle.std.specs.Prelude.{◌≡◌, List};
+ghost use Rattle.command_tables.specs.Calls.{ReplyContent};
+ghost use Rattle.trace_format.specs.Content.{TraceEvent};
+ghost use Rattle.replay_model.specs.Setup.{Setup};
+ghost use Rattle.replay_model.specs.Judged.{judged};
+ghost use Rattle.replay_model.specs.Direct.{direct, exchanges};
+ghost use Rattle.replay_model.specs.Text.{skipped_in};
+ghost use Rattle.replay_model.specs.Less.{less, no_layers, BeginsIdle};
+
 use object_model::Object;
 use trace_format::Name;
 
@@ -38,3 +47,14 @@ pub struct Routed {
     pub object: Object,
     pub driver: u32,
 }
+
+/// Without its skipped calls a trace tells the drivers the same, whatever layers there were: what they are told is what the trace
+/// less its skipped calls makes with no layers, where none of its calls is skipped.
+pub fn skipped_calls_are_not_sent()
+    ensures calls { (s : Setup) (events : List TraceEvent) (replies : List ReplyContent) → BeginsIdle s events →
+        direct (judged (no_layers s) (less (judged s events))) replies ≡ direct (judged s events) replies }
+    ensures exchanges { (s : Setup) (events : List TraceEvent) (replies : List ReplyContent) → BeginsIdle s events →
+        exchanges (judged (no_layers s) (less (judged s events))) replies ≡ exchanges (judged s events) replies }
+    ensures skipped { (s : Setup) (events : List TraceEvent) → BeginsIdle s events →
+        skipped_in (judged (no_layers s) (less (judged s events))) ≡ 0 }
+{}

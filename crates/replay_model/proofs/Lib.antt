@@ -1,0 +1,3 @@
+pub mod OpenCalls
+pub mod Alike
+pub mod LessLemmas
