@@ -1,9 +1,11 @@
 -- The contents of calls and replies: what passes down a chain of layers, and what a driver is told and answers.
 -- Source: this project.
-use Rattle.std.specs.Prelude.{ℕ, Bool, List, Option}
+use Rattle.std.specs.Prelude.{ℕ, ◌≤◌, Bool, List, [], Option, None, length, vec_capacity}
 use Rattle.command_tables.specs.declared.types.CommandId.{CommandId}
+use Rattle.command_tables.specs.declared.types.CommandId.TheVariants as cmd
 use Rattle.command_tables.specs.declared.types.Code.{Code}
 use Rattle.command_tables.specs.declared.call.LayerCall.{LayerCall}
+use Rattle.command_tables.specs.Handles.{HasRoom, count_in}
 
 -- a call on its way down: its handles by parameter, the marks of the names that are not born yet, how many handles it asks for,
 -- the code that it is to be answered, and what is passed on
@@ -36,3 +38,12 @@ call_content c = record { cmd = c.cmd; args = c.args.lists; unborn = c.args.mark
 -- what a driver with this number is told of a call
 abbrev pub driver_call_content : ℕ → LayerCall → DriverCallContent
 driver_call_content driver c = record { driver = driver; cmd = c.cmd; args = c.args.lists; asked = c.asked; code = c.code; payload = c.payload.items }
+
+-- a call without arguments, which asks for nothing: what a call that only has room is
+abbrev pub no_call : CallContent
+no_call = record { cmd = cmd.CreateInstance; args = []; unborn = []; asked = 0; code = None; payload = [] }
+
+-- the call can hold what another has with no further memory
+pub record HasRoomFor (call : LayerCall) (other : CallContent) : Type 0 where
+  pub handles : HasRoom call.args (length other.args) (count_in other.args)
+  pub bytes : length other.payload ≤ vec_capacity call.payload

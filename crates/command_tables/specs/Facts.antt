@@ -1,6 +1,5 @@
--- Numbers of commands, and what holds of each row.
-use Rattle.std.specs.Prelude.{ℕ, Bool, true, false, not, ◌&&◌, nat_le, nat_lt, List, [], ◌∷◌, length}
-use Rattle.std.specs.List.{list_all, enumerate_from}
+-- What holds of the rows of the table. Source: this project.
+use Rattle.std.specs.Prelude.{ℕ, ◌+◌, Bool, true, false, not, ◌&&◌, ◌||◌, ◌==◌, nat_le, nat_lt, List, [], ◌∷◌}
 use Rattle.command_tables.specs.declared.types.CommandId.{CommandId}
 use Rattle.command_tables.specs.declared.types.CommandId.TheVariants as cmd
 use Rattle.command_tables.specs.declared.types.ObjectType.{ObjectType}
@@ -13,8 +12,9 @@ use Rattle.command_tables.specs.declared.types.Implied.{Implied}
 use Rattle.command_tables.specs.declared.types.Implied.TheVariants as imp
 use Rattle.command_tables.specs.declared.types.Effect.{Effect}
 use Rattle.command_tables.specs.declared.types.Effect.TheVariants as eff
-use Rattle.command_tables.specs.Table.{ParamSpec, RowSpec}
+use Rattle.command_tables.specs.Table.{ParamSpec}
 
+-- the first five object types are dispatchable (Vulkan 1.3, "Object Model")
 abbrev pub is_dispatchable : ObjectType → Bool
 is_dispatchable ty.Instance = true
 is_dispatchable ty.PhysicalDevice = true
@@ -23,6 +23,8 @@ is_dispatchable ty.Queue = true
 is_dispatchable ty.CommandBuffer = true
 is_dispatchable _ = false
 
+-- an implied use stands at an object of the type that has what is used: a command buffer its pool, a descriptor pool its sets, a
+-- device its queues
 abbrev pub implied_fits : Implied → ObjectType → Bool
 implied_fits imp.None t = true
 implied_fits imp.PoolOf ty.CommandBuffer = true
@@ -30,15 +32,23 @@ implied_fits imp.SetsOf ty.DescriptorPool = true
 implied_fits imp.QueuesOf ty.Device = true
 implied_fits _ _ = false
 
+-- a mark of an owner at parameter i names an earlier or equal parameter
 abbrev pub mark_fits : ℕ → OwnerMark → Bool
 mark_fits i (own.Param p) = nat_le p i
 mark_fits i _ = true
 
+-- each parameter's mark does, the first of them being parameter i
+abbrev pub marks_fit : ℕ → List ParamSpec → Bool
+marks_fit i [] = true
+marks_fit i (p ∷ ps) = mark_fits i p.owner && marks_fit (i + 1) ps
+
+-- an owner names one of n parameters, or nobody
 abbrev pub owner_fits : ℕ → OwnerOf → Bool
 owner_fits n of.Nobody = true
 owner_fits n (of.Param p) = nat_lt p n
 owner_fits n (of.OwnerOfParam p) = nat_lt p n
 
+-- an effect names one of n parameters, or none
 abbrev pub effect_fits : ℕ → Effect → Bool
 effect_fits n eff.None = true
 effect_fits n (eff.Create t owner many) = owner_fits n owner
@@ -47,12 +57,21 @@ effect_fits n (eff.Destroy p) = nat_lt p n
 effect_fits n (eff.Free p) = nat_lt p n
 effect_fits n (eff.Reset p) = nat_lt p n
 
+-- the first parameter is dispatchable, single and not null; the creation of an instance alone has none
 abbrev pub first_fits : CommandId → List ParamSpec → Bool
 first_fits cmd.CreateInstance [] = true
-first_fits c (p ∷ ps) = is_dispatchable p.ty && not p.many && not p.optional
+first_fits cmd.CreateInstance (p ∷ ps) = false
 first_fits _ [] = false
+first_fits _ (p ∷ ps) = is_dispatchable p.ty && not p.many && not p.optional
 
-abbrev pub fits : RowSpec → Bool
-fits r =
-    nat_le (length r.params) 6 && first_fits r.id r.params && effect_fits (length r.params) r.effect
-    && list_all (λ (x : ℕ × ParamSpec). mark_fits x.0 x.1.owner && implied_fits x.1.implied x.1.ty) (enumerate_from 0 r.params)
+-- the first text comes before the second in byte order
+abbrev pub comes_before : List ℕ → List ℕ → Bool
+comes_before xs [] = false
+comes_before [] (y ∷ ys) = true
+comes_before (x ∷ xs) (y ∷ ys) = nat_lt x y || (x == y && comes_before xs ys)
+
+-- these texts rise strictly in byte order
+abbrev pub rise : List (List ℕ) → Bool
+rise [] = true
+rise (x ∷ []) = true
+rise (x ∷ y ∷ rest) = comes_before x y && rise (y ∷ rest)

@@ -5,13 +5,17 @@
 
 mod args;
 mod call;
+mod codes;
 mod lookup;
 mod memory;
 mod table;
+#[cfg(test)]
+mod tests;
 mod types;
 
 pub use args::HandleArgs;
 pub use call::LayerCall;
+pub use codes::CODES;
 pub use lookup::{COMMANDS, facts_of_the_table, find};
 pub use memory::NoMemory;
 pub use table::row;

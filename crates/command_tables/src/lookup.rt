@@ -1,9 +1,10 @@
 //! Commands by name and by number.
-ghost use Rattle.std.specs.Prelude.{◌≡◌, ◌≢◌, IfSome, IfNone, IsTrue};
-ghost use Rattle.std.specs.List.{find as spec_find};
+ghost use Rattle.std.specs.Prelude.{◌≡◌, ◌≢◌, ◌≤◌, ◌-◌, IfSome, IfNone, IsTrue, length, map, slice_get};
+ghost use Rattle.std.specs.List.{find as spec_find, list_all};
 ghost use Rattle.std.specs.Str.{bytes_eq};
 ghost use Rattle.command_tables.specs.Table.{row_of};
-ghost use Rattle.command_tables.specs.Facts.{fits};
+ghost use Rattle.command_tables.specs.Facts.{effect_fits, first_fits, implied_fits, marks_fit, rise};
+ghost use Rattle.command_tables.specs.Numbers.{number_of};
 
 use crate::table::row;
 use crate::types::CommandId;
@@ -122,10 +123,43 @@ pub fn find(name: &[u8]) -> Option<CommandId>
     find_in(&COMMANDS, name)
 }
 
-/// What holds of each row of the table: there are at most six parameters; every command but `vkCreateInstance` has a first
-/// one, which is dispatchable, single and not null; owners and effects name a parameter of the row, a mark of an owner an
-/// earlier or equal one; and implied uses stand at a command buffer, a descriptor pool or a device.
+fn command_at(commands: &[CommandId], place: usize) -> Option<CommandId>
+    ensures { result ≡ slice_get commands.now place }
+{
+    commands.get(place).copied()
+}
+
+impl CommandId {
+    /// The command's number, 1 to 92.
+    pub fn number(self) -> u8
+        ensures { result ≡ number_of self }
+    {
+        self as u8
+    }
+
+    /// The command with a number.
+    pub fn from_number(n: u8) -> Option<CommandId>
+        ensures found { IfSome result (λ c. number_of c ≡ n) }
+        ensures none { IfNone result ((c : CommandId) → number_of c ≢ n) }
+    {
+        if n == 0 {
+            return None;
+        }
+        command_at(&COMMANDS, n as usize - 1)
+    }
+}
+
+/// What holds of the table: there are at most six parameters; every command but `vkCreateInstance` has a first one, which is
+/// dispatchable, single and not null; an effect and the owner of what it makes name parameters of the row, and a mark of an
+/// owner an earlier or equal one; implied uses stand at a command buffer, a descriptor pool or a device; and the names of the
+/// commands, in the order of their numbers, rise strictly in byte order.
 #[tactic(auto, unfolding(crate::specs::Table::row_of))]
 pub fn facts_of_the_table()
-    ensures { (c : CommandId) → IsTrue (fits (row_of c)) }
+    ensures few { (c : CommandId) → length (row_of c).params ≤ 6 }
+    ensures first { (c : CommandId) → IsTrue (first_fits c (row_of c).params) }
+    ensures effects { (c : CommandId) → IsTrue (effect_fits (length (row_of c).params) (row_of c).effect) }
+    ensures owners { (c : CommandId) → IsTrue (marks_fit 0 (row_of c).params) }
+    ensures implied { (c : CommandId) → IsTrue (list_all (λ p. implied_fits p.implied p.ty) (row_of c).params) }
+    ensures numbered { (c : CommandId) → slice_get COMMANDS (number_of c - 1) ≡ Some c }
+    ensures rising { IsTrue (rise (map (λ c. (row_of c).name) COMMANDS)) }
 {}

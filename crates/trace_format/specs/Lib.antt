@@ -1,2 +1,5 @@
 pub mod Content
 pub mod FaultNames
+pub mod Grammar
+pub mod Words
+pub mod Reading

@@ -5,6 +5,8 @@
 
 mod event;
 mod fault;
+mod laws;
 
 pub use event::{Event, Name, TraceArg};
 pub use fault::TraceFault;
+pub use laws::reading_agrees_with_spelling;

@@ -1,0 +1,5 @@
+pub mod Texts
+pub mod Names
+pub mod Lists
+pub mod Parts
+pub mod Lines
