@@ -12,26 +12,12 @@ use Rattle.command_tables.specs.declared.types.Rule.TheVariants as rule
 use Rattle.command_tables.specs.Table.{ParamSpec, row_of}
 use Rattle.command_tables.specs.Tests.{same_command}
 use Rattle.trace_format.specs.declared.event.Name.{Name}
+use Rattle.trace_format.specs.Grammar.{one_text, code_text}
 use Rattle.trace_format.specs.Content.{Arg, BeginEvent, TraceEvent, Begin, Return}
 use Rattle.replay_model.specs.Setup.{Setup, refusal_of, outcome_text}
 use Rattle.replay_model.specs.Past.{Opened, Report, Judged, Began, Returned, Past, is_skipped, is_of, open_calls, calls_in}
 use Rattle.replay_model.specs.Births.{succeeds, type_made}
 use Rattle.replay_model.specs.Judged.{begun_of, made_of}
-use Rattle.command_tables.specs.CodeNames.{code_name}
-
--- a written name
-abbrev pub name_text : Name → List ℕ
-name_text n = codes "%" ++ decimal n.thread ++ codes "." ++ decimal n.number
-
--- a written name, or null
-abbrev pub one_text : Option Name → List ℕ
-one_text None = codes "null"
-one_text (Some n) = name_text n
-
--- a code, or void where the command answers nothing
-abbrev pub code_text : Option Code → List ℕ
-code_text None = codes "void"
-code_text (Some c) = code_name c
 
 -- ---- reports
 

@@ -19,4 +19,4 @@ buffer = record { ty = ty.Buffer; number = 3 }
 -- their births
 abbrev pub known : List Birth
 known = record { object = instance; created = true; owners = [] } ∷ record { object = device; created = true; owners = instance ∷ [] }
-  ∷ record { object = buffer; created = true; owners = device ∷ instance ∷ [] } ∷ []
+    ∷ record { object = buffer; created = true; owners = device ∷ instance ∷ [] } ∷ []

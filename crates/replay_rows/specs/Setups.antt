@@ -13,23 +13,25 @@ chain_line number rest = codes "chain " ++ decimal number ++ codes " " ++ rest
 -- one driver and no layers
 abbrev pub bare : Setup
 bare = record {
-  drivers = 1; notes = [];
+  drivers = 1;
+  notes = [];
   outcome = λ payload. Chain [] (λ number. said (chain_line number (codes "ok layers=0 parts=0 drivers=1") ∷ codes "driver 1 /etc/vulkan/icd.d/a.json libvulkan_a.so" ∷ []));
 }
 
 -- one driver below the Khronos validation layer
 abbrev pub validation : Setup
 validation = record {
-  drivers = 1; notes = [];
+  drivers = 1;
+  notes = [];
   outcome = λ payload. Chain (part.Threads ∷ part.Lifetimes ∷ part.Unique ∷ []) (λ number. said (
-    chain_line number (codes "ok layers=1 parts=3 drivers=1")
-    ∷ codes "layer 1 VK_LAYER_KHRONOS_validation /usr/share/vulkan/explicit_layer.d/v.json"
-    ∷ codes "part 1 threads VK_LAYER_KHRONOS_validation"
-    ∷ codes "part 2 lifetimes VK_LAYER_KHRONOS_validation"
-    ∷ codes "part 3 unique VK_LAYER_KHRONOS_validation"
-    ∷ codes "driver 1 /etc/vulkan/icd.d/a.json libvulkan_a.so"
-    ∷ []
-  ));
+      chain_line number (codes "ok layers=1 parts=3 drivers=1")
+      ∷ codes "layer 1 VK_LAYER_KHRONOS_validation /usr/share/vulkan/explicit_layer.d/v.json"
+      ∷ codes "part 1 threads VK_LAYER_KHRONOS_validation"
+      ∷ codes "part 2 lifetimes VK_LAYER_KHRONOS_validation"
+      ∷ codes "part 3 unique VK_LAYER_KHRONOS_validation"
+      ∷ codes "driver 1 /etc/vulkan/icd.d/a.json libvulkan_a.so"
+      ∷ []
+      ));
 }
 
 -- no driver
@@ -43,13 +45,14 @@ unguarded = record { drivers = 1; notes = []; outcome = λ payload. Refused code
 -- two drivers and no layers; a third driver's manifest has no version
 abbrev pub two_drivers : Setup
 two_drivers = record {
-  drivers = 2; notes = said (codes "note NoVersion /etc/vulkan/icd.d/c.json" ∷ []);
+  drivers = 2;
+  notes = said (codes "note NoVersion /etc/vulkan/icd.d/c.json" ∷ []);
   outcome = λ payload. Chain [] (λ number. said (
-    chain_line number (codes "ok layers=0 parts=0 drivers=2")
-    ∷ codes "driver 1 /etc/vulkan/icd.d/a.json libvulkan_a.so"
-    ∷ codes "driver 2 /etc/vulkan/icd.d/b.json /etc/vulkan/icd.d/./libb.so"
-    ∷ []
-  ));
+      chain_line number (codes "ok layers=0 parts=0 drivers=2")
+      ∷ codes "driver 1 /etc/vulkan/icd.d/a.json libvulkan_a.so"
+      ∷ codes "driver 2 /etc/vulkan/icd.d/b.json /etc/vulkan/icd.d/./libb.so"
+      ∷ []
+      ));
 }
 
 -- one driver below these parts; the chain's lines are left out

@@ -34,8 +34,8 @@ calls lines = flat_map (λ line. spelled_call (read_line line)) lines
 -- an instance, its physical device and a device
 abbrev pub started : List TraceEvent
 started = calls (
-  codes "b 1 vkCreateInstance = %1.1 VK_SUCCESS" ∷ codes "b 1 vkEnumeratePhysicalDevices %1.1 = %1.2 VK_SUCCESS" ∷ codes "b 1 vkCreateDevice %1.2 = %1.3 VK_SUCCESS" ∷ []
-)
+    codes "b 1 vkCreateInstance = %1.1 VK_SUCCESS" ∷ codes "b 1 vkEnumeratePhysicalDevices %1.1 = %1.2 VK_SUCCESS" ∷ codes "b 1 vkCreateDevice %1.2 = %1.3 VK_SUCCESS" ∷ []
+    )
 
 -- lines, each with its LF
 abbrev pub said : List (List ℕ) → List ℕ
@@ -70,13 +70,13 @@ driver_call driver c args count payload = record { driver = driver; cmd = c; arg
 -- two buffers, one of which is destroyed and the other bound to memory
 abbrev pub buffers_and_memory : List TraceEvent
 buffers_and_memory = started ++ calls (
-  codes "b 1 vkCreateBuffer %1.3 = %1.4 VK_SUCCESS"
-  ∷ codes "b 1 vkCreateBuffer %1.3 = %1.5 VK_SUCCESS"
-  ∷ codes "b 1 vkAllocateMemory %1.3 = %1.6 VK_SUCCESS"
-  ∷ codes "b 1 vkDestroyBuffer %1.3 %1.4 void"
-  ∷ codes "b 1 vkBindBufferMemory %1.3 %1.5 %1.6 VK_SUCCESS"
-  ∷ []
-)
+    codes "b 1 vkCreateBuffer %1.3 = %1.4 VK_SUCCESS"
+    ∷ codes "b 1 vkCreateBuffer %1.3 = %1.5 VK_SUCCESS"
+    ∷ codes "b 1 vkAllocateMemory %1.3 = %1.6 VK_SUCCESS"
+    ∷ codes "b 1 vkDestroyBuffer %1.3 %1.4 void"
+    ∷ codes "b 1 vkBindBufferMemory %1.3 %1.5 %1.6 VK_SUCCESS"
+    ∷ []
+    )
 
 -- a buffer that is destroyed
 abbrev pub buffer_destroyed : List TraceEvent

@@ -7,23 +7,21 @@ ghost use Rattle.replay_rows.specs.Setups.{device_start, lifetimes_above_threads
 pub fn no_driver_is_left()
     ensures { told no_driver (calls (codes "b 1 vkCreateInstance = %1.1 VK_SUCCESS"
         ∷ []))
-      ≡ said (codes "chain 1 no-driver"
+        ≡ said (codes "chain 1 no-driver"
         ∷ codes "ret 1 vkCreateInstance VK_ERROR_INCOMPATIBLE_DRIVER born=0"
         ∷ codes "end calls=1 skipped=1 reports=0"
         ∷ []) }
-{
-}
+{}
 
 /// A layer checks lifetimes with no unique part nearer the driver: its chain is refused.
 pub fn a_checking_part_without_a_unique_part()
     ensures { told unguarded (calls (codes "b 1 vkCreateInstance = %1.1 VK_SUCCESS : VK_LAYER_own_life"
         ∷ []))
-      ≡ said (codes "chain 1 unguarded VK_LAYER_own_life"
+        ≡ said (codes "chain 1 unguarded VK_LAYER_own_life"
         ∷ codes "ret 1 vkCreateInstance VK_ERROR_INITIALIZATION_FAILED born=0"
         ∷ codes "end calls=1 skipped=1 reports=0"
         ∷ []) }
-{
-}
+{}
 
 /// The threads part sees a call before the lifetimes part skips it: its use counts until it returns.
 pub fn a_threads_part_above_a_lifetimes_part()
@@ -36,7 +34,7 @@ pub fn a_threads_part_above_a_lifetimes_part()
         ∷ codes "r 1"
         ∷ codes "r 2"
         ∷ []))
-      ≡ said (validation_start
+        ≡ said (validation_start
         ++ codes "ret 4 vkCreateBuffer VK_SUCCESS born=1"
         ∷ codes "ret 5 vkDestroyBuffer void"
         ∷ codes "report 6 2 VUID-vkDestroyBuffer-buffer-parameter %1.4"
@@ -46,8 +44,7 @@ pub fn a_threads_part_above_a_lifetimes_part()
         ∷ codes "ret 7 vkDestroyBuffer void"
         ∷ codes "end calls=7 skipped=2 reports=3"
         ∷ []) }
-{
-}
+{}
 
 /// The threads part does not see a call that the lifetimes part above it skips.
 pub fn a_threads_part_below_a_lifetimes_part()
@@ -60,7 +57,7 @@ pub fn a_threads_part_below_a_lifetimes_part()
         ∷ codes "r 1"
         ∷ codes "r 2"
         ∷ []))
-      ≡ said (device_start
+        ≡ said (device_start
         ++ codes "ret 4 vkCreateBuffer VK_SUCCESS born=1"
         ∷ codes "ret 5 vkDestroyBuffer void"
         ∷ codes "report 6 1 VUID-vkDestroyBuffer-buffer-parameter %1.4"
@@ -69,8 +66,7 @@ pub fn a_threads_part_below_a_lifetimes_part()
         ∷ codes "ret 7 vkDestroyBuffer void"
         ∷ codes "end calls=7 skipped=2 reports=2"
         ∷ []) }
-{
-}
+{}
 
 /// Of two lifetimes parts the first reports, and the second does not see the call.
 pub fn two_lifetimes_parts()
@@ -79,15 +75,14 @@ pub fn two_lifetimes_parts()
         ∷ codes "b 1 vkDestroyBuffer %1.3 %1.4 void"
         ∷ codes "b 1 vkDestroyBuffer %1.3 %1.4 void"
         ∷ []))
-      ≡ said (device_start
+        ≡ said (device_start
         ++ codes "ret 4 vkCreateBuffer VK_SUCCESS born=1"
         ∷ codes "ret 5 vkDestroyBuffer void"
         ∷ codes "report 6 1 VUID-vkDestroyBuffer-buffer-parameter %1.4"
         ∷ codes "ret 6 vkDestroyBuffer void"
         ∷ codes "end calls=6 skipped=1 reports=1"
         ∷ []) }
-{
-}
+{}
 
 /// An instance fails at the driver, and a second one comes: each prints its chain, the first name is lost, and
 /// the parts of the second are in force.
@@ -99,7 +94,7 @@ pub fn an_instance_that_fails_first()
         ∷ codes "b 1 vkDestroySurfaceKHR %1.3 %1.4 void"
         ∷ codes "b 1 vkDestroySurfaceKHR %1.3 %1.4 void"
         ∷ []))
-      ≡ said (codes "chain 1 ok layers=1 parts=3 drivers=1"
+        ≡ said (codes "chain 1 ok layers=1 parts=3 drivers=1"
         ∷ codes "layer 1 VK_LAYER_KHRONOS_validation /usr/share/vulkan/explicit_layer.d/v.json"
         ∷ codes "part 1 threads VK_LAYER_KHRONOS_validation"
         ∷ codes "part 2 lifetimes VK_LAYER_KHRONOS_validation"
@@ -121,5 +116,4 @@ pub fn an_instance_that_fails_first()
         ∷ codes "ret 6 vkDestroySurfaceKHR void"
         ∷ codes "end calls=6 skipped=2 reports=2"
         ∷ []) }
-{
-}
+{}

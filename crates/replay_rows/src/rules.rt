@@ -10,16 +10,14 @@ ghost use Rattle.replay_rows.specs.Records.{buffer, device, known};
 /// A buffer has no device in common with a first argument that stands for nothing.
 pub fn a_first_argument_that_stands_for_nothing()
     ensures { failures_in known (λ o. true) cmd.DestroyBuffer ((Unborn ∷ []) ∷ (The buffer ∷ []) ∷ [])
-      ≡ failure 0 0 rule.Parameter 0 ∷ failure 1 0 rule.Parent 0 ∷ [] }
-{
-}
+        ≡ failure 0 0 rule.Parameter 0 ∷ failure 1 0 rule.Parent 0 ∷ [] }
+{}
 
 /// An object of which there is no record fails as an argument, and is not used.
 pub fn an_object_without_a_record()
     ensures fails { failures_in [] (λ o. false) cmd.DestroyBuffer ((The device ∷ []) ∷ (The buffer ∷ []) ∷ [])
-      ≡ failure 0 0 rule.Parameter 0 ∷ failure 1 0 rule.Parameter 0 ∷ [] }
+        ≡ failure 0 0 rule.Parameter 0 ∷ failure 1 0 rule.Parameter 0 ∷ [] }
     ensures unused { uses_in [] (λ o. false) cmd.DestroyBuffer ((The device ∷ []) ∷ (The buffer ∷ []) ∷ []) ≡ [] }
     ensures used { uses_in known (λ o. false) cmd.DestroyBuffer ((The device ∷ []) ∷ (The buffer ∷ []) ∷ [])
-      ≡ use_of 0 0 false device ∷ use_of 1 0 true buffer ∷ [] }
-{
-}
+        ≡ use_of 0 0 false device ∷ use_of 1 0 true buffer ∷ [] }
+{}

@@ -14,7 +14,7 @@ pub fn one_queue_by_two_names()
         ∷ codes "r 1"
         ∷ codes "r 2"
         ∷ []))
-      ≡ said (validation_start
+        ≡ said (validation_start
         ++ codes "ret 4 vkGetDeviceQueue void born=1"
         ∷ codes "ret 5 vkGetDeviceQueue void born=1"
         ∷ codes "report 7 1 VKR-vkQueueSubmit-queue-overlap %1.5 with=6"
@@ -22,8 +22,7 @@ pub fn one_queue_by_two_names()
         ∷ codes "ret 7 vkQueueSubmit VK_SUCCESS"
         ∷ codes "end calls=7 skipped=0 reports=1"
         ∷ []) }
-{
-}
+{}
 
 /// A command pool is destroyed by another thread while it allocates: the buffer is lost, and the loader reports
 /// its use.
@@ -38,7 +37,7 @@ pub fn a_pool_destroyed_while_it_allocates()
         ∷ [])
         ++ calls (codes "b 1 vkBeginCommandBuffer %1.5 VK_SUCCESS"
         ∷ []))
-      ≡ said (validation_start
+        ≡ said (validation_start
         ++ codes "ret 4 vkCreateCommandPool VK_SUCCESS born=1"
         ∷ codes "report 6 1 VKR-vkDestroyCommandPool-commandPool-overlap %1.4 with=5"
         ∷ codes "ret 6 vkDestroyCommandPool void"
@@ -47,8 +46,7 @@ pub fn a_pool_destroyed_while_it_allocates()
         ∷ codes "ret 7 vkBeginCommandBuffer VK_ERROR_VALIDATION_FAILED_EXT"
         ∷ codes "end calls=7 skipped=1 reports=2"
         ∷ []) }
-{
-}
+{}
 
 /// Two command buffers of one pool are recorded at once: each use writes the pool.
 pub fn two_buffers_of_one_pool()
@@ -61,7 +59,7 @@ pub fn two_buffers_of_one_pool()
         ∷ codes "r 1"
         ∷ codes "r 2"
         ∷ []))
-      ≡ said (validation_start
+        ≡ said (validation_start
         ++ codes "ret 4 vkCreateCommandPool VK_SUCCESS born=1"
         ∷ codes "ret 5 vkAllocateCommandBuffers VK_SUCCESS born=2"
         ∷ codes "report 7 1 VKR-vkBeginCommandBuffer-commandBuffer-overlap %1.6 with=6"
@@ -69,8 +67,7 @@ pub fn two_buffers_of_one_pool()
         ∷ codes "ret 7 vkBeginCommandBuffer VK_SUCCESS"
         ∷ codes "end calls=7 skipped=0 reports=1"
         ∷ []) }
-{
-}
+{}
 
 /// A reset of a descriptor pool writes its sets, one of which another thread updates.
 pub fn the_sets_of_a_reset_pool()
@@ -84,7 +81,7 @@ pub fn the_sets_of_a_reset_pool()
         ∷ codes "r 1"
         ∷ codes "r 2"
         ∷ []))
-      ≡ said (validation_start
+        ≡ said (validation_start
         ++ codes "ret 4 vkCreateDescriptorPool VK_SUCCESS born=1"
         ∷ codes "ret 5 vkCreateDescriptorSetLayout VK_SUCCESS born=1"
         ∷ codes "ret 6 vkAllocateDescriptorSets VK_SUCCESS born=1"
@@ -93,8 +90,7 @@ pub fn the_sets_of_a_reset_pool()
         ∷ codes "ret 8 vkResetDescriptorPool VK_SUCCESS"
         ∷ codes "end calls=8 skipped=0 reports=1"
         ∷ []) }
-{
-}
+{}
 
 /// A set is freed through another pool: the lifetimes part skips that call, so the set lives, but for the threads
 /// part above it has ended, and the reset of its pool does not write it there.
@@ -111,7 +107,7 @@ pub fn a_free_that_a_place_below_skips()
         ∷ codes "r 1"
         ∷ codes "r 2"
         ∷ []))
-      ≡ said (validation_start
+        ≡ said (validation_start
         ++ codes "ret 4 vkCreateDescriptorPool VK_SUCCESS born=1"
         ∷ codes "ret 5 vkCreateDescriptorPool VK_SUCCESS born=1"
         ∷ codes "ret 6 vkCreateDescriptorSetLayout VK_SUCCESS born=1"
@@ -122,8 +118,7 @@ pub fn a_free_that_a_place_below_skips()
         ∷ codes "ret 10 vkResetDescriptorPool VK_SUCCESS"
         ∷ codes "end calls=10 skipped=1 reports=1"
         ∷ []) }
-{
-}
+{}
 
 /// A wait for an idle device writes its queues, to one of which another thread submits.
 pub fn the_queues_of_an_idle_device()
@@ -135,15 +130,14 @@ pub fn the_queues_of_an_idle_device()
         ∷ codes "r 1"
         ∷ codes "r 2"
         ∷ []))
-      ≡ said (validation_start
+        ≡ said (validation_start
         ++ codes "ret 4 vkGetDeviceQueue void born=1"
         ∷ codes "report 6 1 VKR-vkDeviceWaitIdle-device-overlap %1.3 with=5"
         ∷ codes "ret 5 vkQueueSubmit VK_SUCCESS"
         ∷ codes "ret 6 vkDeviceWaitIdle VK_SUCCESS"
         ∷ codes "end calls=6 skipped=0 reports=1"
         ∷ []) }
-{
-}
+{}
 
 /// Of three queues two have one payload: these are one object, and the third is another.
 pub fn queues_by_their_payload()
@@ -159,7 +153,7 @@ pub fn queues_by_their_payload()
         ∷ codes "r 2"
         ∷ codes "r 3"
         ∷ []))
-      ≡ said (validation_start
+        ≡ said (validation_start
         ++ codes "ret 4 vkGetDeviceQueue void born=1"
         ∷ codes "ret 5 vkGetDeviceQueue void born=1"
         ∷ codes "ret 6 vkGetDeviceQueue void born=1"
@@ -169,8 +163,7 @@ pub fn queues_by_their_payload()
         ∷ codes "ret 9 vkQueueSubmit VK_SUCCESS"
         ∷ codes "end calls=9 skipped=0 reports=1"
         ∷ []) }
-{
-}
+{}
 
 /// The images of a swapchain are known by their place, also when an incomplete answer gives the first again; that
 /// all three calls read one memory is no conflict.
@@ -189,7 +182,7 @@ pub fn images_by_their_place()
         ∷ codes "r 2"
         ∷ codes "r 3"
         ∷ []))
-      ≡ said (device_start
+        ≡ said (device_start
         ++ codes "ret 4 vkCreateXcbSurfaceKHR VK_SUCCESS born=1"
         ∷ codes "ret 5 vkCreateSwapchainKHR VK_SUCCESS born=1"
         ∷ codes "ret 6 vkGetSwapchainImagesKHR VK_SUCCESS born=2"
@@ -201,8 +194,7 @@ pub fn images_by_their_place()
         ∷ codes "ret 11 vkBindImageMemory VK_SUCCESS"
         ∷ codes "end calls=11 skipped=0 reports=1"
         ∷ []) }
-{
-}
+{}
 
 /// Two threads read a buffer that a third destroys: the conflict names the call that began first.
 pub fn the_least_conflicting_call()
@@ -216,7 +208,7 @@ pub fn the_least_conflicting_call()
         ∷ codes "r 2"
         ∷ codes "r 3"
         ∷ []))
-      ≡ said (validation_start
+        ≡ said (validation_start
         ++ codes "ret 4 vkCreateBuffer VK_SUCCESS born=1"
         ∷ codes "report 7 1 VKR-vkDestroyBuffer-buffer-overlap %1.4 with=5"
         ∷ codes "ret 6 vkGetBufferMemoryRequirements void"
@@ -224,5 +216,4 @@ pub fn the_least_conflicting_call()
         ∷ codes "ret 5 vkGetBufferMemoryRequirements void"
         ∷ codes "end calls=7 skipped=0 reports=1"
         ∷ []) }
-{
-}
+{}
