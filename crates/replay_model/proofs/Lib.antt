@@ -1,3 +1,4 @@
 pub mod OpenCalls
 pub mod Alike
 pub mod LessLemmas
+pub mod Exchanges

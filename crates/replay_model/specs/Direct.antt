@@ -142,6 +142,11 @@ exchanges_at s past (Begin e) replies =
     let o = (begun_of s past e).opened in begin_exchanges (valued past (before_call o replies)) o (own_replies o replies)
 exchanges_at s past (Return thread) replies = []
 
+-- how many driver calls one event makes after such a past
+abbrev pub sends_at : Setup → Past → TraceEvent → ℕ
+sends_at s past (Begin e) = length (begun_of s past e).opened.drivers
+sends_at s past (Return thread) = 0
+
 -- how many driver calls there are
 abbrev pub sends_in : Past → ℕ
 sends_in [] = 0

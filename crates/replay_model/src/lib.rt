@@ -3,13 +3,15 @@
 //! Leaves to others how a trace is read, how a chain is built, and which rules hold of objects.
 #![tactic(auto)]
 
-ghost use Rattle.std.specs.Prelude.{◌≡◌, List};
+ghost use Rattle.std.specs.Prelude.{◌≡◌, ◌++◌, List, length, reverse};
+ghost use Rattle.std.specs.List.{zip};
 ghost use Rattle.command_tables.specs.Calls.{ReplyContent};
 ghost use Rattle.trace_format.specs.Content.{TraceEvent};
 ghost use Rattle.replay_model.specs.Setup.{Setup};
-ghost use Rattle.replay_model.specs.Judged.{judged};
-ghost use Rattle.replay_model.specs.Direct.{direct, exchanges};
-ghost use Rattle.replay_model.specs.Text.{skipped_in};
+ghost use Rattle.replay_model.specs.Past.{Past};
+ghost use Rattle.replay_model.specs.Judged.{judge, judged};
+ghost use Rattle.replay_model.specs.Direct.{direct, exchanges, exchanges_at, sends_at, sends_in};
+ghost use Rattle.replay_model.specs.Text.{lines, lines_at, skipped_in};
 ghost use Rattle.replay_model.specs.Less.{less, no_layers, BeginsIdle};
 
 use object_model::Object;
@@ -58,3 +60,18 @@ pub fn skipped_calls_are_not_sent()
     ensures skipped { (s : Setup) (events : List TraceEvent) → BeginsIdle s events →
         skipped_in (judged (no_layers s) (less (judged s events))) ≡ 0 }
 {}
+
+/// One event more adds its lines, and its driver calls with their replies, where it has one reply for each of them.
+pub fn what_one_event_adds()
+    ensures lines { (s : Setup) (past : Past) (e : TraceEvent) → lines s (judge s past e) ≡ lines s past ++ lines_at s past e }
+    ensures exchanges { (s : Setup) (past : Past) (e : TraceEvent) (more before : List ReplyContent) → length more ≡ sends_at s past e →
+        exchanges (judge s past e) (more ++ before) ≡ exchanges past before ++ exchanges_at s past e (more ++ before) }
+{
+}
+
+/// With one reply for each driver call, each call stands beside its reply, in their order.
+pub fn one_reply_for_each_driver_call()
+    ensures { (past : Past) (replies : List ReplyContent) → length replies ≡ sends_in past →
+        exchanges past replies ≡ zip (direct past replies) (reverse replies) }
+{
+}
