@@ -3,3 +3,4 @@ pub mod History
 pub mod Rules
 pub mod Uses
 pub mod Renaming
+pub mod Samples

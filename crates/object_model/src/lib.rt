@@ -3,6 +3,8 @@
 //! Leaves to others what names and traces are, and which place of a chain is given which history.
 #![tactic(auto)]
 
+mod samples;
+
 ghost use Rattle.std.specs.Prelude.{◌≡◌, Bool, true, not, ◌&&◌, map};
 ghost use Rattle.object_model.specs.History.{History, Call, alive, is_born, is_ended, children};
 ghost use Rattle.object_model.specs.Renaming.{renamed, renamed_call, renamed_use, IsOneToOne, KnowsAll, KnowsArgs};

@@ -1,12 +1,12 @@
 -- Driver calls with their replies: what one event adds, and that they are the calls beside the replies.
-use Rattle.std.proofs.Common.{◌≡◌, ℕ, suc, ◌+◌, ◌-◌, Option, Some, None, List, [], ◌∷◌, ◌++◌, map, length, reverse, take, drop, refl, sym, ◌∙◌, ap, arith}
+use Rattle.std.proofs.Common.{◌≡◌, ℕ, ◌+◌, Option, Some, None, List, [], ◌∷◌, ◌++◌, length, reverse, take, drop, refl, sym, ◌∙◌, ap, arith}
 use Rattle.std.specs.Prelude.{find}
 use Rattle.std.specs.List.{zip}
 use Rattle.std.proofs.lemmas.List.{length-map, length-drop, length-append, length-reverse, reverse-append, take-append-drop, drop_at, append-nil}
-use Rattle.command_tables.specs.Calls.{DriverCallContent, ReplyContent}
-use Rattle.trace_format.specs.Content.{BeginEvent, TraceEvent, Begin, Return}
+use Rattle.command_tables.specs.Calls.{ReplyContent}
+use Rattle.trace_format.specs.Content.{TraceEvent, Begin, Return}
 use Rattle.replay_model.specs.Setup.{Setup}
-use Rattle.replay_model.specs.Past.{Opened, Report, Began, Returned, Past, is_of, open_calls}
+use Rattle.replay_model.specs.Past.{Opened, Began, Returned, Past, is_of, open_calls}
 use Rattle.replay_model.specs.Judged.{begun_of, returned_by, judge}
 use Rattle.replay_model.specs.Direct.{before_call, own_replies, valued, driver_call, driver_calls, begin_exchanges, direct, exchanges, exchanges_at, sends_at, sends_in}
 use Rattle.replay_model.specs.Text.{lines, lines_at}

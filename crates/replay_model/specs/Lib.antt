@@ -6,3 +6,4 @@ pub mod Judged
 pub mod Direct
 pub mod Text
 pub mod Less
+pub mod Samples

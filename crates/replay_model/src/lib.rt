@@ -3,6 +3,8 @@
 //! Leaves to others how a trace is read, how a chain is built, and which rules hold of objects.
 #![tactic(auto)]
 
+mod samples;
+
 ghost use Rattle.std.specs.Prelude.{◌≡◌, ◌++◌, List, length, reverse};
 ghost use Rattle.std.specs.List.{zip};
 ghost use Rattle.command_tables.specs.Calls.{ReplyContent};
@@ -66,12 +68,10 @@ pub fn what_one_event_adds()
     ensures lines { (s : Setup) (past : Past) (e : TraceEvent) → lines s (judge s past e) ≡ lines s past ++ lines_at s past e }
     ensures exchanges { (s : Setup) (past : Past) (e : TraceEvent) (more before : List ReplyContent) → length more ≡ sends_at s past e →
         exchanges (judge s past e) (more ++ before) ≡ exchanges past before ++ exchanges_at s past e (more ++ before) }
-{
-}
+{}
 
 /// With one reply for each driver call, each call stands beside its reply, in their order.
 pub fn one_reply_for_each_driver_call()
     ensures { (past : Past) (replies : List ReplyContent) → length replies ≡ sends_in past →
         exchanges past replies ≡ zip (direct past replies) (reverse replies) }
-{
-}
+{}

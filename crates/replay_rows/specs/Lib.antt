@@ -1,3 +1,2 @@
 pub mod Traces
 pub mod Setups
-pub mod Records

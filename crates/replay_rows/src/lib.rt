@@ -6,5 +6,4 @@
 mod chains;
 mod drivers;
 mod objects;
-mod rules;
 mod threads;
