@@ -1,8 +1,7 @@
 -- A line is read just as its event is spelled.
-use Rattle.std.proofs.Common.{◌≡◌, ℕ, Bool, true, false, ◌&&◌, cond, Option, Some, None, Result, Ok, Err, is_some, List, [], ◌∷◌, ◌++◌, map, length, refl, sym, ap, ◌∙◌, subst, codes, decimal, lit<, append_assoc}
-use Rattle.std.specs.Bool.{⊤}
+use Rattle.std.proofs.Common.{◌≡◌, ◌<◌, ◌↔◌, ℕ, zero, suc, Bool, true, false, cond, Option, Some, None, Result, Ok, Err, IsErr, is_some, Contains, get_or, arith, List, [], ◌∷◌, ◌++◌, map, length, refl, sym, ap, ◌∙◌, subst, codes, decimal, lit<}
 use Rattle.std.specs.Option.{ok_or}
-use Rattle.std.specs.List.{AllByRecursion, join_with_byte, list_all}
+use Rattle.std.specs.List.{AllByRecursion, list_all}
 use Rattle.command_tables.specs.declared.types.CommandId.{CommandId}
 use Rattle.command_tables.specs.declared.types.Code.{Code}
 use Rattle.command_tables.specs.Table.{ParamSpec, row_of}
@@ -39,7 +38,8 @@ unfolding ending_at
 ending_complete b v =
     rw (
       results_complete (row_of b.cmd).effect b.results (codes " " ++ (code_text b.code ++ payload_text b.payload)) v.results v.names refl (code_is_no_result b.code (payload_text b.payload)),
-      code_at_complete (row_of b.cmd) b.code (payload_text b.payload) v.code (payload_at_end b.payload), payload_complete b.payload
+      code_at_complete (row_of b.cmd) b.code (payload_text b.payload) v.code (payload_at_end b.payload),
+      payload_complete b.payload,
     ) refl
 
 ending_at_end : (ns : List Name) (rest : List ℕ) → AtEnd 32 (results_text ns ++ (codes " " ++ rest))
@@ -54,8 +54,9 @@ tail_complete : (b : BeginEvent) → IsBegin b → tail_at b.thread b.cmd (tail_
 unfolding tail_at
 tail_complete b v =
     rw (
-      words_complete (row_of b.cmd).params b.args (ending_text b) v.args (ending_at_end b.results (code_text b.code ++ payload_text b.payload)), args_in_complete (row_of b.cmd).params b.args v.args v.first,
-      ending_complete b v
+      words_complete (row_of b.cmd).params b.args (ending_text b) v.args (ending_at_end b.results (code_text b.code ++ payload_text b.payload)),
+      args_in_complete (row_of b.cmd).params b.args v.args v.first,
+      ending_complete b v,
     ) refl
 
 begin_complete : (b : BeginEvent) → IsBegin b → begin_at (decimal b.thread ++ (codes " " ++ ((row_of b.cmd).name ++ tail_text b))) ≡ Ok (Begin b)
@@ -65,9 +66,13 @@ begin_complete b v =
     let rest : List ℕ = codes " " ++ ((row_of b.cmd).name ++ tail_text b) in
     let end : AtEnd 32 (tail_text b) = args_end b.args (ending_text b) (ending_at_end b.results (code_text b.code ++ payload_text b.payload)) in
     rw (
-      until_append 32 (decimal b.thread) rest thread refl, from_append 32 (decimal b.thread) rest thread refl, (number_reader 1024 (lit< tt)).complete b.thread v.thread,
-      until_append 32 (row_of b.cmd).name (tail_text b) (command_lacks_space b.cmd) end, from_append 32 (row_of b.cmd).name (tail_text b) (command_lacks_space b.cmd) end, command_complete b.cmd,
-      tail_complete b v
+      until_append 32 (decimal b.thread) rest thread refl,
+      from_append 32 (decimal b.thread) rest thread refl,
+      (number_reader 1024 (lit< tt)).complete b.thread v.thread,
+      until_append 32 (row_of b.cmd).name (tail_text b) (command_lacks_space b.cmd) end,
+      from_append 32 (row_of b.cmd).name (tail_text b) (command_lacks_space b.cmd) end,
+      command_complete b.cmd,
+      tail_complete b v,
     ) refl
 
 return_complete : (thread : ℕ) → IsEvent (Return thread) → return_at (decimal thread) ≡ Ok (Return thread)
@@ -100,16 +105,21 @@ tail_prints : (b : BeginEvent) → IsBegin b → Each is_printable (tail_text b)
 tail_prints b v =
     each_append is_printable (args_text b.args) (ending_text b) (args_print (row_of b.cmd).params b.args v.args)
     (each_append is_printable (results_text b.results) (codes " " ++ (code_text b.code ++ payload_text b.payload)) (results_print b.results v.names)
-     (refl, each_append is_printable (code_text b.code) (payload_text b.payload) (code_prints b.code) (payload_prints b.payload v.payload)))
+    (refl, each_append is_printable (code_text b.code) (payload_text b.payload) (code_prints b.code) (payload_prints b.payload v.payload)))
 
 thread_prints : (thread : ℕ) → IsEvent (Return thread) → Each is_printable (decimal thread)
 thread_prints thread v = number_each is_printable digit_prints 1024 thread (lit< tt) v
 
 pub spelling_prints : (e : TraceEvent) → IsEvent e → Each is_printable (spelling e)
 spelling_prints (Return thread) v = (refl, (refl, thread_prints thread v))
-spelling_prints (Begin b) v =
-    (refl, (refl, each_append is_printable (decimal b.thread) (codes " " ++ ((row_of b.cmd).name ++ tail_text b)) (thread_prints b.thread v.thread)
-     (refl, each_append is_printable (row_of b.cmd).name (tail_text b) (command_prints b.cmd) (tail_prints b v))))
+spelling_prints (Begin b) v = (
+  refl,
+  (
+    refl,
+    each_append is_printable (decimal b.thread) (codes " " ++ ((row_of b.cmd).name ++ tail_text b)) (thread_prints b.thread v.thread)
+        (refl, each_append is_printable (row_of b.cmd).name (tail_text b) (command_prints b.cmd) (tail_prints b v)),
+  ),
+)
 
 by_letter_complete : (e : TraceEvent) → IsEvent e → by_letter (after (codes "b ") (spelling e)) (after (codes "r ") (spelling e)) ≡ Ok e
 by_letter_complete (Return thread) v = return_complete thread v
@@ -139,14 +149,14 @@ ending_read : (thread : ℕ) (cmd : CommandId) (args : List Arg) (bytes : List �
 unfolding ending_at
 ending_read thread cmd args bytes e h =
     let r = went_on (results_at (row_of cmd).effect bytes) fault.Results
-      (λ (results : List Name × List ℕ). ok_or (code_at (row_of cmd) results.1) fault.Code
-        >>= (λ (code : Option Code × List ℕ). ok_or (payload_at code.1) fault.Code
-          >>= (λ (payload : List ℕ). Ok (Begin (record { thread = thread; cmd = cmd; args = args; results = results.0; code = code.0; payload = payload })))))
-      e h in
+    (λ (results : List Name × List ℕ). ok_or (code_at (row_of cmd) results.1) fault.Code
+    >>= (λ (code : Option Code × List ℕ). ok_or (payload_at code.1) fault.Code
+    >>= (λ (payload : List ℕ). Ok (Begin (record { thread = thread; cmd = cmd; args = args; results = results.0; code = code.0; payload = payload })))))
+    e h in
     let c = went_on (code_at (row_of cmd) r.value.1) fault.Code
-      (λ (code : Option Code × List ℕ). ok_or (payload_at code.1) fault.Code
-        >>= (λ (payload : List ℕ). Ok (Begin (record { thread = thread; cmd = cmd; args = args; results = r.value.0; code = code.0; payload = payload }))))
-      e r.gave in
+    (λ (code : Option Code × List ℕ). ok_or (payload_at code.1) fault.Code
+    >>= (λ (payload : List ℕ). Ok (Begin (record { thread = thread; cmd = cmd; args = args; results = r.value.0; code = code.0; payload = payload }))))
+    e r.gave in
     let p = went_on (payload_at c.value.1) fault.Code (λ (payload : List ℕ). Ok (Begin (record { thread = thread; cmd = cmd; args = args; results = r.value.0; code = c.value.0; payload = payload }))) e c.gave in
     let results = results_read (row_of cmd).effect bytes r.value r.read in
     let code = code_read (row_of cmd) r.value.1 c.value c.read in
@@ -173,18 +183,18 @@ begin_read : (bytes : List ℕ) (e : TraceEvent) → begin_at bytes ≡ Ok e →
 unfolding begin_at tail_at
 begin_read bytes e h =
     let t = went_on (thread_of (until 32 bytes)) fault.Thread
-      (λ thread. ok_or (after (codes " ") (from 32 bytes)) fault.Thread >>= (λ rest. ok_or (command_of (until 32 rest)) fault.Command >>= (λ cmd. tail_at thread cmd (from 32 rest)))) e h in
+    (λ thread. ok_or (after (codes " ") (from 32 bytes)) fault.Thread >>= (λ rest. ok_or (command_of (until 32 rest)) fault.Command >>= (λ cmd. tail_at thread cmd (from 32 rest)))) e h in
     let s = went_on (after (codes " ") (from 32 bytes)) fault.Thread (λ rest. ok_or (command_of (until 32 rest)) fault.Command >>= (λ cmd. tail_at t.value cmd (from 32 rest))) e t.gave in
     let c = went_on (command_of (until 32 s.value)) fault.Command (λ cmd. tail_at t.value cmd (from 32 s.value)) e s.gave in
     let w = went_on (words_at (row_of c.value).params (from 32 s.value)) fault.Parameter
-      (λ (words : List (List ℕ) × List ℕ). ok_or (args_in (row_of c.value).params words.0) fault.Argument >>= (λ args. ending_at t.value c.value args words.1)) e c.gave in
+    (λ (words : List (List ℕ) × List ℕ). ok_or (args_in (row_of c.value).params words.0) fault.Argument >>= (λ args. ending_at t.value c.value args words.1)) e c.gave in
     let a = went_on (args_in (row_of c.value).params w.value.0) fault.Argument (λ args. ending_at t.value c.value args w.value.1) e w.gave in
     let thread = (number_reader 1024 (lit< tt)).sound (until 32 bytes) t.value t.read in
     let args = args_read (row_of c.value).params (from 32 s.value) w.value a.value w.read a.read in
     let end = ending_read t.value c.value a.value w.value.1 e a.gave in
     let tail : from 32 s.value ≡ args_text a.value ++ (results_text end.results ++ (codes " " ++ (code_text end.code ++ payload_text end.payload))) = args.text ∙ ap (λ r. args_text a.value ++ r) end.text in
     let rest : s.value ≡ (row_of c.value).name ++ (args_text a.value ++ (results_text end.results ++ (codes " " ++ (code_text end.code ++ payload_text end.payload)))) =
-      until_from 32 s.value ∙ (ap (λ r. r ++ from 32 s.value) (command_sound (until 32 s.value) c.value c.read) ∙ ap (λ r. (row_of c.value).name ++ r) tail) in
+    until_from 32 s.value ∙ (ap (λ r. r ++ from 32 s.value) (command_sound (until 32 s.value) c.value c.read) ∙ ap (λ r. (row_of c.value).name ++ r) tail) in
     record {
       begin = record { thread = t.value; cmd = c.value; args = a.value; results = end.results; code = end.code; payload = end.payload };
       is = end.is;
@@ -229,6 +239,45 @@ spelled_read line e h = go (list_all is_printable line) (each is_printable line)
     letter (Some rest) r prints is other k = begin_spelled line rest e prints is k
     letter None (Some rest) prints other is k = return_spelled line rest e is k
     letter None None prints other none k = cc
+
     go : (t : Bool) → (t ≡ true → Each is_printable line) → cond t (by_letter (after (codes "b ") line) (after (codes "r ") line)) (Err fault.NotAscii) ≡ Ok e → Spells line e
     go true prints k = letter (after (codes "b ") line) (after (codes "r ") line) (prints refl) refl refl k
     go false prints k = cc
+
+-- ---- laws
+
+-- what is read is no fault
+no_fault : (r : Result TraceEvent TraceFault) (e : TraceEvent) → r ≡ Ok e → IsErr r → ⊥
+no_fault (Ok x) e h f = cc
+no_fault (Err x) e h f = cc
+
+-- a line that has a fault spells nothing
+faultless : (line : List ℕ) → IsErr (read_line line) → (e : TraceEvent) → Spells line e → ⊥
+faultless line h e s = no_fault (read_line line) e (read_spelled line e s) h
+
+-- a line that spells nothing has a fault
+faulty : (line : List ℕ) → ((e : TraceEvent) → Spells line e → ⊥) → IsErr (read_line line)
+faulty line none = go (read_line line) (λ e h. none e (spelled_read line e h))
+  where
+    go : (r : Result TraceEvent TraceFault) → ((e : TraceEvent) → r ≡ Ok e → ⊥) → IsErr r
+    go (Ok e) h = absurd (h e refl)
+    go (Err e) h = refl
+
+pub faults_agree : (line : List ℕ) → IsErr (read_line line) ↔ ((e : TraceEvent) → Spells line e → ⊥)
+faults_agree line = (faultless line, faulty line)
+
+pub one_event : (line : List ℕ) (e other : TraceEvent) → Spells line e → Spells line other → e ≡ other
+one_event line e other s t = let a = read_spelled line e s in let b = read_spelled line other t in cc
+
+-- a byte among others passes their test
+each_at : (p : ℕ → Bool) (bytes : List ℕ) (k x : ℕ) → Each p bytes → k < length bytes → p (get_or bytes k x) ≡ true
+each_at p [] k x h l = absurd (omega arith)
+each_at p (b ∷ bytes) zero x h l = h.0
+each_at p (b ∷ bytes) (suc k) x h l = let m : k < length bytes = omega arith in each_at p bytes k x h.1 m
+
+pub no_line_feed : (line : List ℕ) (e : TraceEvent) → Spells line e → Contains line 10 → ⊥
+no_line_feed line e s has =
+    let prints : Each is_printable line = subst (λ l. Each is_printable l) (sym s.text) (spelling_prints e s.event) in
+    let at : is_printable (get_or line has.0 10) ≡ true = each_at is_printable line has.0 10 prints has.1 in
+    let ten : is_printable 10 ≡ true = rw has.2 at at in
+    cc

@@ -1,8 +1,7 @@
 -- Lists of places, arguments and names are read just as they are spelled.
-use Rattle.std.proofs.Common.{◌≡◌, ℕ, ◌+◌, ◌==◌, ◌<◌, decimal, nat_le, Bool, true, false, not, ◌&&◌, cond, ◌⊎◌, inl, inr, Option, Some, None, is_some, IsSome, List, [], ◌∷◌, ◌++◌, map, length, refl, sym, ap, ◌∙◌, arith, subst, codes, lit<, append_assoc, eqb-true}
-use Rattle.std.specs.Bool.{⊤}
+use Rattle.std.proofs.Common.{◌≡◌, ℕ, ◌==◌, ◌<◌, decimal, nat_le, Bool, true, false, not, ◌&&◌, cond, ◌⊎◌, inl, inr, Option, Some, None, is_some, IsSome, List, [], ◌∷◌, ◌++◌, map, length, refl, sym, ap, ◌∙◌, arith, subst, codes, lit<, eqb-true}
 use Rattle.std.specs.Option.{option_map}
-use Rattle.std.specs.List.{AllByRecursion, join_with_byte, list_all, onto_first, slice_split}
+use Rattle.std.specs.List.{AllByRecursion, join_with_byte, list_all, onto_first}
 use Rattle.std.specs.Str.{bytes_eq}
 use Rattle.std.proofs.lemmas.Bool.{and_parts, and_from}
 use Rattle.std.proofs.lemmas.List.Splits.{join_with_byte-slice_split}
@@ -10,11 +9,11 @@ use Rattle.std.proofs.lemmas.Slice.Eq.{bytes_eq-Decides}
 use Rattle.command_tables.specs.Table.{ParamSpec}
 use Rattle.trace_format.specs.declared.event.Name.{Name}
 use Rattle.trace_format.specs.Content.{Arg}
-use Rattle.trace_format.specs.Grammar.{FitParams, HasFirst, HasForm, IsName, IsOne, arg_text, name_text, one_text}
-use Rattle.trace_format.specs.Words.{after, all_of, and_then, arg_of, args_of, closed, from, is_nonempty, list_in, list_of, one_of, only_if, pieces, places_of, single, until}
+use Rattle.trace_format.specs.Grammar.{FitParams, HasFirst, HasForm, IsOne, arg_text, one_text}
+use Rattle.trace_format.specs.Words.{after, all_of, arg_of, args_of, closed, from, is_nonempty, list_in, list_of, one_of, pieces, places_of, single, until}
 use Rattle.trace_format.specs.Reading.{has_first}
-use Rattle.trace_format.proofs.Texts.{AtEnd, Each, Reads, after_is, all_complete, all_sound, each, each_append, from_append, is_not, mapped, passed, until_append, until_from, went, were}
-use Rattle.trace_format.proofs.Names.{name_lacks, name_reader, one_lacks, one_reader}
+use Rattle.trace_format.proofs.Texts.{Each, after_is, all_complete, all_sound, each, each_append, from_append, is_not, mapped, passed, until_append, until_from, went, were}
+use Rattle.trace_format.proofs.Names.{one_lacks, one_reader}
 
 -- ---- pieces between commas
 
@@ -74,10 +73,10 @@ places_complete : (os : List (Option Name)) → AllByRecursion IsOne os → plac
 places_complete [] v = refl
 places_complete (None ∷ os) v =
     places_of_joined 110 (codes "ull") (map one_text os)
-      ∙ (ap (all_of one_of) (pieces_join (one_text None) (map one_text os) (places_lack 44 (inl (lit< tt)) refl refl (each (is_not 44) (codes "null") refl) (None ∷ os) v)) ∙ all_complete one_reader (None ∷ os) v)
+    ∙ (ap (all_of one_of) (pieces_join (one_text None) (map one_text os) (places_lack 44 (inl (lit< tt)) refl refl (each (is_not 44) (codes "null") refl) (None ∷ os) v)) ∙ all_complete one_reader (None ∷ os) v)
 places_complete (Some n ∷ os) v =
     places_of_joined 37 (decimal n.thread ++ (codes "." ++ decimal n.number)) (map one_text os)
-      ∙ (ap (all_of one_of) (pieces_join (one_text (Some n)) (map one_text os) (places_lack 44 (inl (lit< tt)) refl refl (each (is_not 44) (codes "null") refl) (Some n ∷ os) v)) ∙ all_complete one_reader (Some n ∷ os) v)
+    ∙ (ap (all_of one_of) (pieces_join (one_text (Some n)) (map one_text os) (places_lack 44 (inl (lit< tt)) refl refl (each (is_not 44) (codes "null") refl) (Some n ∷ os) v)) ∙ all_complete one_reader (Some n ∷ os) v)
 
 places_sound : (bytes : List ℕ) (os : List (Option Name)) → places_of bytes ≡ Some os → AllByRecursion IsOne os × (bytes ≡ join_with_byte 44 (map one_text os))
 places_sound [] os h = let e : [] ≡ os = cc in subst (λ v. AllByRecursion IsOne v × ([] ≡ join_with_byte 44 (map one_text v))) e (tt, refl)
@@ -103,7 +102,7 @@ list_sound w a h =
     let s = places_sound (until 93 open_.value) places.value places.read in
     let end : from 93 open_.value ≡ codes "]" = (bytes_eq-Decides (from 93 open_.value) (codes "]")).0 parts.0 in
     let text : w ≡ codes "[" ++ (join_with_byte 44 (map one_text places.value) ++ codes "]") =
-      after_is (codes "[") w open_.value open_.read ∙ ap (λ r. 91 ∷ r) (until_from 93 open_.value ∙ (ap (λ r. r ++ from 93 open_.value) s.1 ∙ ap (λ r. join_with_byte 44 (map one_text places.value) ++ r) end)) in
+    after_is (codes "[") w open_.value open_.read ∙ ap (λ r. 91 ∷ r) (until_from 93 open_.value ∙ (ap (λ r. r ++ from 93 open_.value) s.1 ∙ ap (λ r. join_with_byte 44 (map one_text places.value) ++ r) end)) in
     subst (λ v. HasForm true v × (w ≡ arg_text v)) shut.1 ((refl, parts.1, s.0), text)
 
 -- a list of one
@@ -168,7 +167,7 @@ arg_nonempty true a v = ap (λ m. is_nonempty (cond m (codes "[" ++ (join_with_b
 arg_nonempty false a v =
     let o = one_of_one a.names v.1 in
     ap (λ m. is_nonempty (cond m (codes "[" ++ (join_with_byte 44 (map one_text a.names) ++ codes "]")) (join_with_byte 44 (map one_text a.names)))) v.0
-      ∙ (ap (λ os. is_nonempty (join_with_byte 44 (map one_text os))) o.1 ∙ one_nonempty o.0)
+    ∙ (ap (λ os. is_nonempty (join_with_byte 44 (map one_text os))) o.1 ∙ one_nonempty o.0)
 
 -- the first argument is not null, as a test and as a fact
 all_some : (os : List (Option Name)) → AllByRecursion (λ o. IsSome o) os → list_all is_some os ≡ true

@@ -1,18 +1,16 @@
 -- Numbers and names are read just as they are spelled.
-use Rattle.std.proofs.Common.{◌≡◌, ◌≢◌, ℕ, ◌+◌, ◌-◌, ◌*◌, ◌^◌, ◌<◌, ◌≤◌, ◌==◌, nat_le, Bool, true, false, not, ◌&&◌, Option, Some, None, List, [], ◌∷◌, ◌++◌, length, get_or, map, refl, sym, ap, ◌∙◌, arith, subst, inl, inr, rules, decimal, ◌⊎◌, lit<, cond, codes, eq-eqb}
-use Rattle.std.specs.Bool.{⊤}
+use Rattle.std.proofs.Common.{◌≡◌, ℕ, ◌^◌, ◌<◌, ◌≤◌, ◌==◌, nat_le, Bool, true, false, not, ◌&&◌, Option, Some, None, List, [], ◌∷◌, ◌++◌, length, get_or, refl, sym, ap, ◌∙◌, arith, subst, inl, inr, rules, decimal, ◌⊎◌, lit<, cond, codes, eq-eqb}
 use Rattle.std.specs.Option.{option_map}
-use Rattle.std.specs.List.{AllByRecursion, join_with_byte, list_all}
 use Rattle.std.specs.Str.{all_ascii_digits, bytes_eq}
 use Rattle.std.specs.Char.{is_ascii_digit}
-use Rattle.std.proofs.lemmas.Bool.{and_parts, and_from, leb-true, le-leb, eqb-true, eqb-false, ne_eqb, cases_eq}
+use Rattle.std.proofs.lemmas.Bool.{and_parts, and_from, leb-true, le-leb, ne_eqb, cases_eq}
 use Rattle.std.proofs.lemmas.Fmt.{digits_decimal, digits_value-decimal, decimal-digits_value, first_decimal, decimal_digit}
 use Rattle.std.proofs.lemmas.Str.Parse.{IsNumeralModel, numerals_by_fold}
 use Rattle.std.proofs.lemmas.Slice.Eq.{bytes_eq-Decides}
 use Rattle.trace_format.specs.declared.event.Name.{Name}
-use Rattle.trace_format.specs.Grammar.{IsName, IsOne, IsThread, IsUpTo, is_printable, name_text, one_text}
-use Rattle.trace_format.specs.Words.{after, and_then, from, has_no_leading_zero, name_of, name_with, number_up_to, numbers_of, one_of, only_if, thread_of, until, value_after}
-use Rattle.trace_format.proofs.Texts.{AtEnd, Each, Reads, Went, after_append, after_is, each, each_append, each_weaker, from_append, is_not, mapped, passed, until_append, until_from, went}
+use Rattle.trace_format.specs.Grammar.{IsName, IsOne, IsUpTo, is_printable, name_text, one_text}
+use Rattle.trace_format.specs.Words.{after, and_then, from, has_no_leading_zero, name_of, name_with, number_up_to, numbers_of, one_of, thread_of, until, value_after}
+use Rattle.trace_format.proofs.Texts.{Each, Reads, after_is, each_append, each_weaker, from_append, is_not, mapped, passed, until_append, until_from, went}
 
 -- ---- numbers
 
@@ -40,9 +38,9 @@ first_is (b ∷ w) h = (omega arith, λ e. let t : (b == 48) ≡ true = eq-eqb b
 -- a number without leading zeros is not 0
 positive : (w : List ℕ) (n : ℕ) → has_no_leading_zero w ≡ true → w ≡ decimal n → 1 ≤ n
 positive w n h e = elim (cases_eq n 0) [
-      inl z ↦ let d : w ≡ 48 ∷ [] = e ∙ (ap (λ k. decimal k) z ∙ decimal_digit 0 (omega arith)) in let f : has_no_leading_zero (48 ∷ []) ≡ true = rw d at h in cc
-    | inr ne ↦ let g : n ≡ 0 → ⊥ = ne in omega arith
-    ]
+  | inl z ↦ let d : w ≡ 48 ∷ [] = e ∙ (ap (λ k. decimal k) z ∙ decimal_digit 0 (omega arith)) in let f : has_no_leading_zero (48 ∷ []) ≡ true = rw d at h in cc
+  | inr ne ↦ let g : n ≡ 0 → ⊥ = ne in omega arith
+]
 
 number_complete : (limit : ℕ) → limit < 2 ^ 32 → (n : ℕ) → IsUpTo limit n → number_up_to limit (decimal n) ≡ Some n
 unfolding number_up_to
@@ -123,8 +121,10 @@ unfolding name_of
 name_complete n v =
     let lacks : Each (is_not 46) (decimal n.thread) = number_lacks 46 1024 n.thread (inl (lit< tt)) (lit< tt) v.0 in
     rw (
-      until_append 46 (decimal n.thread) (46 ∷ decimal n.number) lacks refl, from_append 46 (decimal n.thread) (46 ∷ decimal n.number) lacks refl,
-      number_complete 1024 (lit< tt) n.thread v.0, number_complete 4194304 (lit< tt) n.number v.1
+      until_append 46 (decimal n.thread) (46 ∷ decimal n.number) lacks refl,
+      from_append 46 (decimal n.thread) (46 ∷ decimal n.number) lacks refl,
+      number_complete 1024 (lit< tt) n.thread v.0,
+      number_complete 4194304 (lit< tt) n.number v.1,
     ) refl
 
 -- both numbers of a name

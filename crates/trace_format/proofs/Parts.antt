@@ -1,6 +1,5 @@
 -- The parts of a line are read just as they are spelled, and leave what follows them.
-use Rattle.std.proofs.Common.{◌≡◌, ℕ, ◌+◌, ◌==◌, ◌<◌, nat_le, Bool, true, false, not, ◌&&◌, cond, ◌⊎◌, inl, inr, Option, Some, None, is_some, List, [], ◌∷◌, ◌++◌, map, length, find, refl, sym, ap, ◌∙◌, arith, subst, codes, lit<, append_assoc}
-use Rattle.std.specs.Bool.{⊤}
+use Rattle.std.proofs.Common.{◌≡◌, ℕ, ◌==◌, Bool, true, false, not, cond, inl, Option, Some, None, is_some, List, [], ◌∷◌, ◌++◌, map, length, find, refl, sym, ap, ◌∙◌, arith, subst, codes, lit<, append_assoc}
 use Rattle.std.specs.Option.{option_map}
 use Rattle.std.specs.List.{AllByRecursion, flat_map, join_with_byte}
 use Rattle.std.specs.Str.{bytes_eq}
@@ -20,7 +19,7 @@ use Rattle.trace_format.specs.Content.{Arg}
 use Rattle.trace_format.specs.Grammar.{FitParams, HasFirst, HasForm, IsName, IsOne, arg_text, args_text, code_text, is_printable, name_text, one_text, payload_text, results_text, takes}
 use Rattle.trace_format.specs.Words.{after, all_of, and_then, args_of, code_of, command_of, from, is_nonempty, name_of, only_if, pieces, until}
 use Rattle.trace_format.specs.Reading.{agrees, args_in, code_at, code_in, cut_word, has_first, names_at, payload_at, results_at, results_or, word_at, words_at}
-use Rattle.trace_format.proofs.Texts.{AtEnd, Each, Reads, after_append, after_is, all_complete, all_sound, each, each_append, from_append, is_not, mapped, passed, until_append, until_from, went}
+use Rattle.trace_format.proofs.Texts.{AtEnd, Each, after_is, all_complete, all_sound, each, from_append, is_not, mapped, passed, until_append, until_from, went}
 use Rattle.trace_format.proofs.Names.{digit_no_space, name_each, name_lacks, name_reader, one_each}
 use Rattle.trace_format.proofs.Lists.{all_texts, arg_each, arg_nonempty, args_complete, args_sound, each_join, first_complete, first_sound, join_pieces, pieces_join}
 
@@ -57,9 +56,9 @@ words_complete [] (a ∷ args) rest v end = absurd v
 words_complete (p ∷ ps) [] rest v end = absurd v
 words_complete (p ∷ ps) (a ∷ args) rest v end =
     ap (words_at (p ∷ ps)) (args_text_more a args rest)
-      ∙ (ap (λ m. and_then m (λ (first : List ℕ × List ℕ). option_map (λ (others : List (List ℕ) × List ℕ). (first.0 ∷ others.0, others.1)) (words_at ps first.1)))
-         (word_complete (arg_text a) (args_text args ++ rest) (arg_lacks_space p.many a v.0) (arg_nonempty p.many a v.0) (args_at_end args rest end))
-      ∙ ap (λ m. option_map (λ (others : List (List ℕ) × List ℕ). (arg_text a ∷ others.0, others.1)) m) (words_complete ps args rest v.1 end))
+    ∙ (ap (λ m. and_then m (λ (first : List ℕ × List ℕ). option_map (λ (others : List (List ℕ) × List ℕ). (first.0 ∷ others.0, others.1)) (words_at ps first.1)))
+    (word_complete (arg_text a) (args_text args ++ rest) (arg_lacks_space p.many a v.0) (arg_nonempty p.many a v.0) (args_at_end args rest end))
+    ∙ ap (λ m. option_map (λ (others : List (List ℕ) × List ℕ). (arg_text a ∷ others.0, others.1)) m) (words_complete ps args rest v.1 end))
 
 -- words, each after one space
 abbrev pub spaced : List (List ℕ) → List ℕ
@@ -113,8 +112,11 @@ results_complete e (n ∷ ns) rest t v end other =
     let lacks = names_lack_space (n ∷ ns) v in
     let commas = all_texts IsName name_text (is_not 44) (λ m h. name_lacks 44 m (inl (lit< tt)) refl refl h) (n ∷ ns) v in
     rw (
-      until_append 32 (join_with_byte 44 (map name_text (n ∷ ns))) rest lacks end, from_append 32 (join_with_byte 44 (map name_text (n ∷ ns))) rest lacks end,
-      pieces_join (name_text n) (map name_text ns) commas, all_complete name_reader (n ∷ ns) v, t
+      until_append 32 (join_with_byte 44 (map name_text (n ∷ ns))) rest lacks end,
+      from_append 32 (join_with_byte 44 (map name_text (n ∷ ns))) rest lacks end,
+      pieces_join (name_text n) (map name_text ns) commas,
+      all_complete name_reader (n ∷ ns) v,
+      t,
     ) refl
 
 -- what the results at the front of the bytes are
@@ -137,7 +139,7 @@ results_with e bytes rest x text h =
     let s = all_sound name_reader (pieces (until 32 rest)) a.value a.read in
     let word : until 32 rest ≡ join_with_byte 44 (map name_text a.value) = join_pieces (until 32 rest) ∙ ap (λ ps. join_with_byte 44 ps) s.1 in
     let whole : bytes ≡ results_text a.value ++ from 32 rest =
-      text ∙ (ap (λ r. codes " = " ++ r) (until_from 32 rest ∙ ap (λ w. w ++ from 32 rest) word) ∙ ap (λ r. r ++ from 32 rest) (sym (results_of_pieces a.value (until 32 rest) s.1))) in
+    text ∙ (ap (λ r. codes " = " ++ r) (until_from 32 rest ∙ ap (λ w. w ++ from 32 rest) word) ∙ ap (λ r. r ++ from 32 rest) (sym (results_of_pieces a.value (until 32 rest) s.1))) in
     subst (λ y. ResultsRead e bytes y) p.1 (record { takes_them = p.0; names = s.0; text = whole })
 
 results_without : (e : Effect) (bytes : List ℕ) (x : List Name × List ℕ) → only_if (takes e 0) ([], bytes) ≡ Some x → ResultsRead e bytes x
@@ -208,7 +210,7 @@ code_read row bytes x h =
     let b = went (code_of (until 32 a.value)) (λ c. only_if (agrees row.returns (is_some c)) (c, from 32 a.value)) x a.gave in
     let p = passed (agrees row.returns (is_some b.value)) (b.value, from 32 a.value) x b.gave in
     let text : bytes ≡ codes " " ++ (code_text b.value ++ from 32 a.value) =
-      after_is (codes " ") bytes a.value a.read ∙ ap (λ r. 32 ∷ r) (until_from 32 a.value ∙ ap (λ w. w ++ from 32 a.value) (code_sound (until 32 a.value) b.value b.read)) in
+    after_is (codes " ") bytes a.value a.read ∙ ap (λ r. 32 ∷ r) (until_from 32 a.value ∙ ap (λ w. w ++ from 32 a.value) (code_sound (until 32 a.value) b.value b.read)) in
     subst (λ y. CodeRead row bytes y) p.1 (record { there = same_agrees row.returns (is_some b.value) p.0; text = text })
 
 -- no code is read as results

@@ -6,7 +6,11 @@
 mod event;
 mod fault;
 mod laws;
+mod samples;
 
 pub use event::{Event, Name, TraceArg};
 pub use fault::TraceFault;
-pub use laws::reading_agrees_with_spelling;
+pub use laws::{a_line_spells_one_event, reading_agrees_with_spelling};
+pub use samples::{
+    events_after_events, lines_with_one_fault, lines_with_two_faults, longest_list, spelled_lines,
+};
