@@ -16,7 +16,8 @@ use Rattle.replay_model.specs.Past.{Opened, Began, Returned, Past, is_skipped, i
 use Rattle.replay_model.specs.Births.{succeeds}
 use Rattle.replay_model.specs.Places.{parts_in_force, Checked, parts_checked, checked, findings}
 use Rattle.replay_model.specs.Judged.{receivers, is_refused, begun_of, made_of, returned_by, judge, judged}
-use Rattle.replay_model.specs.Less.{less, no_layers, BeginsIdle}
+use Rattle.replay_model.specs.Less.{less, no_layers}
+use Rattle.replay_model.proofs.Accepted.{BeginsIdle}
 use Rattle.replay_model.proofs.OpenCalls.{OneEach, one-append, one-filter, not_of, found_thread}
 use Rattle.replay_model.proofs.Alike.{numbered, Alike, begun-sent, begun-skipped, returned-skipped, returned-sent, same_made, open-sent}
 

@@ -15,6 +15,7 @@ use Rattle.command_tables.specs.declared.types.Effect.TheVariants as eff
 use Rattle.command_tables.specs.Table.{row_of}
 use Rattle.command_tables.specs.Tests.{same_command, same_code, same_type}
 use Rattle.trace_format.specs.declared.event.Name.{Name}
+use Rattle.trace_format.specs.Accepting.{type_made}
 use Rattle.object_model.specs.declared.Object.{Object}
 use Rattle.object_model.specs.Objects.{are_same}
 use Rattle.object_model.specs.History.{Birth}
@@ -64,12 +65,6 @@ retrieved_object kept o owner t place name =
 abbrev pub result_object : List Birth → List Retrieval → Opened → Effect → ObjectType → ℕ → Name → Object
 result_object births kept o (eff.Retrieve r owner many) t place name = retrieved_object kept o (owner_by births o.args (eff.Retrieve r owner many)) t place name
 result_object births kept o _ t place name = own_object t name
-
--- the type of what an effect makes
-abbrev pub type_made : Effect → Option ObjectType
-type_made (eff.Create t owner many) = Some t
-type_made (eff.Retrieve t owner many) = Some t
-type_made _ = None
 
 -- each result with its place and its object
 abbrev pub born_with : List Birth → List Retrieval → Opened → List Name → List Born

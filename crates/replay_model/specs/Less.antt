@@ -1,9 +1,8 @@
 -- A trace without its skipped calls. Source: this project.
-use Rattle.std.specs.Prelude.{◌≡◌, if◌then◌else◌, None, List, [], ◌∷◌, find, ⊤}
+use Rattle.std.specs.Prelude.{if◌then◌else◌, List, [], ◌∷◌}
 use Rattle.trace_format.specs.Content.{TraceEvent, Begin, Return}
 use Rattle.replay_model.specs.Setup.{Chain, Setup}
-use Rattle.replay_model.specs.Past.{Began, Returned, Past, is_skipped, is_of, open_calls}
-use Rattle.replay_model.specs.Judged.{judged}
+use Rattle.replay_model.specs.Past.{Began, Returned, Past, is_skipped}
 
 -- the events of the calls that aren't skipped
 abbrev pub less : Past → List TraceEvent
@@ -14,9 +13,3 @@ less (Returned o made ∷ past) = if is_skipped o then less past else Return o.t
 -- the same drivers, and no layers whatever the application asks for
 abbrev pub no_layers : Setup → Setup
 no_layers s = record { drivers = s.drivers; notes = []; outcome = λ payload. Chain [] (λ number. []) }
-
--- at every begin the thread has no open call
-abbrev pub BeginsIdle : Setup → List TraceEvent → Type 0
-BeginsIdle s [] = ⊤
-BeginsIdle s (Begin e ∷ before) = (find (is_of e.thread) (open_calls (judged s before)) ≡ None) × BeginsIdle s before
-BeginsIdle s (Return thread ∷ before) = BeginsIdle s before

@@ -13,6 +13,7 @@ use Rattle.command_tables.specs.Facts.{is_dispatchable}
 use Rattle.command_tables.specs.Table.{row_of}
 use Rattle.command_tables.specs.Tests.{same_command, same_type}
 use Rattle.trace_format.specs.declared.event.Name.{Name}
+use Rattle.trace_format.specs.Accepting.{same_name}
 use Rattle.trace_format.specs.Content.{Arg, BeginEvent}
 use Rattle.object_model.specs.declared.Object.{Object}
 use Rattle.object_model.specs.declared.Argument.{Argument}
@@ -84,10 +85,6 @@ abbrev pub named : Past → List Named
 named [] = []
 named (Began e o reports ∷ past) = named past
 named (Returned o made ∷ past) = named past ++ map named_of made
-
--- two names are the same
-abbrev pub same_name : Name → Name → Bool
-same_name a b = a.thread == b.thread && a.number == b.number
 
 -- the object for which a name stands
 abbrev pub object_in : List Named → Name → Option Object

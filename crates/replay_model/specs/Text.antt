@@ -12,11 +12,12 @@ use Rattle.command_tables.specs.declared.types.Rule.TheVariants as rule
 use Rattle.command_tables.specs.Table.{ParamSpec, row_of}
 use Rattle.command_tables.specs.Tests.{same_command}
 use Rattle.trace_format.specs.declared.event.Name.{Name}
+use Rattle.trace_format.specs.Accepting.{type_made}
 use Rattle.trace_format.specs.Grammar.{one_text, code_text}
 use Rattle.trace_format.specs.Content.{Arg, BeginEvent, TraceEvent, Begin, Return}
 use Rattle.replay_model.specs.Setup.{Setup, refusal_of, outcome_text}
 use Rattle.replay_model.specs.Past.{Opened, Report, Judged, Began, Returned, Past, is_skipped, is_of, open_calls, calls_in}
-use Rattle.replay_model.specs.Births.{succeeds, type_made}
+use Rattle.replay_model.specs.Births.{succeeds}
 use Rattle.replay_model.specs.Judged.{begun_of, made_of}
 
 -- ---- reports

@@ -5,16 +5,17 @@
 
 mod samples;
 
-ghost use Rattle.std.specs.Prelude.{◌≡◌, ◌++◌, List, length, reverse};
+ghost use Rattle.std.specs.Prelude.{◌≡◌, ◌++◌, List, length, reverse, true};
 ghost use Rattle.std.specs.List.{zip};
 ghost use Rattle.command_tables.specs.Calls.{ReplyContent};
+ghost use Rattle.trace_format.specs.Accepting.{are_accepted};
 ghost use Rattle.trace_format.specs.Content.{TraceEvent};
 ghost use Rattle.replay_model.specs.Setup.{Setup};
 ghost use Rattle.replay_model.specs.Past.{Past};
 ghost use Rattle.replay_model.specs.Judged.{judge, judged};
 ghost use Rattle.replay_model.specs.Direct.{direct, exchanges, exchanges_at, sends_at, sends_in};
 ghost use Rattle.replay_model.specs.Text.{lines, lines_at, skipped_in};
-ghost use Rattle.replay_model.specs.Less.{less, no_layers, BeginsIdle};
+ghost use Rattle.replay_model.specs.Less.{less, no_layers};
 
 use object_model::Object;
 use trace_format::Name;
@@ -53,13 +54,13 @@ pub struct Routed {
 }
 
 /// Without its skipped calls a trace tells the drivers the same, whatever layers there were: what they are told is what the trace
-/// less its skipped calls makes with no layers, where none of its calls is skipped.
+/// less its skipped calls makes with no layers, where none of its calls is skipped. Each event may follow those before it.
 pub fn skipped_calls_are_not_sent()
-    ensures calls { (s : Setup) (events : List TraceEvent) (replies : List ReplyContent) → BeginsIdle s events →
+    ensures calls { (s : Setup) (events : List TraceEvent) (replies : List ReplyContent) → are_accepted events ≡ true →
         direct (judged (no_layers s) (less (judged s events))) replies ≡ direct (judged s events) replies }
-    ensures exchanges { (s : Setup) (events : List TraceEvent) (replies : List ReplyContent) → BeginsIdle s events →
+    ensures exchanges { (s : Setup) (events : List TraceEvent) (replies : List ReplyContent) → are_accepted events ≡ true →
         exchanges (judged (no_layers s) (less (judged s events))) replies ≡ exchanges (judged s events) replies }
-    ensures skipped { (s : Setup) (events : List TraceEvent) → BeginsIdle s events →
+    ensures skipped { (s : Setup) (events : List TraceEvent) → are_accepted events ≡ true →
         skipped_in (judged (no_layers s) (less (judged s events))) ≡ 0 }
 {}
 
