@@ -22,7 +22,7 @@ use Rattle.replay_model.proofs.OpenCalls.{OneEach, one-append, one-filter, not_o
 use Rattle.replay_model.proofs.Alike.{numbered, Alike, begun-sent, begun-skipped, returned-skipped, returned-sent, same_made, open-sent}
 
 -- without layers no part is in force
-no_parts : (s : Setup) (past : Past) → parts_in_force (no_layers s) past ≡ []
+pub no_parts : (s : Setup) (past : Past) → parts_in_force (no_layers s) past ≡ []
 no_parts s [] = refl
 no_parts s (Began e o r ∷ past) = no_parts s past
 no_parts s (Returned o made ∷ past) =

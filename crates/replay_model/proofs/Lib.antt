@@ -3,3 +3,4 @@ pub mod Accepted
 pub mod Alike
 pub mod LessLemmas
 pub mod Exchanges
+pub mod OneDriver

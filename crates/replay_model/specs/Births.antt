@@ -59,7 +59,7 @@ is_kept t owner place payload r = same_type r.object.ty t && (are_same r.owner o
 -- the object of this type, owner and key that was retrieved before, or one of the name's own
 abbrev pub retrieved_object : List Retrieval → Opened → Option Object → ObjectType → ℕ → Name → Object
 retrieved_object kept o owner t place name =
-    elim (find (is_kept t owner place (key_payload o.cmd o.payload)) kept) [ None ↦ own_object t name | Some r ↦ r.object ]
+    option_map_or (λ r. r.object) (find (is_kept t owner place (key_payload o.cmd o.payload)) kept) (own_object t name)
 
 -- the object for which a result stands: a created one is of its own
 abbrev pub result_object : List Birth → List Retrieval → Opened → Effect → ObjectType → ℕ → Name → Object

@@ -1,7 +1,7 @@
 -- The judged past of a list of events, and the flat lists that later events read of it. Events and what is judged stand newest first, all other lists oldest first.
 -- Source: this project (the trace); Vulkan 1.3 specification, "Fundamentals", section "Object Lifetime" (births, owners).
-use Rattle.std.specs.Prelude.{ℕ, ◌+◌, Bool, true, false, not, ◌&&◌, ◌||◌, if◌then◌else◌, ◌==◌, Option, Some, None, is_some, List, [], ◌∷◌, ◌++◌, map, filter, find, slice_get}
-use Rattle.std.specs.Option.{option_map_or}
+use Rattle.std.specs.Prelude.{ℕ, ◌+◌, Bool, true, false, not, ◌&&◌, ◌||◌, if◌then◌else◌, ◌==◌, Option, Some, None, is_some, List, [], ◌∷◌, ◌++◌, map, filter, find, slice_get, unwrap_or}
+use Rattle.std.specs.Option.{option_map, option_map_or}
 use Rattle.command_tables.specs.declared.types.CommandId.{CommandId}
 use Rattle.command_tables.specs.declared.types.CommandId.TheVariants as cmd
 use Rattle.command_tables.specs.declared.types.Code.{Code}
@@ -88,12 +88,12 @@ named (Returned o made ∷ past) = named past ++ map named_of made
 
 -- the object for which a name stands
 abbrev pub object_in : List Named → Name → Option Object
-object_in names name = elim (find (λ n. same_name n.name name) names) [ None ↦ None | Some n ↦ Some n.object ]
+object_in names name = option_map (λ n. n.object) (find (λ n. same_name n.name name) names)
 
 -- what stands in a place of a call: null where null is written; a name that stands for nothing is unborn
 abbrev pub argument_in : List Named → Option Name → Argument
 argument_in names None = Null
-argument_in names (Some name) = elim (object_in names name) [ None ↦ Unborn | Some o ↦ The o ]
+argument_in names (Some name) = option_map_or The (object_in names name) Unborn
 
 -- the arguments of a call
 abbrev pub arguments_in : List Named → List Arg → List (List Argument)
@@ -166,7 +166,7 @@ is_routed t = is_dispatchable t && not (same_type t ty.Instance)
 
 -- the driver behind a born object: a physical device's place is its driver's number, any other object's driver is the one that received the call
 abbrev pub driver_behind : Opened → Born → ℕ
-driver_behind o b = if same_type b.object.ty ty.PhysicalDevice then b.place else option_map_or (λ d. d) (slice_get o.drivers 0) 0
+driver_behind o b = if same_command o.cmd cmd.EnumeratePhysicalDevices then b.place else unwrap_or (slice_get o.drivers 0) 0
 
 -- a born object with the driver behind it
 abbrev pub routed_of : Opened → Born → Routed

@@ -1,18 +1,20 @@
 //! What a trace means: its events judged one by one, the reports, the answers, the text, and what the drivers are told.
-//! Promises that the driver calls of a trace are those of the trace without its skipped calls and without layers.
+//! Promises the laws of these definitions: skipped calls change nothing that drivers are told, and what one event more adds.
 //! Leaves to others how a trace is read, how a chain is built, and which rules hold of objects.
 #![tactic(auto)]
 
 mod samples;
 
-ghost use Rattle.std.specs.Prelude.{◌≡◌, ◌++◌, List, length, reverse, true};
+ghost use Rattle.std.specs.Prelude.{◌≡◌, ◌++◌, List, [], length, reverse, true};
 ghost use Rattle.std.specs.List.{zip};
 ghost use Rattle.command_tables.specs.Calls.{ReplyContent};
+ghost use Rattle.object_model.specs.declared.Object.{Object};
 ghost use Rattle.trace_format.specs.Accepting.{are_accepted};
 ghost use Rattle.trace_format.specs.Content.{TraceEvent};
 ghost use Rattle.replay_model.specs.Setup.{Setup};
-ghost use Rattle.replay_model.specs.Past.{Past};
-ghost use Rattle.replay_model.specs.Judged.{judge, judged};
+ghost use Rattle.replay_model.specs.Past.{Past, routed};
+ghost use Rattle.replay_model.specs.Judged.{driver_in, judge, judged};
+ghost use Rattle.replay_model.specs.Places.{parts_in_force};
 ghost use Rattle.replay_model.specs.Direct.{direct, exchanges, exchanges_at, sends_at, sends_in};
 ghost use Rattle.replay_model.specs.Text.{lines, lines_at, skipped_in};
 ghost use Rattle.replay_model.specs.Less.{less, no_layers};
@@ -62,6 +64,12 @@ pub fn skipped_calls_are_not_sent()
         exchanges (judged (no_layers s) (less (judged s events))) replies ≡ exchanges (judged s events) replies }
     ensures skipped { (s : Setup) (events : List TraceEvent) → are_accepted events ≡ true →
         skipped_in (judged (no_layers s) (less (judged s events))) ≡ 0 }
+{}
+
+/// Without layers no part is in force, and with one driver every call goes to it.
+pub fn no_layers_and_one_driver()
+    ensures parts { (s : Setup) (past : Past) → parts_in_force (no_layers s) past ≡ [] }
+    ensures driver { (s : Setup) (events : List TraceEvent) (o : Object) → s.drivers ≡ 1 → driver_in (routed (judged s events)) o ≡ 0 }
 {}
 
 /// One event more adds its lines, and its driver calls with their replies, where it has one reply for each of them.
