@@ -1,5 +1,5 @@
 -- Small traces as they are written, what they print, and what they tell drivers. Source: this project.
-use Rattle.std.specs.Prelude.{ℕ, Result, Ok, Err, Some, None, List, [], ◌∷◌, ◌++◌, map, reverse, codes}
+use Rattle.std.specs.Prelude.{ℕ, Bool, Result, Ok, Err, Some, None, List, [], ◌∷◌, ◌++◌, map, reverse, codes}
 use Rattle.std.specs.List.{flat_map}
 use Rattle.command_tables.specs.declared.types.CommandId.{CommandId}
 use Rattle.command_tables.specs.declared.types.Code.TheVariants as code
@@ -7,6 +7,7 @@ use Rattle.command_tables.specs.Calls.{DriverCallContent, ReplyContent}
 use Rattle.trace_format.specs.declared.fault.TraceFault.{TraceFault}
 use Rattle.trace_format.specs.Content.{TraceEvent, Begin, Return}
 use Rattle.trace_format.specs.Reading.{read_line}
+use Rattle.object_model.specs.History.{Begins, Returns, History}
 use Rattle.replay_model.specs.Setup.{Setup}
 use Rattle.replay_model.specs.Judged.{judged}
 use Rattle.replay_model.specs.Text.{text, end_of}
@@ -64,6 +65,12 @@ driver_and_args c = (c.driver, c.args)
 -- a driver call that is to answer success: the driver, the command, the handles, how many are asked for, and the payload
 abbrev pub driver_call : ℕ → CommandId → List (List ℕ) → ℕ → List ℕ → DriverCallContent
 driver_call driver c args count payload = record { driver = driver; cmd = c; args = args; asked = count; code = Some code.Success; payload = payload }
+
+-- for each begin that a place was given, whether the place itself skips the call, the newest first
+abbrev pub skips : History → List Bool
+skips [] = []
+skips (Begins call skipped ∷ past) = skipped ∷ skips past
+skips (Returns call made ∷ past) = skips past
 
 -- ---- traces of which more than one thing is asked
 

@@ -1,6 +1,8 @@
 //! Chains and their places: refusals, parts above and below each other, the chain in force.
-ghost use Rattle.std.specs.Prelude.{◌≡◌, [], ◌∷◌, ◌++◌, codes};
-ghost use Rattle.replay_rows.specs.Traces.{calls, events, started, told, said};
+ghost use Rattle.std.specs.Prelude.{◌≡◌, [], ◌∷◌, ◌++◌, true, false, codes, reverse};
+ghost use Rattle.replay_model.specs.Judged.{judged};
+ghost use Rattle.replay_model.specs.Places.{seen};
+ghost use Rattle.replay_rows.specs.Traces.{buffer_destroyed_twice, calls, events, said, skips, started, told};
 ghost use Rattle.replay_rows.specs.Setups.{device_start, lifetimes_above_threads, lifetimes_twice, no_driver, unguarded, validation, validation_start};
 
 /// No driver is left: the chain is refused, and the call that asked for it is skipped.
@@ -116,4 +118,15 @@ pub fn an_instance_that_fails_first()
         ∷ codes "ret 6 vkDestroySurfaceKHR void"
         ∷ codes "end calls=6 skipped=2 reports=2"
         ∷ []) }
+{}
+
+/// A buffer is destroyed twice: the second destroy comes to the threads part and to the lifetimes part, which skips it, and not to the
+/// unique part below.
+pub fn a_skipped_call_at_each_place()
+    ensures above { skips (seen (judged validation (reverse buffer_destroyed_twice)) 1)
+        ≡ false ∷ false ∷ false ∷ false ∷ false ∷ false ∷ [] }
+    ensures at { skips (seen (judged validation (reverse buffer_destroyed_twice)) 2)
+        ≡ true ∷ false ∷ false ∷ false ∷ false ∷ false ∷ [] }
+    ensures below { skips (seen (judged validation (reverse buffer_destroyed_twice)) 3)
+        ≡ false ∷ false ∷ false ∷ false ∷ false ∷ [] }
 {}
