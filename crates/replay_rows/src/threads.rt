@@ -217,3 +217,25 @@ pub fn the_least_conflicting_call()
         ∷ codes "end calls=7 skipped=0 reports=1"
         ∷ []) }
 {}
+
+/// Two devices give a queue for one payload: these are two objects.
+pub fn queues_of_two_devices()
+    ensures { told validation (started
+        ++ calls (codes "b 1 vkCreateDevice %1.2 = %1.4 VK_SUCCESS"
+        ∷ codes "b 1 vkGetDeviceQueue %1.3 = %1.5 void : 0,0"
+        ∷ codes "b 1 vkGetDeviceQueue %1.4 = %1.6 void : 0,0"
+        ∷ [])
+        ++ events (codes "b 1 vkQueueSubmit %1.5 [] [] [] null VK_SUCCESS"
+        ∷ codes "b 2 vkQueueSubmit %1.6 [] [] [] null VK_SUCCESS"
+        ∷ codes "r 1"
+        ∷ codes "r 2"
+        ∷ []))
+        ≡ said (validation_start
+        ++ codes "ret 4 vkCreateDevice VK_SUCCESS born=1"
+        ∷ codes "ret 5 vkGetDeviceQueue void born=1"
+        ∷ codes "ret 6 vkGetDeviceQueue void born=1"
+        ∷ codes "ret 7 vkQueueSubmit VK_SUCCESS"
+        ∷ codes "ret 8 vkQueueSubmit VK_SUCCESS"
+        ∷ codes "end calls=8 skipped=0 reports=0"
+        ∷ []) }
+{}
