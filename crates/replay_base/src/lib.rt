@@ -16,6 +16,8 @@ mod source;
 #[cfg(test)]
 mod tests;
 mod tree;
+#[cfg(test)]
+mod tree_tests;
 
 pub use adapters::{ReadSource, WriteSink};
 pub use faults::{Failed, NoMemory};
