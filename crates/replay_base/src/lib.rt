@@ -1,24 +1,32 @@
-//! What a replay reads from and writes to: a source and a sink of bytes, over memory and over std.
+//! What a replay reads from and writes to: a source and a sink of bytes and a tree of files, over memory and over std.
 //! Every meaning is a known equation on the bytes, and every fault is counted by the object that had it.
 //! What the bytes say is left to the crates above; what a file or a terminal held is told by nobody.
 #![tactic(auto)]
 
 mod adapters;
 mod faults;
+mod file_tree;
 mod limit;
 mod lines;
 mod memory_sink;
 mod memory_source;
+mod memory_tree;
 mod sink;
 mod source;
 #[cfg(test)]
 mod tests;
+mod tree;
+#[cfg(test)]
+mod tree_tests;
 
 pub use adapters::{ReadSource, WriteSink};
 pub use faults::{Failed, NoMemory};
+pub use file_tree::FsTree;
 pub use limit::Which;
 pub use lines::{Split, split_line};
 pub use memory_sink::MemSink;
 pub use memory_source::{MemSource, PlainSource};
+pub use memory_tree::MemTree;
 pub use sink::{Sink, put_all};
 pub use source::Source;
+pub use tree::{Tree, TreeError, TreeRead, facts_of_listings};

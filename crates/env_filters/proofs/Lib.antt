@@ -1,0 +1,3 @@
+pub mod GlobLemmas
+pub mod StarLemmas
+pub mod VariableLemmas
