@@ -1,0 +1,2 @@
+//! What manifests ask, key by key.
+//! Source: Khronos Vulkan-Loader, LoaderDriverInterface.md and LoaderLayerInterface.md, the tables of manifest fields.
