@@ -1,3 +1,5 @@
 pub mod Keys
 pub mod Texts
 pub mod Rows
+pub mod Values
+pub mod Faults

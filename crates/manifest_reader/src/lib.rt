@@ -3,11 +3,13 @@
 //! Leaves to others where manifests are searched for, which layers are on, and what a library's path is joined to.
 #![tactic(auto)]
 
+mod checks;
 mod entries;
 mod faults;
 mod keys;
 mod rows;
 mod texts;
+mod values;
 
 pub use entries::{DriverEntry, EnvPair, LayerEntry, LayerKind, Layers};
 pub use faults::ManifestFault;
