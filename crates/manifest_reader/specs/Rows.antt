@@ -17,38 +17,38 @@ row key read needed kind = record { key = key; read = read; needed = needed; kin
 -- the file of a driver
 unfoldable pub driver_file_rows : List Row
 driver_file_rows =
-    row key.Icd                   Always           Always                        Object
-  ∷ []
+    row key.Icd Always Always Object
+    ∷ []
 
 -- what stands in its `ICD`
 unfoldable pub driver_rows : List Row
 driver_rows =
-    row key.LibraryPath           Always           Always                        (Text form.Filled)
-  ∷ row key.ApiVersion            Always           Always                        (Text form.Version)
-  ∷ row key.LibraryArch           Always           Never                         (Text form.Architecture)
-  ∷ row key.IsPortabilityDriver   Always           Never                         Boolean
-  ∷ []
+    row key.LibraryPath Always Always (Text form.Filled)
+    ∷ row key.ApiVersion Always Always (Text form.Version)
+    ∷ row key.LibraryArch Always Never (Text form.Architecture)
+    ∷ row key.IsPortabilityDriver Always Never Boolean
+    ∷ []
 
 -- the file of layers
 unfoldable pub layer_file_rows : List Row
 layer_file_rows =
-    row key.Layers                Always           Never                         Objects
-  ∷ row key.Layer                 (Without key.Layers) Always                    Object
-  ∷ []
+    row key.Layers Always Never Objects
+    ∷ row key.Layer (Without key.Layers) Always Object
+    ∷ []
 
 -- what stands in an entry
 unfoldable pub layer_rows : List Row
 layer_rows =
-    row key.Name                  Always           Always                        (Text form.Name)
-  ∷ row key.LayerType             Always           Always                        (Text form.LayerType)
-  ∷ row key.LibraryPath           UnlessDevice     (Without key.ComponentLayers) (Text form.Filled)
-  ∷ row key.ComponentLayers       UnlessDevice     Never                         Components
-  ∷ row key.ApiVersion            UnlessDevice     Always                        (Text form.Version)
-  ∷ row key.ImplementationVersion UnlessDevice     Always                        (Text form.Plain)
-  ∷ row key.Description           UnlessDevice     Always                        (Text form.Any)
-  ∷ row key.DisableEnvironment    UnlessDevice     Implicit                      Variable
-  ∷ row key.EnableEnvironment     Implicit         Never                         Variable
-  ∷ row key.BlacklistedLayers     Override         Never                         Texts
-  ∷ row key.AppKeys               Override         Never                         Texts
-  ∷ row key.OverridePaths         Override         Never                         Texts
-  ∷ []
+    row key.Name Always Always (Text form.Name)
+    ∷ row key.LayerType Always Always (Text form.LayerType)
+    ∷ row key.LibraryPath UnlessDevice (Without key.ComponentLayers) (Text form.Filled)
+    ∷ row key.ComponentLayers UnlessDevice Never Components
+    ∷ row key.ApiVersion UnlessDevice Always (Text form.Version)
+    ∷ row key.ImplementationVersion UnlessDevice Always (Text form.Plain)
+    ∷ row key.Description UnlessDevice Always (Text form.Any)
+    ∷ row key.DisableEnvironment UnlessDevice Implicit Variable
+    ∷ row key.EnableEnvironment Implicit Never Variable
+    ∷ row key.BlacklistedLayers Override Never Texts
+    ∷ row key.AppKeys Override Never Texts
+    ∷ row key.OverridePaths Override Never Texts
+    ∷ []

@@ -166,11 +166,7 @@ fn row_fault(manifest: Manifest, object: &Value, row: &Row) -> Option<ManifestFa
 }
 
 /// The first fault that a table's lines find, in their order.
-pub(crate) fn first_fault(
-    manifest: Manifest,
-    object: &Value,
-    rows: &[Row],
-) -> Option<ManifestFault>
+pub(crate) fn first_fault(manifest: Manifest, object: &Value, rows: &[Row]) -> Option<ManifestFault>
     ensures { result ≡ faults.first_fault manifest (view object.now) rows.now }
 {
     for row in rows {

@@ -4,13 +4,18 @@
 #![tactic(auto)]
 
 mod checks;
+mod driver_manifest;
 mod entries;
 mod faults;
+mod files;
 mod keys;
+mod layer_manifest;
 mod rows;
 mod texts;
 mod values;
 
+pub use driver_manifest::read_driver;
 pub use entries::{DriverEntry, EnvPair, LayerEntry, LayerKind, Layers};
 pub use faults::ManifestFault;
 pub use keys::Key;
+pub use layer_manifest::read_layers;

@@ -79,27 +79,92 @@ macro_rules! row {
 static DRIVER_FILE_ROWS: [Row; 1] = [row!(Icd, When::Always, When::Always, Kind::Object)];
 
 static DRIVER_ROWS: [Row; 4] = [
-    row!(LibraryPath, When::Always, When::Always, Kind::Text(Form::Filled)),
-    row!(ApiVersion, When::Always, When::Always, Kind::Text(Form::Version)),
-    row!(LibraryArch, When::Always, When::Never, Kind::Text(Form::Architecture)),
-    row!(IsPortabilityDriver, When::Always, When::Never, Kind::Boolean),
+    row!(
+        LibraryPath,
+        When::Always,
+        When::Always,
+        Kind::Text(Form::Filled)
+    ),
+    row!(
+        ApiVersion,
+        When::Always,
+        When::Always,
+        Kind::Text(Form::Version)
+    ),
+    row!(
+        LibraryArch,
+        When::Always,
+        When::Never,
+        Kind::Text(Form::Architecture)
+    ),
+    row!(
+        IsPortabilityDriver,
+        When::Always,
+        When::Never,
+        Kind::Boolean
+    ),
 ];
 
 static LAYER_FILE_ROWS: [Row; 2] = [
     row!(Layers, When::Always, When::Never, Kind::Objects),
-    row!(Layer, When::Without(Key::Layers), When::Always, Kind::Object),
+    row!(
+        Layer,
+        When::Without(Key::Layers),
+        When::Always,
+        Kind::Object
+    ),
 ];
 
 static LAYER_ROWS: [Row; 12] = [
     row!(Name, When::Always, When::Always, Kind::Text(Form::Name)),
-    row!(LayerType, When::Always, When::Always, Kind::Text(Form::LayerType)),
-    row!(LibraryPath, When::UnlessDevice, When::Without(Key::ComponentLayers), Kind::Text(Form::Filled)),
-    row!(ComponentLayers, When::UnlessDevice, When::Never, Kind::Components),
-    row!(ApiVersion, When::UnlessDevice, When::Always, Kind::Text(Form::Version)),
-    row!(ImplementationVersion, When::UnlessDevice, When::Always, Kind::Text(Form::Plain)),
-    row!(Description, When::UnlessDevice, When::Always, Kind::Text(Form::Any)),
-    row!(DisableEnvironment, When::UnlessDevice, When::Implicit, Kind::Variable),
-    row!(EnableEnvironment, When::Implicit, When::Never, Kind::Variable),
+    row!(
+        LayerType,
+        When::Always,
+        When::Always,
+        Kind::Text(Form::LayerType)
+    ),
+    row!(
+        LibraryPath,
+        When::UnlessDevice,
+        When::Without(Key::ComponentLayers),
+        Kind::Text(Form::Filled)
+    ),
+    row!(
+        ComponentLayers,
+        When::UnlessDevice,
+        When::Never,
+        Kind::Components
+    ),
+    row!(
+        ApiVersion,
+        When::UnlessDevice,
+        When::Always,
+        Kind::Text(Form::Version)
+    ),
+    row!(
+        ImplementationVersion,
+        When::UnlessDevice,
+        When::Always,
+        Kind::Text(Form::Plain)
+    ),
+    row!(
+        Description,
+        When::UnlessDevice,
+        When::Always,
+        Kind::Text(Form::Any)
+    ),
+    row!(
+        DisableEnvironment,
+        When::UnlessDevice,
+        When::Implicit,
+        Kind::Variable
+    ),
+    row!(
+        EnableEnvironment,
+        When::Implicit,
+        When::Never,
+        Kind::Variable
+    ),
     row!(BlacklistedLayers, When::Override, When::Never, Kind::Texts),
     row!(AppKeys, When::Override, When::Never, Kind::Texts),
     row!(OverridePaths, When::Override, When::Never, Kind::Texts),

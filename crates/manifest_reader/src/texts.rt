@@ -5,18 +5,19 @@ ghost use Rattle.std.specs.List.{list_all};
 ghost use Rattle.manifest_reader.specs.Texts as texts;
 
 /// The least byte that is no control character.
-pub(crate) const LEAST_PLAIN: u8 = 0x20;
+const LEAST_PLAIN: u8 = 0x20;
 /// The least and the greatest byte of a visible character of ASCII.
-pub(crate) const LEAST_VISIBLE: u8 = 0x21;
-pub(crate) const MOST_VISIBLE: u8 = 0x7E;
+const LEAST_VISIBLE: u8 = 0x21;
+
+const MOST_VISIBLE: u8 = 0x7E;
 /// The most bytes of a layer's name, one less than `VK_MAX_EXTENSION_NAME_SIZE`.
-pub(crate) const LONGEST_NAME: usize = 255;
+const LONGEST_NAME: usize = 255;
 /// The most digits of one number of a version.
-pub(crate) const LONGEST_NUMBER: usize = 9;
+const LONGEST_NUMBER: usize = 9;
 /// The most numbers of a version.
-pub(crate) const MOST_NUMBERS: usize = 4;
+const MOST_NUMBERS: usize = 4;
 /// What stands between two numbers of a version.
-pub(crate) const FULL_STOP: u8 = b'.';
+const FULL_STOP: u8 = b'.';
 
 #[tactic(auto, unfolding(crate::specs::Texts::is_plain))]
 pub(crate) fn is_plain(text: &str) -> bool
@@ -73,7 +74,8 @@ fn count_parts(text: &[u8]) -> usize
 fn has_numbers_alone(text: &[u8]) -> bool
     ensures { result ≡ list_all texts.is_number (texts.parts_of text.now) }
 {
-    text.split(|byte| *byte == FULL_STOP).all(|part| is_number(part))
+    text.split(|byte| *byte == FULL_STOP)
+        .all(|part| is_number(part))
 }
 
 #[tactic(auto, unfolding(crate::specs::Texts::is_version))]
