@@ -11,6 +11,8 @@ mod files;
 mod keys;
 mod layer_manifest;
 mod rows;
+#[cfg(test)]
+mod tests;
 mod texts;
 mod values;
 

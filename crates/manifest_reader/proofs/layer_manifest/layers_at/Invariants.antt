@@ -9,5 +9,5 @@ abbrev pub invariant-loop-entry : goal.invariant-loop-entry
 invariant-loop-entry l = record {
   copied : map layer_content l.layers.items ≡ map (layer_at l.kind) (filter is_instance (map view (take l.entry-index l.entries)));
   counted : l.device_type ≡ count_by is_device (map view (take l.entry-index l.entries));
-  few : l.device_type ≤ l.entry-index
+  few : l.device_type ≤ l.entry-index;
 }
