@@ -1,6 +1,5 @@
 -- What a `Value`'s elements and members are beside the JSON value that it stands for.
-use Rattle.std.proofs.Common.{◌≡◌, ◌↔◌, ◌<◌, List, [], ◌∷◌, map, Option, Some, None, option_map, String, Global, string_bytes, Bool, Bor, BTreeMap, IfSome, IsSome, refl, sym, ap, true≢false, length, arith}
-use Rattle.std.specs.BTreeMap.{btree_map_len}
+use Rattle.std.proofs.Common.{◌≡◌, ◌↔◌, ◌<◌, List, [], ◌∷◌, map, Option, Some, None, option_map, String, Global, string_bytes, Bool, Bor, IfSome, IsSome, refl, sym, ap, true≢false, length, arith}
 use Rattle.std.proofs.lemmas.List.Folds.{list_all-map}
 use Rattle.std.specs.List.{slice_get, list_all}
 use Rattle.serde_json.specs.declared.value.Value.{Value}

@@ -1,7 +1,7 @@
 -- What a table's line finds at fault in an object, and the first fault of a table.
 -- Source: Khronos Vulkan-Loader, LoaderDriverInterface.md and LoaderLayerInterface.md, the tables of manifest fields; the latter's
 -- chapter on the override layer for its name.
-use Rattle.std.specs.Prelude.{ℕ, Bool, true, false, not, ◌&&◌, ◌||◌, List, [], ◌∷◌, codes, if◌then◌else◌, Option, Some, None, is_some, is_none, option_map, option_and_then, unwrap_or}
+use Rattle.std.specs.Prelude.{ℕ, Bool, true, false, not, ◌&&◌, ◌||◌, List, [], ◌∷◌, codes, if◌then◌else◌, Option, Some, None, is_some, is_none, option_map, unwrap_or}
 use Rattle.std.specs.List.{list_all}
 use Rattle.std.specs.Option.{option_or}
 use Rattle.std.specs.Str.{bytes_eq}
@@ -12,7 +12,6 @@ use Rattle.manifest_reader.specs.Values.{at, says, elements, first_member}
 use Rattle.manifest_reader.specs.declared.entries.LayerKind.TheVariants as layer
 use Rattle.manifest_reader.specs.declared.faults.ManifestFault.{ManifestFault}
 use Rattle.manifest_reader.specs.declared.faults.ManifestFault.TheVariants.{Missing, WrongKind}
-use Rattle.manifest_reader.specs.declared.keys.Key.{Key}
 use Rattle.manifest_reader.specs.declared.keys.Key.TheVariants as key
 use Rattle.manifest_reader.specs.declared.rows.Manifest.{Manifest}
 use Rattle.manifest_reader.specs.declared.rows.Manifest.TheVariants.{Driver, Layer}

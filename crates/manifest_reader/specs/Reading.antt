@@ -15,7 +15,6 @@ use Rattle.manifest_reader.specs.declared.faults.ManifestFault.{ManifestFault}
 use Rattle.manifest_reader.specs.declared.faults.ManifestFault.TheVariants.{NotJson, NoVersion, BadVersion, OtherArch}
 use Rattle.manifest_reader.specs.declared.keys.Key.{Key}
 use Rattle.manifest_reader.specs.declared.keys.Key.TheVariants as key
-use Rattle.manifest_reader.specs.declared.rows.Manifest.{Manifest}
 use Rattle.manifest_reader.specs.declared.rows.Manifest.TheVariants.{Driver, Layer}
 use Rattle.manifest_reader.specs.declared.rows.When.{When}
 use Rattle.manifest_reader.specs.declared.rows.When.TheVariants as when

@@ -78,11 +78,12 @@ fn driver_at(alloc: Global, icd: Option<&Value>) -> Result<DriverEntry, AllocErr
 ///
 /// The first fault in the order of the keys is the answer. A driver for 32 bits is `OtherArch` where it has no other fault.
 /// `NoMemory` comes where an allocation was refused, whatever the bytes are.
-#[tactic(auto, unfolding(crate::specs::Reading::driver_of, crate::specs::Reading::driver_in))]
+#[tactic(auto, using(crate::proofs::Memory::driver_of_is_of_bytes), unfolding(crate::specs::Reading::driver_of, crate::specs::Reading::driver_in))]
 pub fn read_driver(alloc: Global, bytes: &[u8]) -> Result<DriverEntry, ManifestFault>
     ensures ok { IfOk result (λ entry. reading.driver_of bytes.now ≡ Ok (driver_content entry)) }
     ensures err { IfErr result (λ fault. fault ≢ ManifestFault.NoMemory
         → reading.driver_of bytes.now ≡ Err fault) }
+    ensures of_bytes { reading.driver_of bytes.now ≢ Err ManifestFault.NoMemory }
 {
     let file = match read_file(alloc, bytes) {
         Ok(file) => file,

@@ -166,11 +166,12 @@ fn layers_at(alloc: Global, kind: LayerKind, entries: &[Value]) -> Result<Layers
 ///
 /// The first fault in the order of the entries, and in each of the keys, is the answer. An entry of type `DEVICE` is counted and
 /// left out; only its name and type are looked at. `NoMemory` comes where an allocation was refused, whatever the bytes are.
-#[tactic(auto, unfolding(crate::specs::Reading::layers_of, crate::specs::Reading::layers_in))]
+#[tactic(auto, using(crate::proofs::Memory::layers_of_is_of_bytes), unfolding(crate::specs::Reading::layers_of, crate::specs::Reading::layers_in))]
 pub fn read_layers(alloc: Global, bytes: &[u8], kind: LayerKind) -> Result<Layers, ManifestFault>
     ensures ok { IfOk result (λ layers. reading.layers_of kind bytes.now ≡ Ok (layers_content layers)) }
     ensures err { IfErr result (λ fault. fault ≢ ManifestFault.NoMemory
         → reading.layers_of kind bytes.now ≡ Err fault) }
+    ensures of_bytes { reading.layers_of kind bytes.now ≢ Err ManifestFault.NoMemory }
 {
     let file = match read_file(alloc, bytes) {
         Ok(file) => file,
