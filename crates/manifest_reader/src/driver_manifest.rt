@@ -85,15 +85,9 @@ pub fn read_driver(alloc: Global, bytes: &[u8]) -> Result<DriverEntry, ManifestF
         → reading.driver_of bytes.now ≡ Err fault) }
     ensures of_bytes { reading.driver_of bytes.now ≢ Err ManifestFault.NoMemory }
 {
-    let file = match read_file(alloc, bytes) {
-        Ok(file) => file,
-        Err(fault) => return Err(fault),
-    };
+    let file = read_file(alloc, bytes)?;
     if let Some(fault) = driver_fault(&file) {
         return Err(fault);
     }
-    match driver_at(alloc, at(&file, Key::Icd)) {
-        Ok(entry) => Ok(entry),
-        Err(_) => Err(ManifestFault::NoMemory),
-    }
+    Ok(driver_at(alloc, at(&file, Key::Icd))?)
 }

@@ -4,7 +4,7 @@ ghost use Rattle.manifest_reader.specs.declared.faults.ManifestFault.TheVariants
 ghost use Rattle.std.specs.Prelude.{◌≡◌};
 
 use crate::keys::Key;
-use std::alloc::{AllocError, AllocFailed};
+use std::alloc::AllocError;
 use thiserror::Error;
 
 /// The first fault of a manifest.
@@ -37,14 +37,6 @@ impl From<AllocError> for ManifestFault {
     ghost from_gives = { λ _ fault. fault ≡ NoMemory };
 
     fn from(_refused: AllocError) -> ManifestFault {
-        ManifestFault::NoMemory
-    }
-}
-
-impl<T: Drop> From<AllocFailed<T>> for ManifestFault {
-    ghost from_gives = { λ _ fault. fault ≡ NoMemory };
-
-    fn from(_refused: AllocFailed<T>) -> ManifestFault {
         ManifestFault::NoMemory
     }
 }

@@ -173,15 +173,9 @@ pub fn read_layers(alloc: Global, bytes: &[u8], kind: LayerKind) -> Result<Layer
         → reading.layers_of kind bytes.now ≡ Err fault) }
     ensures of_bytes { reading.layers_of kind bytes.now ≢ Err ManifestFault.NoMemory }
 {
-    let file = match read_file(alloc, bytes) {
-        Ok(file) => file,
-        Err(fault) => return Err(fault),
-    };
+    let file = read_file(alloc, bytes)?;
     if let Some(fault) = layers_fault(kind, &file) {
         return Err(fault);
     }
-    match layers_at(alloc, kind, entries_of(&file)) {
-        Ok(layers) => Ok(layers),
-        Err(_) => Err(ManifestFault::NoMemory),
-    }
+    Ok(layers_at(alloc, kind, entries_of(&file))?)
 }

@@ -5,6 +5,8 @@ ghost use Rattle.manifest_reader.specs.Rows as tables;
 
 use crate::entries::LayerKind;
 use crate::keys::Key;
+use Kind::{Boolean, Components, Object, Objects, Text, Texts, Variable};
+use When::{Always, Implicit, Never, Override, UnlessDevice, Without};
 
 /// What an object is part of.
 #[derive(Clone, Copy)]
@@ -76,98 +78,43 @@ macro_rules! row {
     };
 }
 
-static DRIVER_FILE_ROWS: [Row; 1] = [row!(Icd, When::Always, When::Always, Kind::Object)];
+static DRIVER_FILE_ROWS: [Row; 1] = [row!(Icd, Always, Always, Object)];
 
 static DRIVER_ROWS: [Row; 4] = [
-    row!(
-        LibraryPath,
-        When::Always,
-        When::Always,
-        Kind::Text(Form::Filled)
-    ),
-    row!(
-        ApiVersion,
-        When::Always,
-        When::Always,
-        Kind::Text(Form::Version)
-    ),
-    row!(
-        LibraryArch,
-        When::Always,
-        When::Never,
-        Kind::Text(Form::Architecture)
-    ),
-    row!(
-        IsPortabilityDriver,
-        When::Always,
-        When::Never,
-        Kind::Boolean
-    ),
+    row!(LibraryPath, Always, Always, Text(Form::Filled)),
+    row!(ApiVersion, Always, Always, Text(Form::Version)),
+    row!(LibraryArch, Always, Never, Text(Form::Architecture)),
+    row!(IsPortabilityDriver, Always, Never, Boolean),
 ];
 
 static LAYER_FILE_ROWS: [Row; 2] = [
-    row!(Layers, When::Always, When::Never, Kind::Objects),
-    row!(
-        Layer,
-        When::Without(Key::Layers),
-        When::Always,
-        Kind::Object
-    ),
+    row!(Layers, Always, Never, Objects),
+    row!(Layer, Without(Key::Layers), Always, Object),
 ];
 
 static LAYER_ROWS: [Row; 12] = [
-    row!(Name, When::Always, When::Always, Kind::Text(Form::Name)),
-    row!(
-        LayerType,
-        When::Always,
-        When::Always,
-        Kind::Text(Form::LayerType)
-    ),
+    row!(Name, Always, Always, Text(Form::Name)),
+    row!(LayerType, Always, Always, Text(Form::LayerType)),
     row!(
         LibraryPath,
-        When::UnlessDevice,
-        When::Without(Key::ComponentLayers),
-        Kind::Text(Form::Filled)
+        UnlessDevice,
+        Without(Key::ComponentLayers),
+        Text(Form::Filled)
     ),
-    row!(
-        ComponentLayers,
-        When::UnlessDevice,
-        When::Never,
-        Kind::Components
-    ),
-    row!(
-        ApiVersion,
-        When::UnlessDevice,
-        When::Always,
-        Kind::Text(Form::Version)
-    ),
+    row!(ComponentLayers, UnlessDevice, Never, Components),
+    row!(ApiVersion, UnlessDevice, Always, Text(Form::Version)),
     row!(
         ImplementationVersion,
-        When::UnlessDevice,
-        When::Always,
-        Kind::Text(Form::Plain)
+        UnlessDevice,
+        Always,
+        Text(Form::Plain)
     ),
-    row!(
-        Description,
-        When::UnlessDevice,
-        When::Always,
-        Kind::Text(Form::Any)
-    ),
-    row!(
-        DisableEnvironment,
-        When::UnlessDevice,
-        When::Implicit,
-        Kind::Variable
-    ),
-    row!(
-        EnableEnvironment,
-        When::Implicit,
-        When::Never,
-        Kind::Variable
-    ),
-    row!(BlacklistedLayers, When::Override, When::Never, Kind::Texts),
-    row!(AppKeys, When::Override, When::Never, Kind::Texts),
-    row!(OverridePaths, When::Override, When::Never, Kind::Texts),
+    row!(Description, UnlessDevice, Always, Text(Form::Any)),
+    row!(DisableEnvironment, UnlessDevice, Implicit, Variable),
+    row!(EnableEnvironment, Implicit, Never, Variable),
+    row!(BlacklistedLayers, Override, Never, Texts),
+    row!(AppKeys, Override, Never, Texts),
+    row!(OverridePaths, Override, Never, Texts),
 ];
 
 /// What the file of a driver has to hold.
