@@ -1,0 +1,3 @@
+pub mod Views
+pub mod JsonFiles
+pub mod Memory

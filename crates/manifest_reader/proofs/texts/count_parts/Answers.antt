@@ -1,0 +1,10 @@
+use Rattle.std.proofs.Common.{rules}
+use Rattle.std.proofs.lemmas.Iterator.Consumers.{count_from_yields_List}
+use Rattle.std.proofs.lemmas.Iterator.Splits.{YieldsList-from_slice_split}
+use borrow.Author.Tests.{tests}
+use Rattle.manifest_reader.specs.Texts.{parts_of}
+use Rattle.manifest_reader.proofs.texts.count_parts.Goals as goal
+
+pub returns : goal.returns
+unfolding parts_of
+returns c = count_from_yields_List c.split.result _ c.count.ensures.ran (YieldsList-from_slice_split _ _ c.args.text.now c.split.ensures.rest c.split.ensures.done c.split.ensures.closure (λ x r q k. search (rules, tests)))
