@@ -94,6 +94,7 @@ pub record Counts (ns xs : List ℕ) (xss : List (List ℕ)) : Type 0 where
   pub params : length xss ≡ length ns
   pub handles : count_in xss ≡ length xs
 
+-- the pieces that are seen have as many lists and elements as the lengths say
 pub counts_seen : (limit : ℕ) (ns xs : List ℕ) (ms : List Bool) (xss : List (List ℕ)) → AreWhole limit ns xs ms → cut ns xs ≡ xss → Counts ns xs xss
 counts_seen limit ns xs ms xss whole seen = record {
   params = rw (← seen) (length_cut ns xs);

@@ -22,6 +22,7 @@ CountUp : ℕ → List CommandId → Type 0
 CountUp n [] = Unit {0}
 CountUp n (c ∷ cs) = (number_of c ≡ n) × CountUp (n + 1) cs
 
+-- what stands at place k of commands that count up from n has number n + k
 numbered : (n : ℕ) (cs : List CommandId) (k : ℕ) → CountUp n cs → IfSome (slice_get cs k) (λ c. number_of c ≡ n + k)
 unfolding CountUp
 numbered n [] k up = tt

@@ -27,11 +27,13 @@ less Less h = refl
 less Equal h = cc
 less Greater h = cc
 
+-- texts that compare as equal are one
 same_text : (x y : List ℕ) → slice_cmp nat_cmp x y ≡ Equal → x ≡ y
 same_text x y h =
     let t : bytes_eq x y ≡ true = sym (is_eq-slice_cmp x y) ∙ ap is_eq h in
     (bytes_eq-Decides x y).0 t
 
+-- no answer of a comparison is above `Greater`
 index_small : (o : Ordering) → ordering_index o ≤ 2
 index_small Less = omega arith
 index_small Equal = omega arith
@@ -57,10 +59,12 @@ first_least name c (e ∷ es) h (suc j) d l =
     let m : j < length (e ∷ es) = omega arith in
     omega (arith, before, first_least name e es parts.1 j d m)
 
+-- where names rise, those behind the first do
 rest_rises : (c : CommandId) (cs : List CommandId) → rise (map (λ x. (row_of x).name) (c ∷ cs)) ≡ true → rise (map (λ x. (row_of x).name) cs) ≡ true
 rest_rises c [] h = refl
 rest_rises c (e ∷ es) h = (and_parts (comes_before (row_of c).name (row_of e).name) (rise (map (λ x. (row_of x).name) (e ∷ es))) h).1
 
+-- where names rise, the comparison with a name does not fall
 nondecreasing : (name : List ℕ) (cs : List CommandId) → rise (map (λ x. (row_of x).name) cs) ≡ true → (i j : ℕ) (d : CommandId) → i ≤ j → j < length cs
     → ordering_index (against name (get_or cs i d)) ≤ ordering_index (against name (get_or cs j d))
 nondecreasing name [] h i j d le l = absurd (omega arith)
@@ -71,10 +75,12 @@ nondecreasing name (c ∷ cs) h (suc i) (suc j) d le l =
     let b : j < length cs = omega arith in
     nondecreasing name cs (rest_rises c cs h) i j d a b
 
+-- the names of the table rise
 rising : rise (map (λ x. (row_of x).name) COMMANDS) ≡ true
 unfolding row_of
 rising = refl
 
+-- so the comparison with a name does not fall along the table
 pub commands_rise : (name : List ℕ) → IsNonDecreasingBy (λ c. ordering_index (against name c)) COMMANDS
 commands_rise name i j d le l = nondecreasing name COMMANDS rising i j d le l
 
@@ -100,6 +106,7 @@ commands_at : (c : CommandId) → slice_get COMMANDS (number_of c - 1) ≡ Some 
 commands_at cmd.AcquireNextImageKHR = refl
 commands_at _ = refl
 
+-- what is there stands within the list
 within : (cs : List CommandId) (k : ℕ) (c : CommandId) → slice_get cs k ≡ Some c → k < length cs
 within [] k c h = cc
 within (x ∷ cs) zero c h = omega arith

@@ -27,6 +27,7 @@ impl<const P: usize> Model for HandleArgs<P> {
     ghost invariant = { λ a. AreWhole P a.lengths.items a.handles.items a.unborn.items };
 }
 
+// The sum of lengths.
 fn sum_of(lengths: &[usize]) -> usize
     requires { sum lengths.now < 2 ^ 64 }
     ensures { result ≡ sum lengths.now }
@@ -97,7 +98,7 @@ impl<const P: usize> HandleArgs<P> {
         })
     }
 
-    /// The number of parameters.
+    /// The number of parameters. There is one mark beside each handle.
     #[tactic(auto, using(crate::proofs::Cut::length_cut))]
     pub fn len(&self) -> usize
         ensures count { result ≡ length self.now.lists }

@@ -134,6 +134,7 @@ pub fn find(name: &[u8]) -> Option<CommandId>
     }
 }
 
+// The command at a place.
 fn command_at(commands: &[CommandId], place: usize) -> Option<CommandId>
     ensures { result ≡ slice_get commands.now place }
 {
