@@ -1,5 +1,5 @@
 -- A list cut into pieces.
-use Rattle.std.proofs.Common.{◌≡◌, ℕ, zero, suc, Bool, List, [], ◌∷◌, ◌++◌, length, refl, ap, arith, take, drop, ◌+◌, ◌-◌, ◌≤◌, ◌<◌, set, get_or, sum, ◌∙◌, sym, replicate}
+use Rattle.std.proofs.Common.{◌≡◌, ℕ, zero, suc, Bool, List, [], ◌∷◌, ◌++◌, length, map, refl, ap, arith, take, drop, ◌+◌, ◌-◌, ◌≤◌, ◌<◌, set, get_or, sum, ◌∙◌, sym, replicate}
 use Rattle.std.proofs.lemmas.List.{take-append-le, drop-append-le, nil_from_length, drop-drop, take-set-le, drop-set-lt, drop-set-add, take_all, length-take, length-drop, length-append, get_or-take, get_or-drop}
 use Rattle.std.proofs.lemmas.List.Sums.{sum_by-cons, sum_by-take-le, sum_by_push}
 use Rattle.std.proofs.Math.Seq.{take-set-lt}
@@ -94,6 +94,7 @@ pub record Counts (ns xs : List ℕ) (xss : List (List ℕ)) : Type 0 where
   pub params : length xss ≡ length ns
   pub handles : count_in xss ≡ length xs
 
+-- the pieces that are seen have as many lists and elements as the lengths say
 pub counts_seen : (limit : ℕ) (ns xs : List ℕ) (ms : List Bool) (xss : List (List ℕ)) → AreWhole limit ns xs ms → cut ns xs ≡ xss → Counts ns xs xss
 counts_seen limit ns xs ms xss whole seen = record {
   params = rw (← seen) (length_cut ns xs);
@@ -122,3 +123,18 @@ filled_up xs ys zs x total before n filled same len e =
     let r : total - before ≡ n = omega arith in
     let l : length xs ≤ total = omega arith in
     filled ∙ rw (r, same, take_all total xs l) refl
+
+-- the pieces have the lengths
+lengths_cut : {A : Type 0} (ns : List ℕ) (xs : List A) → sum ns ≡ length xs → map (λ ys. length ys) (cut ns xs) ≡ ns
+lengths_cut [] xs whole = refl
+lengths_cut (n ∷ ns) xs whole =
+    let s = sum-cons n ns in
+    let r : sum ns ≡ length (drop n xs) = omega (arith, length-drop n xs) in
+    let e : length (take n xs) ≡ n = omega (arith, length-take n xs) in
+    rw (e, lengths_cut ns (drop n xs) r) refl
+
+-- there is one mark beside each handle, of what they are seen as
+pub marks_seen : (limit : ℕ) (ns xs : List ℕ) (ms : List Bool) (xss : List (List ℕ)) (mss : List (List Bool)) → AreWhole limit ns xs ms → cut ns xs ≡ xss → cut ns ms ≡ mss
+    → map (λ ys. length ys) mss ≡ map (λ ys. length ys) xss
+marks_seen limit ns xs ms xss mss whole seen marks =
+    rw (← seen, ← marks) (lengths_cut ns ms whole.marked ∙ sym (lengths_cut ns xs whole.all))

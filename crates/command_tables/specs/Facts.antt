@@ -1,5 +1,7 @@
 -- What holds of the rows of the table. Source: this project.
-use Rattle.std.specs.Prelude.{ℕ, ◌+◌, Bool, true, false, not, ◌&&◌, ◌||◌, ◌==◌, nat_le, nat_lt, List, [], ◌∷◌}
+use Rattle.std.specs.Prelude.{ℕ, ◌+◌, Bool, true, false, not, ◌&&◌, nat_le, nat_lt, List, [], ◌∷◌}
+use Rattle.std.specs.Cmp.Lexicographic.{slice_cmp}
+use Rattle.std.specs.Ordering.{is_lt, nat_cmp}
 use Rattle.command_tables.specs.declared.types.CommandId.{CommandId}
 use Rattle.command_tables.specs.declared.types.CommandId.TheVariants as cmd
 use Rattle.command_tables.specs.declared.types.ObjectType.{ObjectType}
@@ -66,9 +68,7 @@ first_fits _ (p ∷ ps) = is_dispatchable p.ty && not p.many && not p.optional
 
 -- the first text comes before the second in byte order
 abbrev pub comes_before : List ℕ → List ℕ → Bool
-comes_before xs [] = false
-comes_before [] (y ∷ ys) = true
-comes_before (x ∷ xs) (y ∷ ys) = nat_lt x y || (x == y && comes_before xs ys)
+comes_before x y = is_lt (slice_cmp nat_cmp x y)
 
 -- these texts rise strictly in byte order
 abbrev pub rise : List (List ℕ) → Bool

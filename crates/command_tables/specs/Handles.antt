@@ -1,5 +1,5 @@
 -- The handles of a call as lists. Source: this project.
-use Rattle.std.specs.Prelude.{◌≡◌, ℕ, ◌≤◌, ◌<◌, Bool, List, [], ◌∷◌, length, sum, sum_by, take, drop, slice_set, slice_index_or}
+use Rattle.std.specs.Prelude.{◌≡◌, ℕ, ◌≤◌, ◌<◌, Bool, List, [], ◌∷◌, length, map, sum, sum_by, take, drop, slice_set, slice_index_or}
 
 -- for each parameter its handles and their unborn marks; and how many parameters, and how many handles in all, can be held with no
 -- further memory
@@ -41,3 +41,7 @@ pub record HasRoom (a : Handles) (params handles : ℕ) : Type 0 where
 -- how many handles there are in all
 abbrev pub count_in : List (List ℕ) → ℕ
 count_in xss = sum_by (λ xs. length xs) xss
+
+-- there is one mark beside each handle
+abbrev pub HasMarks : Handles → Type 0
+HasMarks a = map (λ ms. length ms) a.marks ≡ map (λ xs. length xs) a.lists

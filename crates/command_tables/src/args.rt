@@ -1,6 +1,6 @@
 //! The handles of a call.
 ghost use Rattle.std.specs.Prelude.{◌≡◌, ◌≤◌, ◌<◌, ◌+◌, ◌^◌, ◌++◌, ◌∷◌, [], ℕ, length, map, sum, take, replicate, true, false, slice_index, slice_index_or, IfOk, IsOk, OnOk, OnErr};
-ghost use Rattle.command_tables.specs.Handles.{HasPlace, HasRoom, count_in, cut, list_at, put};
+ghost use Rattle.command_tables.specs.Handles.{HasMarks, HasPlace, HasRoom, count_in, cut, list_at, put};
 
 use crate::memory::{NoMemory, make_room, refill};
 use std::alloc::Global;
@@ -27,6 +27,7 @@ impl<const P: usize> Model for HandleArgs<P> {
     ghost invariant = { λ a. AreWhole P a.lengths.items a.handles.items a.unborn.items };
 }
 
+// The sum of lengths.
 fn sum_of(lengths: &[usize]) -> usize
     requires { sum lengths.now < 2 ^ 64 }
     ensures { result ≡ sum lengths.now }
@@ -97,11 +98,12 @@ impl<const P: usize> HandleArgs<P> {
         })
     }
 
-    /// The number of parameters.
+    /// The number of parameters. There is one mark beside each handle.
     #[tactic(auto, using(crate::proofs::Cut::length_cut))]
     pub fn len(&self) -> usize
         ensures count { result ≡ length self.now.lists }
         ensures limit { result ≤ P }
+        ensures marks { HasMarks self.now }
     {
         self.lengths.len()
     }

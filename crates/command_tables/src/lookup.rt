@@ -1,13 +1,16 @@
 //! Commands by name and by number.
 ghost use Rattle.std.specs.Prelude.{◌≡◌, ◌≢◌, ◌≤◌, ◌-◌, IfSome, IfNone, IsTrue, length, map, slice_get};
-ghost use Rattle.std.specs.List.{find as spec_find, list_all};
-ghost use Rattle.std.specs.Str.{bytes_eq};
+ghost use Rattle.std.specs.Cmp.Lexicographic.{slice_cmp};
+ghost use Rattle.std.specs.List.{list_all};
+ghost use Rattle.std.specs.List.Sorted.{IsBinarySearchResult, IsSearchInRange};
+ghost use Rattle.std.specs.Ordering.{nat_cmp};
 ghost use Rattle.command_tables.specs.Table.{row_of};
 ghost use Rattle.command_tables.specs.Facts.{effect_fits, first_fits, implied_fits, marks_fit, rise};
 ghost use Rattle.command_tables.specs.Numbers.{number_of};
 
 use crate::table::row;
 use crate::types::CommandId;
+use std::cmp::Ordering;
 
 /// The commands in the order of their numbers, which is the byte order of their names.
 pub static COMMANDS: [CommandId; 92] = [
@@ -105,14 +108,19 @@ pub static COMMANDS: [CommandId; 92] = [
     CommandId::WaitForFences,
 ];
 
-// The first of these commands with a name.
-fn find_in(commands: &[CommandId], name: &[u8]) -> Option<CommandId>
-    ensures { result ≡ spec_find (λ c. bytes_eq (row_of c).name name.now) commands.now }
+// How the name of a command compares with a name.
+fn compare(id: CommandId, name: &[u8]) -> Ordering
+    ensures { result ≡ slice_cmp nat_cmp (row_of id).name name.now }
 {
-    commands
-        .iter()
-        .copied()
-        .find(|id| row(*id).name.as_bytes() == name)
+    row(id).name.as_bytes().cmp(name)
+}
+
+// Where a name stands among these commands, whose names rise.
+fn search_by_name(commands: &[CommandId], name: &[u8]) -> Result<usize, usize>
+    ensures bound { IsSearchInRange result (length commands.now) }
+    ensures place { IsBinarySearchResult (λ c. slice_cmp nat_cmp (row_of c).name name.now) commands.now result }
+{
+    commands.binary_search_by(|id| compare(*id, name))
 }
 
 /// The command with a name.
@@ -120,9 +128,13 @@ pub fn find(name: &[u8]) -> Option<CommandId>
     ensures found { IfSome result (λ c. (row_of c).name ≡ name.now) }
     ensures none { IfNone result ((c : CommandId) → (row_of c).name ≢ name.now) }
 {
-    find_in(&COMMANDS, name)
+    match search_by_name(&COMMANDS, name) {
+        Ok(place) => command_at(&COMMANDS, place),
+        Err(_) => None,
+    }
 }
 
+// The command at a place.
 fn command_at(commands: &[CommandId], place: usize) -> Option<CommandId>
     ensures { result ≡ slice_get commands.now place }
 {

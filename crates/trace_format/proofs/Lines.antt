@@ -23,6 +23,7 @@ pub record WentOn {A B : Type 0} (m : Option A) (f : A → Result B TraceFault) 
   pub read : m ≡ Some value
   pub gave : f value ≡ Ok y
 
+-- a reading that had no fault went on from something
 went_on : {A B : Type 0} (m : Option A) (e : TraceFault) (f : A → Result B TraceFault) (y : B) → (ok_or m e >>= f) ≡ Ok y → WentOn m f y
 went_on None e f y h = cc
 went_on (Some x) e f y h = record { value = x; read = refl; gave = h }
@@ -33,6 +34,7 @@ went_on (Some x) e f y h = record { value = x; read = refl; gave = h }
 abbrev ending_text : BeginEvent → List ℕ
 ending_text b = results_text b.results ++ (codes " " ++ (code_text b.code ++ payload_text b.payload))
 
+-- results, code and payload are read as they are spelled
 ending_complete : (b : BeginEvent) → IsBegin b → ending_at b.thread b.cmd b.args (ending_text b) ≡ Ok (Begin b)
 unfolding ending_at
 ending_complete b v =
@@ -42,14 +44,17 @@ ending_complete b v =
       payload_complete b.payload,
     ) refl
 
+-- what follows the arguments begins with a space
 ending_at_end : (ns : List Name) (rest : List ℕ) → AtEnd 32 (results_text ns ++ (codes " " ++ rest))
 ending_at_end [] rest = refl
 ending_at_end (n ∷ ns) rest = refl
 
+-- so do the arguments, where there are any
 args_end : (args : List Arg) (rest : List ℕ) → AtEnd 32 rest → AtEnd 32 (args_text args ++ rest)
 args_end [] rest end = end
 args_end (a ∷ args) rest end = refl
 
+-- what follows a command is read as it is spelled
 tail_complete : (b : BeginEvent) → IsBegin b → tail_at b.thread b.cmd (tail_text b) ≡ Ok (Begin b)
 unfolding tail_at
 tail_complete b v =
@@ -59,6 +64,7 @@ tail_complete b v =
       ending_complete b v,
     ) refl
 
+-- a begin is read as it is spelled
 begin_complete : (b : BeginEvent) → IsBegin b → begin_at (decimal b.thread ++ (codes " " ++ ((row_of b.cmd).name ++ tail_text b))) ≡ Ok (Begin b)
 unfolding begin_at
 begin_complete b v =
@@ -75,41 +81,50 @@ begin_complete b v =
       tail_complete b v,
     ) refl
 
+-- a return is read as it is spelled
 return_complete : (thread : ℕ) → IsEvent (Return thread) → return_at (decimal thread) ≡ Ok (Return thread)
 unfolding return_at
 return_complete thread v = rw ((number_reader 1024 (lit< tt)).complete thread v) refl
 
 -- ---- spellings can be printed
 
+-- names can be printed
 name_prints : (n : Name) → IsName n → Each is_printable (name_text n)
 name_prints n v = name_each is_printable digit_prints refl refl n v
 
+-- places can be printed
 one_prints : (o : Option Name) → IsOne o → Each is_printable (one_text o)
 one_prints o v = one_each is_printable name_prints (each is_printable (codes "null") refl) o v
 
+-- arguments can be printed
 args_print : (ps : List ParamSpec) (args : List Arg) → FitParams ps args → Each is_printable (args_text args)
 args_print [] [] v = tt
 args_print [] (a ∷ args) v = absurd v
 args_print (p ∷ ps) [] v = absurd v
 args_print (p ∷ ps) (a ∷ args) v = (refl, each_append is_printable (arg_text a) (args_text args) (arg_each is_printable one_prints refl refl refl p.many a v.0) (args_print ps args v.1))
 
+-- results can be printed
 results_print : (ns : List Name) → AllByRecursion IsName ns → Each is_printable (results_text ns)
 results_print [] v = tt
 results_print (n ∷ ns) v = (refl, (refl, (refl, each_join is_printable refl (map name_text (n ∷ ns)) (all_texts IsName name_text is_printable name_prints (n ∷ ns) v))))
 
+-- payloads can be printed
 payload_prints : (p : List ℕ) → AllByRecursion (λ c. is_printable c ≡ true) p → Each is_printable (payload_text p)
 payload_prints [] v = tt
 payload_prints (b ∷ bytes) v = (refl, (refl, (refl, v)))
 
+-- what follows a command can be printed
 tail_prints : (b : BeginEvent) → IsBegin b → Each is_printable (tail_text b)
 tail_prints b v =
     each_append is_printable (args_text b.args) (ending_text b) (args_print (row_of b.cmd).params b.args v.args)
     (each_append is_printable (results_text b.results) (codes " " ++ (code_text b.code ++ payload_text b.payload)) (results_print b.results v.names)
     (refl, each_append is_printable (code_text b.code) (payload_text b.payload) (code_prints b.code) (payload_prints b.payload v.payload)))
 
+-- threads can be printed
 thread_prints : (thread : ℕ) → IsEvent (Return thread) → Each is_printable (decimal thread)
 thread_prints thread v = number_each is_printable digit_prints 1024 thread (lit< tt) v
 
+-- a spelling can be printed
 pub spelling_prints : (e : TraceEvent) → IsEvent e → Each is_printable (spelling e)
 spelling_prints (Return thread) v = (refl, (refl, thread_prints thread v))
 spelling_prints (Begin b) v = (
@@ -121,6 +136,7 @@ spelling_prints (Begin b) v = (
   ),
 )
 
+-- a spelling is read by its first letter
 by_letter_complete : (e : TraceEvent) → IsEvent e → by_letter (after (codes "b ") (spelling e)) (after (codes "r ") (spelling e)) ≡ Ok e
 by_letter_complete (Return thread) v = return_complete thread v
 by_letter_complete (Begin b) v = begin_complete b v
@@ -145,6 +161,7 @@ record EndingRead (thread : ℕ) (cmd : CommandId) (args : List Arg) (bytes : Li
   there : is_some code ≡ (row_of cmd).returns
   text : bytes ≡ results_text results ++ (codes " " ++ (code_text code ++ payload_text payload))
 
+-- results, code and payload that were read are spelled so
 ending_read : (thread : ℕ) (cmd : CommandId) (args : List Arg) (bytes : List ℕ) (e : TraceEvent) → ending_at thread cmd args bytes ≡ Ok e → EndingRead thread cmd args bytes e
 unfolding ending_at
 ending_read thread cmd args bytes e h =
@@ -179,6 +196,7 @@ record BeginRead (bytes : List ℕ) (e : TraceEvent) : Type 0 where
   event : AllByRecursion (λ c. is_printable c ≡ true) begin.payload → IsBegin begin
   text : bytes ≡ decimal begin.thread ++ (codes " " ++ ((row_of begin.cmd).name ++ tail_text begin))
 
+-- a begin that was read is spelled so
 begin_read : (bytes : List ℕ) (e : TraceEvent) → begin_at bytes ≡ Ok e → BeginRead bytes e
 unfolding begin_at tail_at
 begin_read bytes e h =
@@ -207,6 +225,7 @@ payload_of_text : (p : List ℕ) → Each is_printable (payload_text p) → AllB
 payload_of_text [] h = tt
 payload_of_text (b ∷ bytes) h = h.1.1.1
 
+-- the payload of a printable line is printable
 payload_of_line : (b : BeginEvent) → Each is_printable (spelling (Begin b)) → AllByRecursion (λ c. is_printable c ≡ true) b.payload
 payload_of_line b h =
     let thread = each_right is_printable (decimal b.thread) (codes " " ++ ((row_of b.cmd).name ++ tail_text b)) h.1.1 in
@@ -215,6 +234,7 @@ payload_of_line b h =
     let results = each_right is_printable (results_text b.results) (codes " " ++ (code_text b.code ++ payload_text b.payload)) args in
     payload_of_text b.payload (each_right is_printable (code_text b.code) (payload_text b.payload) results.1)
 
+-- a line that is read as a begin spells it
 begin_spelled : (line rest : List ℕ) (e : TraceEvent) → Each is_printable line → after (codes "b ") line ≡ Some rest → begin_at rest ≡ Ok e → Spells line e
 begin_spelled line rest e prints is h =
     let b = begin_read rest e h in
@@ -222,6 +242,7 @@ begin_spelled line rest e prints is h =
     let payload = payload_of_line b.begin (subst (λ l. Each is_printable l) text prints) in
     subst (λ f. Spells line f) b.is (record { event = b.event payload; text = text })
 
+-- a line that is read as a return spells it
 return_spelled : (line rest : List ℕ) (e : TraceEvent) → after (codes "r ") line ≡ Some rest → return_at rest ≡ Ok e → Spells line e
 unfolding return_at
 return_spelled line rest e is h =
@@ -263,9 +284,11 @@ faulty line none = go (read_line line) (λ e h. none e (spelled_read line e h))
     go (Ok e) h = absurd (h e refl)
     go (Err e) h = refl
 
+-- a line has a fault exactly where it spells nothing
 pub faults_agree : (line : List ℕ) → IsErr (read_line line) ↔ ((e : TraceEvent) → Spells line e → ⊥)
 faults_agree line = (faultless line, faulty line)
 
+-- a line spells one event at most
 pub one_event : (line : List ℕ) (e other : TraceEvent) → Spells line e → Spells line other → e ≡ other
 one_event line e other s t = let a = read_spelled line e s in let b = read_spelled line other t in cc
 
@@ -275,6 +298,7 @@ each_at p [] k x h l = absurd (omega arith)
 each_at p (b ∷ bytes) zero x h l = h.0
 each_at p (b ∷ bytes) (suc k) x h l = let m : k < length bytes = omega arith in each_at p bytes k x h.1 m
 
+-- no spelling holds a line feed
 pub no_line_feed : (line : List ℕ) (e : TraceEvent) → Spells line e → Contains line 10 → ⊥
 no_line_feed line e s has =
     let prints : Each is_printable line = subst (λ l. Each is_printable l) (sym s.text) (spelling_prints e s.event) in

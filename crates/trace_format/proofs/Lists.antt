@@ -17,9 +17,6 @@ use Rattle.trace_format.proofs.Names.{one_lacks, one_reader}
 
 -- ---- pieces between commas
 
-is_comma : ℕ → Bool
-is_comma b = b == 44
-
 -- a text without a comma is the one piece
 pieces_one : (t : List ℕ) → Each (is_not 44) t → pieces t ≡ t ∷ []
 pieces_one [] h = refl
@@ -65,10 +62,12 @@ all_texts V text p h (x ∷ xs) v = (h x v.0, all_texts V text p h xs v.1)
 places_lack : (c : ℕ) → (c < 48) ⊎ (57 < c) → is_not c 37 ≡ true → is_not c 46 ≡ true → Each (is_not c) (codes "null") → (os : List (Option Name)) → AllByRecursion IsOne os → AllByRecursion (Each (is_not c)) (map one_text os)
 places_lack c away percent dot null os v = all_texts IsOne one_text (is_not c) (λ o h. one_lacks c o away percent dot null h) os v
 
+-- places that are joined to a text with a first byte are read piece by piece
 places_of_joined : (b : ℕ) (t : List ℕ) (ts : List (List ℕ)) → places_of (join_with_byte 44 ((b ∷ t) ∷ ts)) ≡ all_of one_of (pieces (join_with_byte 44 ((b ∷ t) ∷ ts)))
 places_of_joined b t [] = refl
 places_of_joined b t (u ∷ us) = refl
 
+-- places are read as they are spelled
 places_complete : (os : List (Option Name)) → AllByRecursion IsOne os → places_of (join_with_byte 44 (map one_text os)) ≡ Some os
 places_complete [] v = refl
 places_complete (None ∷ os) v =
@@ -78,6 +77,7 @@ places_complete (Some n ∷ os) v =
     places_of_joined 37 (decimal n.thread ++ (codes "." ++ decimal n.number)) (map one_text os)
     ∙ (ap (all_of one_of) (pieces_join (one_text (Some n)) (map one_text os) (places_lack 44 (inl (lit< tt)) refl refl (each (is_not 44) (codes "null") refl) (Some n ∷ os) v)) ∙ all_complete one_reader (Some n ∷ os) v)
 
+-- a text that is read as places is their spelling
 places_sound : (bytes : List ℕ) (os : List (Option Name)) → places_of bytes ≡ Some os → AllByRecursion IsOne os × (bytes ≡ join_with_byte 44 (map one_text os))
 places_sound [] os h = let e : [] ≡ os = cc in subst (λ v. AllByRecursion IsOne v × ([] ≡ join_with_byte 44 (map one_text v))) e (tt, refl)
 places_sound (b ∷ bytes) os h =
@@ -86,12 +86,14 @@ places_sound (b ∷ bytes) os h =
 
 -- ---- arguments
 
+-- a list is read as it is spelled
 list_complete : (os : List (Option Name)) → nat_le (length os) 1024 ≡ true → AllByRecursion IsOne os → list_of (codes "[" ++ (join_with_byte 44 (map one_text os) ++ codes "]")) ≡ Some (record { many = true; names = os })
 unfolding list_of
 list_complete os few v =
     let lacks : Each (is_not 93) (join_with_byte 44 (map one_text os)) = each_join (is_not 93) refl (map one_text os) (places_lack 93 (inr (lit< tt)) refl refl (each (is_not 93) (codes "null") refl) os v) in
     rw (until_append 93 (join_with_byte 44 (map one_text os)) (codes "]") lacks refl, from_append 93 (join_with_byte 44 (map one_text os)) (codes "]") lacks refl, places_complete os v, few) refl
 
+-- a text that is read as a list is its spelling
 list_sound : (w : List ℕ) (a : Arg) → list_of w ≡ Some a → HasForm true a × (w ≡ arg_text a)
 unfolding list_of
 list_sound w a h =
@@ -111,6 +113,7 @@ one_of_one [] h = cc
 one_of_one (o ∷ []) h = (o, refl)
 one_of_one (o ∷ u ∷ us) h = let e : length (o ∷ u ∷ us) ≡ 1 = eqb-true (length (o ∷ u ∷ us)) 1 h in absurd (omega arith)
 
+-- an argument is read as it is spelled
 arg_complete : (many : Bool) (a : Arg) → HasForm many a → arg_of many (arg_text a) ≡ Some a
 unfolding arg_of
 arg_complete true a v =
@@ -122,6 +125,7 @@ arg_complete false a v =
     let text : arg_text a ≡ one_text o.0 = ap (λ m. cond m (codes "[" ++ (join_with_byte 44 (map one_text a.names) ++ codes "]")) (join_with_byte 44 (map one_text a.names))) v.0 ∙ ap (λ os. join_with_byte 44 (map one_text os)) o.1 in
     ap (λ w. option_map single (one_of w)) text ∙ (ap (λ m. option_map single m) (one_reader.complete o.0 one) ∙ (ap (λ os. Some (record { many = false; names = os })) (sym o.1) ∙ ap (λ m. Some (record { many = m; names = a.names })) (sym v.0)))
 
+-- a text that is read as an argument is its spelling
 arg_sound : (many : Bool) (w : List ℕ) (a : Arg) → arg_of many w ≡ Some a → HasForm many a × (w ≡ arg_text a)
 unfolding arg_of
 arg_sound true w a h = list_sound w a h
@@ -130,12 +134,14 @@ arg_sound false w a h =
     let s = one_reader.sound w m.value m.read in
     subst (λ v. HasForm false v × (w ≡ arg_text v)) m.gave ((refl, refl, (s.0, tt)), s.1)
 
+-- arguments are read as they are spelled
 pub args_complete : (ps : List ParamSpec) (args : List Arg) → FitParams ps args → args_of ps (map arg_text args) ≡ Some args
 args_complete [] [] v = refl
 args_complete [] (a ∷ args) v = absurd v
 args_complete (p ∷ ps) [] v = absurd v
 args_complete (p ∷ ps) (a ∷ args) v = rw (arg_complete p.many a v.0, args_complete ps args v.1) refl
 
+-- texts that are read as arguments are their spellings
 pub args_sound : (ps : List ParamSpec) (ws : List (List ℕ)) (args : List Arg) → args_of ps ws ≡ Some args → FitParams ps args × (ws ≡ map arg_text args)
 args_sound [] [] args h = let e : [] ≡ args = cc in subst (λ v. FitParams [] v × ([] ≡ map arg_text v)) e (tt, refl)
 args_sound [] (w ∷ ws) args h = cc
@@ -174,14 +180,17 @@ all_some : (os : List (Option Name)) → AllByRecursion (λ o. IsSome o) os → 
 all_some [] h = refl
 all_some (o ∷ os) h = and_from (is_some o) (list_all is_some os) h.0 (all_some os h.1)
 
+-- and the other way round
 some_all : (os : List (Option Name)) → list_all is_some os ≡ true → AllByRecursion (λ o. IsSome o) os
 some_all [] h = tt
 some_all (o ∷ os) h = let parts = and_parts (is_some o) (list_all is_some os) h in (parts.0, some_all os parts.1)
 
+-- a first argument that is not null passes the test
 pub first_complete : (args : List Arg) → HasFirst args → has_first args ≡ true
 first_complete [] h = refl
 first_complete (a ∷ args) h = all_some a.names h
 
+-- and one that passes it is not null
 pub first_sound : (args : List Arg) → has_first args ≡ true → HasFirst args
 first_sound [] h = tt
 first_sound (a ∷ args) h = some_all a.names h

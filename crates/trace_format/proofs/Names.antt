@@ -14,9 +14,11 @@ use Rattle.trace_format.proofs.Texts.{Each, Reads, after_is, each_append, each_w
 
 -- ---- numbers
 
+-- the digits and the value that the grammar reads are those of decimal numbers
 own : IsNumeralModel (λ ds. all_ascii_digits ds ≡ true) (value_after 0)
 own = numerals_by_fold _ (search rules) value_after (search rules)
 
+-- a text of digits has digits alone
 each_digit : (w : List ℕ) → all_ascii_digits w ≡ true → Each is_ascii_digit w
 each_digit [] h = tt
 each_digit (b ∷ w) h = let parts = and_parts (is_ascii_digit b) (all_ascii_digits w) h in (parts.0, each_digit w parts.1)
@@ -42,6 +44,7 @@ positive w n h e = elim (cases_eq n 0) [
   | inr ne ↦ let g : n ≡ 0 → ⊥ = ne in omega arith
 ]
 
+-- a number up to the limit is read as it is spelled
 number_complete : (limit : ℕ) → limit < 2 ^ 32 → (n : ℕ) → IsUpTo limit n → number_up_to limit (decimal n) ≡ Some n
 unfolding number_up_to
 number_complete limit bound n v =
@@ -52,6 +55,7 @@ number_complete limit bound n v =
     let l : nat_le n limit ≡ true = le-leb n limit v.1 in
     rw (d, f, value, l) refl
 
+-- a text that is read as a number is its spelling
 number_sound : (limit : ℕ) → limit < 2 ^ 32 → (w : List ℕ) (n : ℕ) → number_up_to limit w ≡ Some n → IsUpTo limit n × (w ≡ decimal n)
 unfolding number_up_to
 number_sound limit bound w n h =
@@ -64,6 +68,7 @@ number_sound limit bound w n h =
     let e : w ≡ decimal n = sym d ∙ ap (λ k. decimal k) p.1 in
     ((positive w n b.1 e, omega (arith, le, p.1)), e)
 
+-- numbers are read just as they are spelled
 pub number_reader : (limit : ℕ) → limit < 2 ^ 32 → Reads (IsUpTo limit) decimal (number_up_to limit)
 number_reader limit bound = record { complete = number_complete limit bound; sound = number_sound limit bound }
 
@@ -116,6 +121,7 @@ pub one_each : (p : ℕ → Bool) → ((n : Name) → IsName n → Each p (name_
 one_each p name null None v = null
 one_each p name null (Some n) v = name n v
 
+-- a name is read as it is spelled
 name_complete : (n : Name) → IsName n → name_of (name_text n) ≡ Some n
 unfolding name_of
 name_complete n v =
@@ -134,6 +140,7 @@ both_numbers None (Some y) n h = cc
 both_numbers (Some x) None n h = cc
 both_numbers (Some x) (Some y) n h = (cc, cc)
 
+-- a text that is read as a name is its spelling
 name_sound : (w : List ℕ) (n : Name) → name_of w ≡ Some n → IsName n × (w ≡ name_text n)
 unfolding name_of
 name_sound w n h =
@@ -146,6 +153,7 @@ name_sound w n h =
     let dot : from 46 a.value ≡ 46 ∷ d.value = after_is (codes ".") (from 46 a.value) d.value d.read in
     ((t.0, k.0), w_is ∙ ap (λ r. 37 ∷ r) (until_from 46 a.value ∙ (ap (λ s. s ++ from 46 a.value) t.1 ∙ ap (λ s. decimal n.thread ++ s) (dot ∙ ap (λ s. 46 ∷ s) k.1))))
 
+-- names are read just as they are spelled
 pub name_reader : Reads IsName name_text name_of
 name_reader = record { complete = name_complete; sound = name_sound }
 
@@ -156,11 +164,13 @@ pub one_lacks : (c : ℕ) (o : Option Name) → (c < 48) ⊎ (57 < c) → is_not
 one_lacks c None away percent dot null v = null
 one_lacks c (Some n) away percent dot null v = name_lacks c n away percent dot v
 
+-- a place is read as it is spelled
 one_complete : (o : Option Name) → IsOne o → one_of (one_text o) ≡ Some o
 unfolding one_of
 one_complete None v = refl
 one_complete (Some n) v = ap (λ m. option_map Some m) (name_complete n v)
 
+-- a text that is read as a place is its spelling
 one_sound : (w : List ℕ) (o : Option Name) → one_of w ≡ Some o → IsOne o × (w ≡ one_text o)
 unfolding one_of
 one_sound w o h = go (bytes_eq w (codes "null")) (bytes_eq-Decides w (codes "null")).0 h
@@ -172,5 +182,6 @@ one_sound w o h = go (bytes_eq w (codes "null")) (bytes_eq-Decides w (codes "nul
         let s = name_sound w m.value m.read in
         subst (λ v. IsOne v × (w ≡ one_text v)) m.gave s
 
+-- places are read just as they are spelled
 pub one_reader : Reads IsOne one_text one_of
 one_reader = record { complete = one_complete; sound = one_sound }

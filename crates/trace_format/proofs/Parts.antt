@@ -25,20 +25,25 @@ use Rattle.trace_format.proofs.Lists.{all_texts, arg_each, arg_nonempty, args_co
 
 -- ---- spaces
 
+-- no name holds a space
 name_lacks_space : (n : Name) → IsName n → Each (is_not 32) (name_text n)
 name_lacks_space n v = name_each (is_not 32) digit_no_space refl refl n v
 
+-- no place holds a space
 one_lacks_space : (o : Option Name) → IsOne o → Each (is_not 32) (one_text o)
 one_lacks_space o v = one_each (is_not 32) name_lacks_space (each (is_not 32) (codes "null") refl) o v
 
+-- no argument holds a space
 arg_lacks_space : (many : Bool) (a : Arg) → HasForm many a → Each (is_not 32) (arg_text a)
 arg_lacks_space many a v = arg_each (is_not 32) one_lacks_space refl refl refl many a v
 
+-- no list of names holds a space
 names_lack_space : (ns : List Name) → AllByRecursion IsName ns → Each (is_not 32) (join_with_byte 44 (map name_text ns))
 names_lack_space ns v = each_join (is_not 32) refl (map name_text ns) (all_texts IsName name_text (is_not 32) name_lacks_space ns v)
 
 -- ---- arguments
 
+-- arguments before an end begin with a space, or are none
 args_at_end : (args : List Arg) (rest : List ℕ) → AtEnd 32 rest → AtEnd 32 (args_text args ++ rest)
 args_at_end [] rest end = end
 args_at_end (a ∷ args) rest end = refl
@@ -47,9 +52,11 @@ args_at_end (a ∷ args) rest end = refl
 args_text_more : (a : Arg) (args : List Arg) (rest : List ℕ) → args_text (a ∷ args) ++ rest ≡ 32 ∷ (arg_text a ++ (args_text args ++ rest))
 args_text_more a args rest = ap (λ r. 32 ∷ r) (append_assoc (arg_text a) (args_text args) rest)
 
+-- a word after one space is cut there
 word_complete : (w rest : List ℕ) → Each (is_not 32) w → is_nonempty w ≡ true → AtEnd 32 rest → word_at (32 ∷ (w ++ rest)) ≡ Some (w, rest)
 word_complete w rest lacks there end = rw (until_append 32 w rest lacks end, from_append 32 w rest lacks end, there) refl
 
+-- arguments are cut into their words
 pub words_complete : (ps : List ParamSpec) (args : List Arg) (rest : List ℕ) → FitParams ps args → AtEnd 32 rest → words_at ps (args_text args ++ rest) ≡ Some (map arg_text args, rest)
 words_complete [] [] rest v end = refl
 words_complete [] (a ∷ args) rest v end = absurd v
@@ -64,16 +71,19 @@ words_complete (p ∷ ps) (a ∷ args) rest v end =
 abbrev pub spaced : List (List ℕ) → List ℕ
 spaced ws = flat_map (λ w. codes " " ++ w) ws
 
+-- the words of arguments, each after one space, are the text of the arguments
 spaced_args : (args : List Arg) → spaced (map arg_text args) ≡ args_text args
 spaced_args [] = refl
 spaced_args (a ∷ args) = ap (λ r. 32 ∷ (arg_text a ++ r)) (spaced_args args)
 
+-- a word that was cut stood after one space
 word_sound : (bytes : List ℕ) (x : List ℕ × List ℕ) → word_at bytes ≡ Some x → bytes ≡ 32 ∷ (x.0 ++ x.1)
 word_sound bytes x h =
     let a = went (after (codes " ") bytes) cut_word x h in
     let p = passed (is_nonempty (until 32 a.value)) (until 32 a.value, from 32 a.value) x a.gave in
     after_is (codes " ") bytes a.value a.read ∙ (ap (λ r. 32 ∷ r) (until_from 32 a.value) ∙ ap (λ (y : List ℕ × List ℕ). 32 ∷ (y.0 ++ y.1)) p.1)
 
+-- words that were cut stood each after one space
 words_sound : (ps : List ParamSpec) (bytes : List ℕ) (x : List (List ℕ) × List ℕ) → words_at ps bytes ≡ Some x → bytes ≡ spaced x.0 ++ x.1
 words_sound [] bytes x h = let e : ([], bytes) ≡ x = cc in ap (λ (y : List (List ℕ) × List ℕ). spaced y.0 ++ y.1) e
 words_sound (p ∷ ps) bytes x h =
@@ -89,6 +99,7 @@ pub record ArgsRead (ps : List ParamSpec) (bytes : List ℕ) (args : List Arg) (
   pub first : HasFirst args
   pub text : bytes ≡ args_text args ++ rest
 
+-- arguments that were read stood at the front
 pub args_read : (ps : List ParamSpec) (bytes : List ℕ) (x : List (List ℕ) × List ℕ) (args : List Arg) → words_at ps bytes ≡ Some x → args_in ps x.0 ≡ Some args → ArgsRead ps bytes args x.1
 args_read ps bytes x args h k =
     let a = went (args_of ps x.0) (λ as'. only_if (has_first as') as') args k in
@@ -100,11 +111,13 @@ args_read ps bytes x args h k =
       text = words_sound ps bytes x h ∙ (ap (λ ws. spaced ws ++ x.1) s.1 ∙ ap (λ t. t ++ x.1) (spaced_args args));
     }
 
+-- arguments that fit are read from their words
 pub args_in_complete : (ps : List ParamSpec) (args : List Arg) → FitParams ps args → HasFirst args → args_in ps (map arg_text args) ≡ Some args
 args_in_complete ps args fit first = rw (args_complete ps args fit, first_complete args first) refl
 
 -- ---- results
 
+-- results are read as they are spelled
 pub results_complete : (e : Effect) (ns : List Name) (rest : List ℕ) → takes e (length ns) ≡ true → AllByRecursion IsName ns → AtEnd 32 rest → after (codes " = ") rest ≡ None
     → results_at e (results_text ns ++ rest) ≡ Some (ns, rest)
 results_complete e [] rest t v end other = rw (other, t) refl
@@ -132,6 +145,7 @@ results_of_pieces [] bytes h =
     absurd (omega (arith, length-slice_split (λ b. b == 44) bytes))
 results_of_pieces (n ∷ ns) bytes h = refl
 
+-- results that were read behind ` = ` are spelled so
 results_with : (e : Effect) (bytes rest : List ℕ) (x : List Name × List ℕ) → bytes ≡ codes " = " ++ rest → names_at e rest ≡ Some x → ResultsRead e bytes x
 results_with e bytes rest x text h =
     let a = went (all_of name_of (pieces (until 32 rest))) (λ names. only_if (takes e (length names)) (names, from 32 rest)) x h in
@@ -142,11 +156,13 @@ results_with e bytes rest x text h =
     text ∙ (ap (λ r. codes " = " ++ r) (until_from 32 rest ∙ ap (λ w. w ++ from 32 rest) word) ∙ ap (λ r. r ++ from 32 rest) (sym (results_of_pieces a.value (until 32 rest) s.1))) in
     subst (λ y. ResultsRead e bytes y) p.1 (record { takes_them = p.0; names = s.0; text = whole })
 
+-- where there is no ` = `, there are no results
 results_without : (e : Effect) (bytes : List ℕ) (x : List Name × List ℕ) → only_if (takes e 0) ([], bytes) ≡ Some x → ResultsRead e bytes x
 results_without e bytes x h =
     let p = passed (takes e 0) ([], bytes) x h in
     subst (λ y. ResultsRead e bytes y) p.1 (record { takes_them = p.0; names = tt; text = refl })
 
+-- results that were read stood at the front
 pub results_read : (e : Effect) (bytes : List ℕ) (x : List Name × List ℕ) → results_at e bytes ≡ Some x → ResultsRead e bytes x
 results_read e bytes x h = go (after (codes " = ") bytes) refl h
   where
@@ -156,6 +172,7 @@ results_read e bytes x h = go (after (codes " = ") bytes) refl h
 
 -- ---- codes
 
+-- a code is read as it is spelled
 code_complete : (c : Option Code) → code_of (code_text c) ≡ Some c
 unfolding code_of
 code_complete None = refl
@@ -171,6 +188,7 @@ found_name key name (x ∷ xs) y h = go (found_name key name xs y) (bytes_eq (ke
     go ih true is k = let e : x ≡ y = cc in sym (is refl) ∙ ap key e
     go ih false is k = ih k
 
+-- a text that is read as a code is its spelling
 code_sound : (w : List ℕ) (c : Option Code) → code_of w ≡ Some c → w ≡ code_text c
 unfolding code_of
 code_sound w c h = go (bytes_eq w (codes "void")) (bytes_eq-Decides w (codes "void")).0 h
@@ -181,6 +199,7 @@ code_sound w c h = go (bytes_eq w (codes "void")) (bytes_eq-Decides w (codes "vo
         let m = mapped Some (find (λ x. bytes_eq (code_name x) w) CODES) c k in
         found_name code_name w CODES m.value m.read ∙ ap code_text m.gave
 
+-- no code holds a space
 code_lacks_space : (c : Option Code) → Each (is_not 32) (code_text c)
 code_lacks_space None = each (is_not 32) (codes "void") refl
 code_lacks_space (Some code.Success) = each (is_not 32) (code_name code.Success) refl
@@ -191,11 +210,13 @@ agrees_same : (r s : Bool) → s ≡ r → agrees r s ≡ true
 agrees_same true s h = h
 agrees_same false s h = ap not h
 
+-- and the other way round
 same_agrees : (r s : Bool) → agrees r s ≡ true → s ≡ r
 same_agrees true s h = h
 same_agrees false true h = cc
 same_agrees false false h = refl
 
+-- a code after one space is read as it is spelled
 pub code_at_complete : (row : RowSpec) (c : Option Code) (rest : List ℕ) → is_some c ≡ row.returns → AtEnd 32 rest → code_at row (32 ∷ (code_text c ++ rest)) ≡ Some (c, rest)
 code_at_complete row c rest is end = rw (until_append 32 (code_text c) rest (code_lacks_space c) end, from_append 32 (code_text c) rest (code_lacks_space c) end, code_complete c, agrees_same row.returns (is_some c) is) refl
 
@@ -204,6 +225,7 @@ pub record CodeRead (row : RowSpec) (bytes : List ℕ) (x : Option Code × List 
   pub there : is_some x.0 ≡ row.returns
   pub text : bytes ≡ codes " " ++ (code_text x.0 ++ x.1)
 
+-- a code that was read stood at the front
 pub code_read : (row : RowSpec) (bytes : List ℕ) (x : Option Code × List ℕ) → code_at row bytes ≡ Some x → CodeRead row bytes x
 code_read row bytes x h =
     let a = went (after (codes " ") bytes) (code_in row) x h in
@@ -221,14 +243,17 @@ code_is_no_result (Some _) rest = refl
 
 -- ---- payloads
 
+-- a payload is read as it is spelled
 pub payload_complete : (p : List ℕ) → payload_at (payload_text p) ≡ Some p
 payload_complete [] = refl
 payload_complete (b ∷ bytes) = refl
 
+-- a payload that is not empty is spelled behind ` : `
 payload_with : (p : List ℕ) → is_nonempty p ≡ true → codes " : " ++ p ≡ payload_text p
 payload_with [] h = cc
 payload_with (b ∷ p) h = refl
 
+-- bytes that are read as a payload are its spelling
 pub payload_sound : (bytes p : List ℕ) → payload_at bytes ≡ Some p → bytes ≡ payload_text p
 payload_sound [] p h = let e : [] ≡ p = cc in ap payload_text e
 payload_sound (b ∷ bytes) p h =
@@ -236,31 +261,37 @@ payload_sound (b ∷ bytes) p h =
     let t = passed (is_nonempty a.value) a.value p a.gave in
     after_is (codes " : ") (b ∷ bytes) a.value a.read ∙ (payload_with a.value t.0 ∙ ap payload_text t.1)
 
+-- a payload begins with a space, or is empty
 pub payload_at_end : (p : List ℕ) → AtEnd 32 (payload_text p)
 payload_at_end [] = tt
 payload_at_end (b ∷ bytes) = refl
 
 -- ---- commands
 
+-- a command is read as it is spelled
 pub command_complete : (c : CommandId) → command_of (row_of c).name ≡ Some c
 unfolding command_of row_of
 command_complete cmd.AcquireNextImageKHR = refl
 command_complete _ = refl
 
+-- a text that is read as a command is its name
 pub command_sound : (w : List ℕ) (c : CommandId) → command_of w ≡ Some c → w ≡ (row_of c).name
 unfolding command_of
 command_sound w c h = found_name (λ d. (row_of d).name) w COMMANDS c h
 
+-- no name of a command holds a space
 pub command_lacks_space : (c : CommandId) → Each (is_not 32) (row_of c).name
 unfolding row_of
 command_lacks_space cmd.AcquireNextImageKHR = each (is_not 32) (row_of cmd.AcquireNextImageKHR).name refl
 command_lacks_space c = each (is_not 32) (row_of c).name refl
 
+-- names of commands can be printed
 pub command_prints : (c : CommandId) → Each is_printable (row_of c).name
 unfolding row_of
 command_prints cmd.AcquireNextImageKHR = each is_printable (row_of cmd.AcquireNextImageKHR).name refl
 command_prints c = each is_printable (row_of c).name refl
 
+-- codes can be printed
 pub code_prints : (c : Option Code) → Each is_printable (code_text c)
 code_prints None = each is_printable (codes "void") refl
 code_prints (Some code.Success) = each is_printable (code_name code.Success) refl

@@ -16,18 +16,22 @@ abbrev pub Each : (ℕ → Bool) → List ℕ → Type 0
 Each p [] = ⊤
 Each p (b ∷ bytes) = (p b ≡ true) × Each p bytes
 
+-- a test of all bytes is passed by each
 pub each : (p : ℕ → Bool) (bytes : List ℕ) → list_all p bytes ≡ true → Each p bytes
 each p [] h = tt
 each p (b ∷ bytes) h = let parts = and_parts (p b) (list_all p bytes) h in (parts.0, each p bytes parts.1)
 
+-- and the other way round
 pub each_all : (p : ℕ → Bool) (bytes : List ℕ) → Each p bytes → list_all p bytes ≡ true
 each_all p [] h = refl
 each_all p (b ∷ bytes) h = and_from (p b) (list_all p bytes) h.0 (each_all p bytes h.1)
 
+-- each byte of two texts passes, so each of both together
 pub each_append : (p : ℕ → Bool) (s t : List ℕ) → Each p s → Each p t → Each p (s ++ t)
 each_append p [] t hs ht = ht
 each_append p (b ∷ s) t hs ht = (hs.0, each_append p s t hs.1 ht)
 
+-- each byte of both together passes, so each of the second text
 pub each_right : (p : ℕ → Bool) (s t : List ℕ) → Each p (s ++ t) → Each p t
 each_right p [] t h = h
 each_right p (b ∷ s) t h = each_right p s t h.1
@@ -48,6 +52,7 @@ abbrev pub AtEnd : ℕ → List ℕ → Type 0
 AtEnd c [] = ⊤
 AtEnd c (b ∷ bytes) = (b == c) ≡ true
 
+-- a text that lacks c, before an end, is all that stands before the first c
 pub until_append : (c : ℕ) (s t : List ℕ) → Each (is_not c) s → AtEnd c t → until c (s ++ t) ≡ s
 until_append c [] [] lacks end = refl
 until_append c [] (b ∷ t) lacks end = ap (λ x. cond x [] (b ∷ until c t)) end
@@ -57,6 +62,7 @@ until_append c (b ∷ s) t lacks end = go (b == c) lacks.0 (until_append c s t l
     go true h ih = cc
     go false h ih = ap (λ r. b ∷ r) ih
 
+-- and what follows is all that stands from there on
 pub from_append : (c : ℕ) (s t : List ℕ) → Each (is_not c) s → AtEnd c t → from c (s ++ t) ≡ t
 from_append c [] [] lacks end = refl
 from_append c [] (b ∷ t) lacks end = ap (λ x. cond x (b ∷ t) (from c t)) end
@@ -83,6 +89,7 @@ pub record Went {A B : Type 0} (m : Option A) (f : A → Option B) (y : B) : Typ
   pub read : m ≡ Some value
   pub gave : f value ≡ Some y
 
+-- a reading that gave something went on from something
 pub went : {A B : Type 0} (m : Option A) (f : A → Option B) (y : B) → and_then m f ≡ Some y → Went m f y
 went None f y h = cc
 went (Some x) f y h = record { value = x; read = refl; gave = h }
@@ -92,10 +99,12 @@ pub passed : {A : Type 0} (t : Bool) (x y : A) → only_if t x ≡ Some y → (t
 passed true x y h = (refl, cc)
 passed false x y h = cc
 
+-- a text is found at the front of itself
 pub after_append : (text rest : List ℕ) → after text (text ++ rest) ≡ Some rest
 after_append text rest =
     rw (take_at text rest (length text) refl, drop_at text rest (length text) refl, (bytes_eq-Decides text text).1 refl) refl
 
+-- a text that is found at the front stands there
 pub after_is : (text bytes rest : List ℕ) → after text bytes ≡ Some rest → bytes ≡ text ++ rest
 after_is text bytes rest h =
     let p = passed (bytes_eq (take (length text) bytes) text) (drop (length text) bytes) rest h in
@@ -110,6 +119,7 @@ pub record Were {A : Type 0} (m : Option A) (ms : Option (List A)) (ys : List A)
   pub others : ms ≡ Some rest
   pub all : first ∷ rest ≡ ys
 
+-- a value and others that came out were all there
 pub were : {A : Type 0} (m : Option A) (ms : Option (List A)) (ys : List A) → both m ms ≡ Some ys → Were m ms ys
 were None None ys h = cc
 were None (Some xs) ys h = cc
@@ -122,6 +132,7 @@ pub record Mapped {A B : Type 0} (f : A → B) (m : Option A) (y : B) : Type 0 w
   pub read : m ≡ Some value
   pub gave : f value ≡ y
 
+-- a mapped value that came out was there
 pub mapped : {A B : Type 0} (f : A → B) (m : Option A) (y : B) → option_map f m ≡ Some y → Mapped f m y
 mapped f None y h = cc
 mapped f (Some x) y h = record { value = x; read = refl; gave = cc }
@@ -133,10 +144,12 @@ pub record Reads {X : Type 0} (V : X → Type 0) (text : X → List ℕ) (f : Li
   pub complete : (x : X) → V x → f (text x) ≡ Some x
   pub sound : (w : List ℕ) (x : X) → f w ≡ Some x → V x × (w ≡ text x)
 
+-- texts of values are read as those values
 pub all_complete : {X : Type 0} {V : X → Type 0} {text : X → List ℕ} {f : List ℕ → Option X} → Reads V text f → (xs : List X) → AllByRecursion V xs → all_of f (map text xs) ≡ Some xs
 all_complete r [] h = refl
 all_complete r (x ∷ xs) h = rw (r.complete x h.0, all_complete r xs h.1) refl
 
+-- texts that are read as values are theirs
 pub all_sound : {X : Type 0} {V : X → Type 0} {text : X → List ℕ} {f : List ℕ → Option X} → Reads V text f → (ws : List (List ℕ)) (xs : List X) → all_of f ws ≡ Some xs
     → AllByRecursion V xs × (ws ≡ map text xs)
 all_sound {V} {text} r [] xs h = let e : [] ≡ xs = cc in subst (λ ys. AllByRecursion V ys × ([] ≡ map text ys)) e (tt, refl)

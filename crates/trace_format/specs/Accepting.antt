@@ -1,5 +1,5 @@
 -- Which events may follow others, and the call that an event belongs to. The events before stand newest first. Source: this project.
-use Rattle.std.specs.Prelude.{ℕ, ◌+◌, ◌==◌, Bool, true, false, not, ◌&&◌, ◌||◌, if◌then◌else◌, Option, Some, None, is_some, List, [], ◌∷◌, ◌++◌, map, filter, length, codes}
+use Rattle.std.specs.Prelude.{ℕ, ◌+◌, ◌==◌, nat_lt, Bool, true, false, not, ◌&&◌, ◌||◌, if◌then◌else◌, Option, Some, None, is_some, List, [], ◌∷◌, ◌++◌, map, filter, length, codes}
 use Rattle.std.specs.List.{filter_map, list_all, list_any}
 use Rattle.std.specs.Option.{is_none, option_map_or}
 use Rattle.std.specs.Str.{bytes_eq}
@@ -102,6 +102,10 @@ abbrev pub names_in : List TraceEvent → ℕ
 names_in [] = 0
 names_in (Begin b ∷ before) = names_in before + length b.results
 names_in (Return thread ∷ before) = names_in before
+
+-- an event would bring the number of names above 4,194,304
+abbrev pub exceeds_names : List TraceEvent → TraceEvent → Bool
+exceeds_names before e = nat_lt 4194304 (names_in (e ∷ before))
 
 -- these names are a thread's, numbered from a number on
 abbrev pub count_on : ℕ → ℕ → List Name → Bool

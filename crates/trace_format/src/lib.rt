@@ -7,6 +7,8 @@ mod event;
 mod fault;
 mod laws;
 mod samples;
+#[cfg(test)]
+mod tests;
 
 pub use event::{Event, Name, TraceArg};
 pub use fault::TraceFault;

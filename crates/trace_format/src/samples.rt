@@ -84,6 +84,7 @@ pub fn events_after_events()
     ensures second_instance { fault_after with_instance (begins 1 CommandId.CreateInstance [] (name 1 2 ∷ []) (Some Code.Success) []) ≡ Some TraceFault.Instance }
     ensures failed_instance { fault_after with_instance (begins 1 CommandId.CreateInstance [] (name 1 2 ∷ []) (Some Code.ErrorUnknown) []) ≡ None }
     ensures breaks_in { fault_after (instance ∷ []) (begins 2 CommandId.CreateInstance [] (name 2 1 ∷ []) (Some Code.ErrorUnknown) []) ≡ Some TraceFault.Instance }
+    ensures breaks_in_by_return { fault_after (begins 2 CommandId.CreateInstance [] (name 2 1 ∷ []) (Some Code.ErrorUnknown) [] ∷ devices ∷ with_instance) (Return 1) ≡ Some TraceFault.Instance }
     ensures open_at_end { fault_at_end (devices ∷ with_instance) ≡ Some TraceFault.OpenAtEnd }
     ensures ended { fault_at_end with_device ≡ None }
     ensures begin_number { call_number with_instance devices ≡ 2 }

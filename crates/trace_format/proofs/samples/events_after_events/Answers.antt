@@ -25,6 +25,7 @@ returns c = record {
   second_instance = refl;
   failed_instance = refl;
   breaks_in = refl;
+  breaks_in_by_return = refl;
   open_at_end = refl;
   ended = refl;
   begin_number = refl;
