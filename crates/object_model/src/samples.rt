@@ -1,12 +1,23 @@
 //! A small history by computation: who owns whom, what a call ends, and what is found at a call.
-ghost use Rattle.std.specs.Prelude.{◌≡◌, [], ◌∷◌, true, false, map};
+ghost use Rattle.std.specs.Prelude.{◌≡◌, [], ◌∷◌, None, true, false, map};
 ghost use Rattle.command_tables.specs.declared.types.CommandId.TheVariants as cmd;
+ghost use Rattle.command_tables.specs.declared.types.Effect.TheVariants as eff;
+ghost use Rattle.command_tables.specs.declared.types.ObjectType.TheVariants as ty;
 ghost use Rattle.command_tables.specs.declared.types.Rule.TheVariants as rule;
-ghost use Rattle.object_model.specs.History.{Begins, Returns, alive, births, children, owners_in};
+ghost use Rattle.object_model.specs.History.{Begins, Returns, alive, births, children, ends_by, owners_in};
+ghost use Rattle.object_model.specs.Objects.{are_same, same};
 ghost use Rattle.object_model.specs.Rules.{failure, failures, failures_in};
 ghost use Rattle.object_model.specs.Samples.{all, buffer, call, device, instance, physical_device, pool, sample, set};
 ghost use Rattle.object_model.specs.Uses.{overlaps, use_of, uses, uses_in};
 ghost use Rattle.object_model.specs.declared.Argument.TheVariants.{The, Unborn};
+
+/// Objects of two types are two, whatever their numbers; and what isn't there is the same as nothing.
+pub fn an_object_is_a_type_and_a_number()
+    ensures itself { same buffer buffer ≡ true }
+    ensures other_type { same buffer (record { ty = ty.Image; number = 4 }) ≡ false }
+    ensures other_number { same buffer (record { ty = ty.Buffer; number = 5 }) ≡ false }
+    ensures none { are_same None None ≡ false }
+{}
 
 /// A device is owned by the instance of its physical device, and what is made of a pool by the pool, the device and the instance.
 pub fn owners_at_every_depth()
@@ -26,6 +37,12 @@ pub fn an_end_reaches_every_depth()
         ≡ false ∷ false ∷ false ∷ false ∷ false ∷ false ∷ [] }
     ensures skipped { map (alive (Begins (call 7 1 cmd.DestroyInstance (instance ∷ [])) true ∷ sample)) all
         ≡ true ∷ true ∷ true ∷ true ∷ true ∷ true ∷ [] }
+{}
+
+/// A call that names what was retrieved ends nothing.
+pub fn a_retrieved_object_ends_with_its_owner_alone()
+    ensures named { ends_by (births sample) ((The physical_device ∷ []) ∷ []) (eff.Destroy 0) physical_device ≡ false }
+    ensures owned { ends_by (births sample) ((The instance ∷ []) ∷ []) (eff.Destroy 0) physical_device ≡ true }
 {}
 
 /// A reset ends the sets of its pool, and not the pool.

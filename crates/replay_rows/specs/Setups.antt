@@ -1,10 +1,15 @@
 -- The setups of the small traces, and what a trace that makes a device prints first in them. Source: this project.
-use Rattle.std.specs.Prelude.{ℕ, List, [], ◌∷◌, ◌++◌, codes, decimal}
+use Rattle.std.specs.Prelude.{ℕ, Bool, true, false, if◌then◌else◌, List, [], ◌∷◌, ◌++◌, codes, decimal}
 use Rattle.command_tables.specs.declared.types.Code.TheVariants as code
 use Rattle.replay_model.specs.declared.PartKind.{PartKind}
 use Rattle.replay_model.specs.declared.PartKind.TheVariants as part
 use Rattle.replay_model.specs.Setup.{Setup, Chain, Refused}
 use Rattle.replay_rows.specs.Traces.{said}
+
+-- no bytes
+abbrev pub is_empty : List ℕ → Bool
+is_empty [] = true
+is_empty (b ∷ bytes) = false
 
 -- the first line of a chain
 abbrev pub chain_line : ℕ → List ℕ → List ℕ
@@ -70,6 +75,10 @@ lifetimes_twice = parts_alone (part.Lifetimes ∷ part.Lifetimes ∷ part.Unique
 -- a threads part that checks alone
 abbrev pub threads_alone : Setup
 threads_alone = parts_alone (part.Threads ∷ part.Unique ∷ [])
+
+-- one driver, below the parts of the validation layer where the application names any layer; the chain's lines are left out
+abbrev pub layers_by_name : Setup
+layers_by_name = record { drivers = 1; notes = []; outcome = λ payload. if is_empty payload then Chain [] (λ number. []) else Chain (part.Threads ∷ part.Lifetimes ∷ part.Unique ∷ []) (λ number. []) }
 
 -- ---- the first lines of a trace that makes a device
 

@@ -3,7 +3,7 @@ ghost use Rattle.std.specs.Prelude.{◌≡◌, [], ◌∷◌, ◌++◌, true, fa
 ghost use Rattle.replay_model.specs.Judged.{judged};
 ghost use Rattle.replay_model.specs.Places.{seen};
 ghost use Rattle.replay_rows.specs.Traces.{buffer_destroyed_twice, calls, events, said, skips, started, told};
-ghost use Rattle.replay_rows.specs.Setups.{device_start, lifetimes_above_threads, lifetimes_twice, no_driver, unguarded, validation, validation_start};
+ghost use Rattle.replay_rows.specs.Setups.{device_start, layers_by_name, lifetimes_above_threads, lifetimes_twice, no_driver, unguarded, validation, validation_start};
 
 /// No driver is left: the chain is refused, and the call that asked for it is skipped.
 pub fn no_driver_is_left()
@@ -129,4 +129,22 @@ pub fn a_skipped_call_at_each_place()
         ≡ true ∷ false ∷ false ∷ false ∷ false ∷ false ∷ [] }
     ensures below { skips (seen (judged validation (reverse buffer_destroyed_twice)) 3)
         ≡ false ∷ false ∷ false ∷ false ∷ false ∷ [] }
+{}
+
+/// A second instance fails, for which no layer was asked: the parts of the first stay in force.
+pub fn an_instance_that_fails_later()
+    ensures { told layers_by_name (calls (codes "b 1 vkCreateInstance = %1.1 VK_SUCCESS : VK_LAYER_KHRONOS_validation"
+        ∷ codes "b 1 vkCreateInstance = %1.2 VK_ERROR_UNKNOWN"
+        ∷ codes "b 1 vkCreateXcbSurfaceKHR %1.1 = %1.3 VK_SUCCESS"
+        ∷ codes "b 1 vkDestroySurfaceKHR %1.1 %1.3 void"
+        ∷ codes "b 1 vkDestroySurfaceKHR %1.1 %1.3 void"
+        ∷ []))
+        ≡ said (codes "ret 1 vkCreateInstance VK_SUCCESS born=1"
+        ∷ codes "ret 2 vkCreateInstance VK_ERROR_UNKNOWN born=0"
+        ∷ codes "ret 3 vkCreateXcbSurfaceKHR VK_SUCCESS born=1"
+        ∷ codes "ret 4 vkDestroySurfaceKHR void"
+        ∷ codes "report 5 2 VUID-vkDestroySurfaceKHR-surface-parameter %1.3"
+        ∷ codes "ret 5 vkDestroySurfaceKHR void"
+        ∷ codes "end calls=5 skipped=1 reports=1"
+        ∷ []) }
 {}

@@ -360,3 +360,21 @@ pub fn only_the_number_of_devices()
         ∷ codes "end calls=2 skipped=0 reports=0"
         ∷ []) }
 {}
+
+/// A buffer that is destroyed fails as an argument, and nobody asks whose it was.
+pub fn a_dead_buffer_of_another_device()
+    ensures { told validation (started
+        ++ calls (codes "b 1 vkCreateDevice %1.2 = %1.4 VK_SUCCESS"
+        ∷ codes "b 1 vkCreateBuffer %1.3 = %1.5 VK_SUCCESS"
+        ∷ codes "b 1 vkDestroyBuffer %1.3 %1.5 void"
+        ∷ codes "b 1 vkDestroyBuffer %1.4 %1.5 void"
+        ∷ []))
+        ≡ said (validation_start
+        ++ codes "ret 4 vkCreateDevice VK_SUCCESS born=1"
+        ∷ codes "ret 5 vkCreateBuffer VK_SUCCESS born=1"
+        ∷ codes "ret 6 vkDestroyBuffer void"
+        ∷ codes "report 7 2 VUID-vkDestroyBuffer-buffer-parameter %1.5"
+        ∷ codes "ret 7 vkDestroyBuffer void"
+        ∷ codes "end calls=7 skipped=1 reports=1"
+        ∷ []) }
+{}
