@@ -1,13 +1,14 @@
 -- In accepted events a thread that begins a call has none that is open.
-use Rattle.std.proofs.Common.{◌≡◌, ◌==◌, ℕ, Bool, true, false, not, cond, ◌&&◌, ◌||◌, Option, Some, None, List, [], ◌∷◌, ◌++◌, refl, sym, ◌∙◌, ap, subst}
+use Rattle.std.proofs.Common.{◌≡◌, ◌==◌, ℕ, Bool, true, false, not, cond, ◌&&◌, ◌||◌, Option, Some, None, List, [], ◌∷◌, ◌++◌, refl, sym, ◌∙◌, ap, subst, ◌+◌}
 use Rattle.std.specs.Prelude.{filter, find, is_some, ⊤}
 use Rattle.std.specs.List.{list_any}
 use Rattle.std.specs.Option.{is_none}
 use Rattle.std.proofs.lemmas.Bool.Decides.{Decides-eqb}
 use Rattle.trace_format.specs.Accepting.{open_threads, is_open, fault_after, are_accepted}
+use Rattle.trace_format.specs.Accepting.{calls_in as calls_begun}
 use Rattle.trace_format.specs.Content.{TraceEvent, Begin, Return}
 use Rattle.replay_model.specs.Setup.{Setup}
-use Rattle.replay_model.specs.Past.{Opened, is_of, open_calls}
+use Rattle.replay_model.specs.Past.{Opened, calls_in, is_of, open_calls}
 use Rattle.replay_model.specs.Judged.{begun_of, returned_by, judged}
 use Rattle.replay_model.proofs.OpenCalls.{not_of, found_thread}
 
@@ -18,7 +19,7 @@ BeginsIdle s (Begin e ∷ before) = (find (is_of e.thread) (open_calls (judged s
 BeginsIdle s (Return thread ∷ before) = BeginsIdle s before
 
 -- a thread has a call among these
-abbrev has_call : ℕ → List Opened → Bool
+abbrev pub has_call : ℕ → List Opened → Bool
 has_call t os = is_some (find (is_of t) os)
 
 -- one call more
@@ -74,7 +75,7 @@ left_out t u os n = go (t == u) refl
     go false e = rw e refl
 
 -- the threads of the open calls are the open threads
-open-threads : (s : Setup) (events : List TraceEvent) (t : ℕ) → has_call t (open_calls (judged s events)) ≡ is_open t events
+pub open-threads : (s : Setup) (events : List TraceEvent) (t : ℕ) → has_call t (open_calls (judged s events)) ≡ is_open t events
 open-threads s [] t = refl
 open-threads s (Begin e ∷ before) t = has-append t (open_calls (judged s before)) (begun_of s (judged s before) e).opened ∙ ap (λ x. (e.thread == t) || x) (open-threads s before t)
 open-threads s (Return u ∷ before) t =
@@ -115,3 +116,13 @@ begins-idle s (Begin e ∷ before) a =
     let k = both (are_accepted before) (is_none (fault_after before (Begin e))) a in
     (no_call e.thread (open_calls (judged s before)) (open-threads s before e.thread ∙ not_busy before e k.1), begins-idle s before k.0)
 begins-idle s (Return t ∷ before) a = begins-idle s before (both (are_accepted before) (is_none (fault_after before (Return t))) a).0
+
+-- as many calls are judged as have begun
+pub calls-judged : (s : Setup) (events : List TraceEvent) → calls_in (judged s events) ≡ calls_begun events
+calls-judged s [] = refl
+calls-judged s (Begin e ∷ before) = ap (λ n. n + 1) (calls-judged s before)
+calls-judged s (Return t ∷ before) = same_calls (find (is_of t) (open_calls (judged s before))) ∙ calls-judged s before
+  where
+    same_calls : (c : Option Opened) → calls_in (returned_by s (judged s before) c) ≡ calls_in (judged s before)
+    same_calls None = refl
+    same_calls (Some o) = refl

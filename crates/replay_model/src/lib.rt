@@ -5,14 +5,15 @@
 
 mod samples;
 
-ghost use Rattle.std.specs.Prelude.{◌≡◌, ◌++◌, List, [], length, reverse, true};
+ghost use Rattle.std.specs.Prelude.{◌≡◌, ◌++◌, List, [], length, reverse, true, ℕ, find, is_some};
 ghost use Rattle.std.specs.List.{zip};
 ghost use Rattle.command_tables.specs.Calls.{ReplyContent};
 ghost use Rattle.object_model.specs.declared.Object.{Object};
-ghost use Rattle.trace_format.specs.Accepting.{are_accepted};
+ghost use Rattle.trace_format.specs.Accepting.{are_accepted, is_open};
+ghost use Rattle.trace_format.specs.Accepting.{calls_in as calls_begun};
 ghost use Rattle.trace_format.specs.Content.{TraceEvent};
 ghost use Rattle.replay_model.specs.Setup.{Setup};
-ghost use Rattle.replay_model.specs.Past.{Past, routed};
+ghost use Rattle.replay_model.specs.Past.{Past, calls_in, is_of, open_calls, routed};
 ghost use Rattle.replay_model.specs.Judged.{driver_in, judge, judged};
 ghost use Rattle.replay_model.specs.Places.{parts_in_force};
 ghost use Rattle.replay_model.specs.Direct.{direct, exchanges, exchanges_at, sends_at, sends_in};
@@ -64,6 +65,13 @@ pub fn skipped_calls_are_not_sent()
         exchanges (judged (no_layers s) (less (judged s events))) replies ≡ exchanges (judged s events) replies }
     ensures skipped { (s : Setup) (events : List TraceEvent) → are_accepted events ≡ true →
         skipped_in (judged (no_layers s) (less (judged s events))) ≡ 0 }
+{}
+
+/// The judged calls are those of the events: as many have begun, and a thread has an open one where its events say so.
+pub fn calls_are_those_of_the_events()
+    ensures begun { (s : Setup) (events : List TraceEvent) → calls_in (judged s events) ≡ calls_begun events }
+    ensures open_calls { (s : Setup) (events : List TraceEvent) (thread : ℕ) →
+        is_some (find (is_of thread) (open_calls (judged s events))) ≡ is_open thread events }
 {}
 
 /// Without layers no part is in force, and with one driver every call goes to it.
