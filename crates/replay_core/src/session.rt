@@ -95,7 +95,12 @@ fn call_for(
     ensures { IfOk result (λ call. IfSome call (λ c. HasShape (told c))) }
 {
     match cmd {
-        CommandId::CreateInstance => Ok(Some(no_argument(alloc, CommandId::CreateInstance, 1, code))),
+        CommandId::CreateInstance => Ok(Some(no_argument(
+            alloc,
+            CommandId::CreateInstance,
+            1,
+            code,
+        ))),
         CommandId::EnumeratePhysicalDevices => Ok(Some(one_argument(
             alloc,
             CommandId::EnumeratePhysicalDevices,
@@ -129,11 +134,7 @@ fn call_for(
 }
 
 // Asks the driver, and answers its handles.
-fn ask<D: Driver>(
-    alloc: Global,
-    call: &DriverCall,
-    driver: &mut D,
-) -> Result<Vec<u64>, NoMemory>
+fn ask<D: Driver>(alloc: Global, call: &DriverCall, driver: &mut D) -> Result<Vec<u64>, NoMemory>
     requires { HasShape (told call.now) }
 {
     let mut reply = DriverReply {
@@ -247,7 +248,10 @@ impl Session {
         match event {
             Event::Return { .. } => Ok(()),
             Event::Begin {
-                cmd, args, code, ..
+                cmd,
+                args,
+                code,
+                ..
             } => {
                 self.calls = number;
                 let name = first_name(args);
@@ -336,7 +340,9 @@ impl Session {
     // The place of the object that a call's result stands for: a new one, or one that was given before.
     fn given_before(&self, ty: ObjectType, owner: Option<usize>) -> Option<usize> {
         if ty == ObjectType::PhysicalDevice {
-            self.objects.iter().position(|o| o.ty == ty && o.owner == owner)
+            self.objects
+                .iter()
+                .position(|o| o.ty == ty && o.owner == owner)
         } else {
             None
         }
