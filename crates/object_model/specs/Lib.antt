@@ -1,0 +1,6 @@
+pub mod Objects
+pub mod History
+pub mod Rules
+pub mod Uses
+pub mod Renaming
+pub mod Samples

@@ -1,0 +1,5 @@
+pub mod OpenCalls
+pub mod Accepted
+pub mod Alike
+pub mod LessLemmas
+pub mod Exchanges

@@ -1,0 +1,20 @@
+-- A call, a name and two drivers' answers. Source: this project.
+use Rattle.std.specs.Prelude.{false, Some, None, List, [], ◌∷◌}
+use Rattle.command_tables.specs.declared.types.CommandId.{CommandId}
+use Rattle.command_tables.specs.declared.types.Code.TheVariants as code
+use Rattle.trace_format.specs.declared.event.Name.{Name}
+use Rattle.object_model.specs.declared.Argument.{Argument}
+use Rattle.replay_model.specs.Past.{Opened}
+use Rattle.replay_model.specs.Direct.{Answered}
+
+-- the name %1.4
+abbrev pub name : Name
+name = record { thread = 1; number = 4 }
+
+-- a call with this one result that is sent to two drivers and is to answer success
+abbrev pub opened : CommandId → List (List Argument) → Opened
+opened c args = record { number = 4; thread = 1; cmd = c; args = args; results = name ∷ []; code = Some code.Success; payload = []; stop = None; refused = false; drivers = 0 ∷ 1 ∷ [] }
+
+-- what the two answered
+abbrev pub answers : List Answered
+answers = record { driver = 0; handles = 7 ∷ [] } ∷ record { driver = 1; handles = 8 ∷ [] } ∷ []

@@ -1,0 +1,78 @@
+//! What a trace means: its events judged one by one, the reports, the answers, the text, and what the drivers are told.
+//! Promises that the driver calls of a trace are those of the trace without its skipped calls and without layers.
+//! Leaves to others how a trace is read, how a chain is built, and which rules hold of objects.
+#![tactic(auto)]
+
+mod samples;
+
+ghost use Rattle.std.specs.Prelude.{◌≡◌, ◌++◌, List, length, reverse, true};
+ghost use Rattle.std.specs.List.{zip};
+ghost use Rattle.command_tables.specs.Calls.{ReplyContent};
+ghost use Rattle.trace_format.specs.Accepting.{are_accepted};
+ghost use Rattle.trace_format.specs.Content.{TraceEvent};
+ghost use Rattle.replay_model.specs.Setup.{Setup};
+ghost use Rattle.replay_model.specs.Past.{Past};
+ghost use Rattle.replay_model.specs.Judged.{judge, judged};
+ghost use Rattle.replay_model.specs.Direct.{direct, exchanges, exchanges_at, sends_at, sends_in};
+ghost use Rattle.replay_model.specs.Text.{lines, lines_at, skipped_in};
+ghost use Rattle.replay_model.specs.Less.{less, no_layers};
+
+use object_model::Object;
+use trace_format::Name;
+
+/// A checking or wrapping part of a layer. The parts of a chain are numbered from 1, from the application down.
+#[derive(Clone, Copy, Debug, PartialEq, Eq)]
+pub enum PartKind {
+    /// Reports uses that overlap between threads.
+    Threads,
+    /// Reports arguments that don't live or have another owner, and parents that are destroyed before their children.
+    Lifetimes,
+    /// Gives the layers above it handles of its own.
+    Unique,
+}
+
+/// A name and the object for which it stands.
+#[derive(Clone, Copy, Debug, PartialEq, Eq)]
+pub struct Named {
+    pub name: Name,
+    pub object: Object,
+}
+
+/// A result that was born: its place among the call's results, its name, and the object for which it stands.
+#[derive(Clone, Copy, Debug, PartialEq, Eq)]
+pub struct Born {
+    pub place: usize,
+    pub name: Name,
+    pub object: Object,
+}
+
+/// An object and the number, from 0, of the driver that calls on it go to.
+#[derive(Clone, Copy, Debug, PartialEq, Eq)]
+pub struct Routed {
+    pub object: Object,
+    pub driver: u32,
+}
+
+/// Without its skipped calls a trace tells the drivers the same, whatever layers there were: what they are told is what the trace
+/// less its skipped calls makes with no layers, where none of its calls is skipped. Each event may follow those before it.
+pub fn skipped_calls_are_not_sent()
+    ensures calls { (s : Setup) (events : List TraceEvent) (replies : List ReplyContent) → are_accepted events ≡ true →
+        direct (judged (no_layers s) (less (judged s events))) replies ≡ direct (judged s events) replies }
+    ensures exchanges { (s : Setup) (events : List TraceEvent) (replies : List ReplyContent) → are_accepted events ≡ true →
+        exchanges (judged (no_layers s) (less (judged s events))) replies ≡ exchanges (judged s events) replies }
+    ensures skipped { (s : Setup) (events : List TraceEvent) → are_accepted events ≡ true →
+        skipped_in (judged (no_layers s) (less (judged s events))) ≡ 0 }
+{}
+
+/// One event more adds its lines, and its driver calls with their replies, where it has one reply for each of them.
+pub fn what_one_event_adds()
+    ensures lines { (s : Setup) (past : Past) (e : TraceEvent) → lines s (judge s past e) ≡ lines s past ++ lines_at s past e }
+    ensures exchanges { (s : Setup) (past : Past) (e : TraceEvent) (more before : List ReplyContent) → length more ≡ sends_at s past e →
+        exchanges (judge s past e) (more ++ before) ≡ exchanges past before ++ exchanges_at s past e (more ++ before) }
+{}
+
+/// With one reply for each driver call, each call stands beside its reply, in their order.
+pub fn one_reply_for_each_driver_call()
+    ensures { (past : Past) (replies : List ReplyContent) → length replies ≡ sends_in past →
+        exchanges past replies ≡ zip (direct past replies) (reverse replies) }
+{}

@@ -1,0 +1,91 @@
+-- Small traces as they are written, what they print, and what they tell drivers. Source: this project.
+use Rattle.std.specs.Prelude.{ℕ, Result, Ok, Err, Some, None, List, [], ◌∷◌, ◌++◌, map, reverse, codes}
+use Rattle.std.specs.List.{flat_map}
+use Rattle.command_tables.specs.declared.types.CommandId.{CommandId}
+use Rattle.command_tables.specs.declared.types.Code.TheVariants as code
+use Rattle.command_tables.specs.Calls.{DriverCallContent, ReplyContent}
+use Rattle.trace_format.specs.declared.fault.TraceFault.{TraceFault}
+use Rattle.trace_format.specs.Content.{TraceEvent, Begin, Return}
+use Rattle.trace_format.specs.Reading.{read_line}
+use Rattle.replay_model.specs.Setup.{Setup}
+use Rattle.replay_model.specs.Judged.{judged}
+use Rattle.replay_model.specs.Text.{text, end_of}
+use Rattle.replay_model.specs.Direct.{direct}
+
+-- the event that a line spells
+abbrev pub spelled : Result TraceEvent TraceFault → List TraceEvent
+spelled (Ok e) = e ∷ []
+spelled (Err fault) = []
+
+-- the event that a line spells, and if it is a begin the return of its thread
+abbrev pub spelled_call : Result TraceEvent TraceFault → List TraceEvent
+spelled_call (Ok (Begin e)) = Begin e ∷ Return e.thread ∷ []
+spelled_call (Ok (Return thread)) = Return thread ∷ []
+spelled_call (Err fault) = []
+
+-- the events that these lines spell
+abbrev pub events : List (List ℕ) → List TraceEvent
+events lines = flat_map (λ line. spelled (read_line line)) lines
+
+-- the calls that these begin lines spell, each of which returns at once
+abbrev pub calls : List (List ℕ) → List TraceEvent
+calls lines = flat_map (λ line. spelled_call (read_line line)) lines
+
+-- an instance, its physical device and a device
+abbrev pub started : List TraceEvent
+started = calls (
+    codes "b 1 vkCreateInstance = %1.1 VK_SUCCESS" ∷ codes "b 1 vkEnumeratePhysicalDevices %1.1 = %1.2 VK_SUCCESS" ∷ codes "b 1 vkCreateDevice %1.2 = %1.3 VK_SUCCESS" ∷ []
+    )
+
+-- lines, each with its LF
+abbrev pub said : List (List ℕ) → List ℕ
+said lines = flat_map (λ line. line ++ codes "\n") lines
+
+-- the text of a trace with its last line
+abbrev pub told : Setup → List TraceEvent → List ℕ
+told s trace = let past = judged s (reverse trace) in text s past ++ end_of past
+
+-- replies with these handles, in the order of the driver calls
+abbrev pub replies : List (List ℕ) → List ReplyContent
+replies handles = map (λ hs. record { code = None; handles = hs }) handles
+
+-- the driver calls of a trace, where drivers answer these handles
+abbrev pub asked : Setup → List TraceEvent → List (List ℕ) → List DriverCallContent
+asked s trace handles = direct (judged s (reverse trace)) (reverse (replies handles))
+
+-- one handle at each parameter
+abbrev pub each : List ℕ → List (List ℕ)
+each handles = map (λ h. h ∷ []) handles
+
+-- a driver call as its driver and its handles
+abbrev pub driver_and_args : DriverCallContent → ℕ × List (List ℕ)
+driver_and_args c = (c.driver, c.args)
+
+-- a driver call that is to answer success: the driver, the command, the handles, how many are asked for, and the payload
+abbrev pub driver_call : ℕ → CommandId → List (List ℕ) → ℕ → List ℕ → DriverCallContent
+driver_call driver c args count payload = record { driver = driver; cmd = c; args = args; asked = count; code = Some code.Success; payload = payload }
+
+-- ---- traces of which more than one thing is asked
+
+-- two buffers, one of which is destroyed and the other bound to memory
+abbrev pub buffers_and_memory : List TraceEvent
+buffers_and_memory = started ++ calls (
+    codes "b 1 vkCreateBuffer %1.3 = %1.4 VK_SUCCESS"
+    ∷ codes "b 1 vkCreateBuffer %1.3 = %1.5 VK_SUCCESS"
+    ∷ codes "b 1 vkAllocateMemory %1.3 = %1.6 VK_SUCCESS"
+    ∷ codes "b 1 vkDestroyBuffer %1.3 %1.4 void"
+    ∷ codes "b 1 vkBindBufferMemory %1.3 %1.5 %1.6 VK_SUCCESS"
+    ∷ []
+    )
+
+-- a buffer that is destroyed
+abbrev pub buffer_destroyed : List TraceEvent
+buffer_destroyed = started ++ calls (codes "b 1 vkCreateBuffer %1.3 = %1.4 VK_SUCCESS" ∷ codes "b 1 vkDestroyBuffer %1.3 %1.4 void" ∷ [])
+
+-- and destroyed again
+abbrev pub buffer_destroyed_twice : List TraceEvent
+buffer_destroyed_twice = buffer_destroyed ++ calls (codes "b 1 vkDestroyBuffer %1.3 %1.4 void" ∷ [])
+
+-- an instance and one name for a physical device
+abbrev pub instance_and_device : List TraceEvent
+instance_and_device = calls (codes "b 1 vkCreateInstance = %1.1 VK_SUCCESS" ∷ codes "b 1 vkEnumeratePhysicalDevices %1.1 = %1.2 VK_SUCCESS" ∷ [])
