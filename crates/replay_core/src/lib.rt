@@ -23,6 +23,8 @@ mod run;
 mod session;
 mod status;
 mod tally;
+#[cfg(test)]
+mod tests;
 
 pub use adverse_driver::AdverseDriver;
 pub use driver::{Driver, DriverCall, DriverReply, Policy};

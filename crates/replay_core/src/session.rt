@@ -16,7 +16,7 @@ ghost use Rattle.replay_core.specs.Stands.{Advances, MayTell, Stands};
 use crate::ask::ask;
 use crate::begin::{Beginning, name_at_first, open_call};
 use crate::births::{ObjectEntry, bear, end_some};
-use crate::call::{OpenCall, RetrievedEntry, close, find_open};
+use crate::call::{OpenCall, RetrievedEntry, close, find_open, has_open};
 use crate::driver::Driver;
 use crate::error::SessionError;
 use crate::lines::{report, return_line};
@@ -250,6 +250,13 @@ impl Session {
                 Ok(())
             }
         }
+    }
+
+    /// Whether a thread has an open call.
+    pub fn is_open(&self, thread: u32) -> bool
+        ensures { result ≡ has_open self.now thread }
+    {
+        has_open(&self.open_calls, thread)
     }
 
     /// How many calls there were, how many of them were skipped, and how many reports.
