@@ -2,3 +2,17 @@ pub mod Copies
 pub mod Given
 pub mod Handles
 pub mod Stops
+pub mod Lists
+pub mod Shown
+pub mod Reports
+pub mod Openings
+pub mod Telling
+pub mod Joined
+pub mod Objects
+pub mod OneDriver
+pub mod Simulation
+pub mod Steps
+pub mod Shapes
+pub mod Values
+pub mod Opens
+pub mod Retrieving

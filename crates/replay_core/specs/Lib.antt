@@ -7,3 +7,9 @@ pub mod Gave
 pub mod Replayed
 pub mod Causes
 pub mod Statuses
+pub mod Setups
+pub mod Kept
+pub mod Shown
+pub mod Beginning
+pub mod Stands
+pub mod Lines

@@ -4,17 +4,27 @@
 #![tactic(auto)]
 
 mod adverse_driver;
+mod ask;
+mod begin;
+mod births;
+mod call;
 mod driver;
 mod due;
 mod error;
+mod laws;
+mod lines;
+mod made;
 mod model_driver;
+mod names;
 mod play;
 mod read;
 mod recording_driver;
 mod run;
 mod session;
 mod status;
-mod text;
+mod tally;
+#[cfg(test)]
+mod tests;
 
 pub use adverse_driver::AdverseDriver;
 pub use driver::{Driver, DriverCall, DriverReply, Policy};
@@ -24,4 +34,4 @@ pub use recording_driver::RecordingDriver;
 pub use run::replay;
 pub use session::Session;
 pub use status::Status;
-pub use text::Tally;
+pub use tally::Tally;

@@ -1,12 +1,15 @@
 // Replaying the lines of a trace.
-ghost use Rattle.std.specs.Prelude.{◌≡◌, ◌≢◌, ◌≤◌, ℕ, length, OnOk, IfOk, IfErr, Err, Some, None};
+ghost use Rattle.std.specs.Prelude.{◌≡◌, ◌≢◌, ◌≤◌, ℕ, [], length, OnOk, OnErr, IfOk, IfErr, Err, Some, None};
 ghost use Rattle.replay_base.specs.Faults.{Rose};
 ghost use Rattle.replay_base.specs.Lines.{lines_of};
 ghost use Rattle.trace_format.specs.declared.fault.TraceFault.{TraceFault};
 ghost use Rattle.trace_format.specs.Content.{content};
-ghost use Rattle.trace_format.specs.Plain.{plain_event};
+ghost use Rattle.trace_format.specs.Grammar.{IsEvent};
+ghost use Rattle.trace_format.specs.Plain.{IsPlain, plain_event};
 ghost use Rattle.trace_format.specs.PlainForm.{at_start, after, fault_at};
+ghost use Rattle.replay_core.specs.Beginning.{CanTake, HasTaken};
 ghost use Rattle.replay_core.specs.Causes.{IsOfTrace, IsOfStep, IsOfPlay};
+ghost use Rattle.replay_core.specs.Stands.{Advances, MayTell, Stands};
 ghost use Rattle.replay_core.specs.Stop.{stop_at, stop_from};
 
 use crate::driver::Driver;
@@ -20,6 +23,8 @@ use trace_format::{AcceptError, Event, ParseError, TraceFault, TraceState, parse
 // The event of a line.
 fn event_of(alloc: Global, text: &[u8], line: u64) -> Result<Event, ReplayError>
     ensures ok { IfOk result (λ e. plain_event text.now ≡ Some (content e)) }
+    ensures plain { IfOk result (λ e. IsPlain (content e)) }
+    ensures grammar { IfOk result (λ e. IsEvent (content e)) }
     ensures fault { (n : ℕ) (f : TraceFault) → result ≡ Err (ReplayError.Trace n f) → plain_event text.now ≡ None }
     ensures not_built { (n : ℕ) (f : TraceFault) → result ≡ Err (ReplayError.Trace n f) → f ≡ TraceFault.NotBuilt }
     ensures line { (n : ℕ) (f : TraceFault) → result ≡ Err (ReplayError.Trace n f) → n ≡ line }
@@ -36,6 +41,7 @@ fn event_of(alloc: Global, text: &[u8], line: u64) -> Result<Event, ReplayError>
 fn place(state: &mut TraceState, event: &Event, line: u64) -> Result<u64, ReplayError>
     ensures ok { OnOk result (fault_at state.old (content event.now) ≡ None) }
     ensures after { OnOk result (state.new ≡ after state.old (content event.now)) }
+    ensures number { IfOk result (λ n. n ≡ (after state.old (content event.now)).calls) }
     ensures fault { (n : ℕ) (f : TraceFault) → result ≡ Err (ReplayError.Trace n f) → fault_at state.old (content event.now) ≡ Some f }
     ensures line { (n : ℕ) (f : TraceFault) → result ≡ Err (ReplayError.Trace n f) → n ≡ line }
     ensures others { IfErr result IsOfTrace }
@@ -56,12 +62,19 @@ fn take<D: Driver>(
     driver: &mut D,
     lines: &mut Vec<u8>,
 ) -> Result<(), SessionError>
-    ensures { IfErr result (λ e. e ≡ SessionError.NoMemory) }
+    requires { CanTake session.old (content event.now) call }
+    ensures ok { OnOk result (Advances session.old session.new (content event.now) (D.log driver.old) (D.log driver.new) [] lines.new.items) }
+    ensures taken { OnOk result (HasTaken session.old session.new (content event.now) call) }
+    ensures err { OnErr result (MayTell session.old (content event.now) (D.log driver.old) (D.log driver.new)) }
+    ensures only { IfErr result (λ e. e ≡ SessionError.NoMemory) }
 {
     lines.clear();
     match event {
         Event::Begin { .. } => session.begin(alloc, call, event, driver, lines),
-        Event::Return { thread } => session.finish(alloc, *thread, lines),
+        Event::Return { thread } => {
+            session.finish(alloc, *thread, lines)?;
+            Ok(())
+        }
     }
 }
 
@@ -75,6 +88,8 @@ fn step<K: Sink, D: Driver>(
     lines: &mut Vec<u8>,
     out: &mut K,
 ) -> Result<(), ReplayError>
+    requires { CanTake session.old (content event.now) call }
+    ensures taken { OnOk result (HasTaken session.old session.new (content event.now) call) }
     ensures rose { result ≡ Err ReplayError.Write → Rose (K.faults out.old) (K.faults out.new) }
     ensures stood { result ≢ Err ReplayError.Write → K.faults out.new ≡ K.faults out.old }
     ensures others { IfErr result IsOfStep }
@@ -92,7 +107,8 @@ pub fn play<K: Sink, D: Driver>(
     driver: &mut D,
     out: &mut K,
 ) -> Result<(), ReplayError>
-    requires { length bytes.now ≤ MOST_BYTES }
+    requires session { Stands session.old [] [] }
+    requires size { length bytes.now ≤ MOST_BYTES }
     ensures ok { OnOk result (stop_from 2 at_start (lines_of bytes.now) ≡ None) }
     ensures stop { (n : ℕ) (f : TraceFault) → result ≡ Err (ReplayError.Trace n f) → stop_from 2 at_start (lines_of bytes.now) ≡ stop_at n f }
     ensures rose { result ≡ Err ReplayError.Write → Rose (K.faults out.old) (K.faults out.new) }

@@ -1,5 +1,5 @@
 // A replay from its header to its end line.
-ghost use Rattle.std.specs.Prelude.{◌≡◌, ◌≢◌, ◌<◌, ◌≤◌, ℕ, length, OnOk, IfOk, IfErr, MatchOption, IfSome, Err, None};
+ghost use Rattle.std.specs.Prelude.{◌≡◌, ◌≢◌, ◌<◌, ◌≤◌, ℕ, [], length, OnOk, IfOk, IfErr, MatchOption, IfSome, Err, None};
 ghost use Rattle.replay_base.specs.Faults.{Rose};
 ghost use Rattle.replay_base.specs.Lines.{lines_of};
 ghost use Rattle.trace_format.specs.declared.fault.TraceFault.{TraceFault};
@@ -7,14 +7,15 @@ ghost use Rattle.trace_format.specs.PlainForm.{at_start};
 ghost use Rattle.replay_core.specs.Causes.{IsOfPlay, IsOfStep, IsNoLimit};
 ghost use Rattle.replay_core.specs.Gave.{Gave, GaveTooMuch};
 ghost use Rattle.replay_core.specs.Replayed.{Ended, StoppedAt, StoppedBySize, IsUntouched};
+ghost use Rattle.replay_core.specs.Stands.{Stands};
 ghost use Rattle.replay_core.specs.Stop.{stop, stop_at, stop_in, stop_from};
 
 use crate::driver::Driver;
 use crate::error::{ReplayError, SessionError};
+use crate::lines::end_line;
 use crate::play::play;
 use crate::read::{MOST_BYTES, Unread, read_all};
 use crate::session::Session;
-use crate::text::end_line;
 use replay_base::{Sink, Source, put_all, split_line};
 use std::alloc::Global;
 use trace_format::TraceFault;
@@ -66,7 +67,8 @@ fn play_trace<K: Sink, D: Driver>(
     driver: &mut D,
     out: &mut K,
 ) -> Result<(), ReplayError>
-    requires { length bytes.now ≤ MOST_BYTES }
+    requires session { Stands session.old [] [] }
+    requires size { length bytes.now ≤ MOST_BYTES }
     ensures ok { OnOk result (stop bytes.now ≡ None) }
     ensures stop { (n : ℕ) (f : TraceFault) → result ≡ Err (ReplayError.Trace n f) → stop bytes.now ≡ stop_at n f }
     ensures rose { result ≡ Err ReplayError.Write → Rose (K.faults out.old) (K.faults out.new) }
@@ -108,7 +110,8 @@ fn play_whole<K: Sink, D: Driver>(
     driver: &mut D,
     out: &mut K,
 ) -> Result<(), ReplayError>
-    requires { length bytes.now ≤ MOST_BYTES }
+    requires session { Stands session.old [] [] }
+    requires size { length bytes.now ≤ MOST_BYTES }
     ensures ok { OnOk result (stop bytes.now ≡ None) }
     ensures stop { (n : ℕ) (f : TraceFault) → result ≡ Err (ReplayError.Trace n f) → stop bytes.now ≡ stop_at n f }
     ensures rose { result ≡ Err ReplayError.Write → Rose (K.faults out.old) (K.faults out.new) }

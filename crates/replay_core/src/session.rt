@@ -1,32 +1,34 @@
-// A session: what is kept of the events so far. So far it knows the five commands of the plain form.
-ghost use Rattle.std.specs.Prelude.{◌≡◌, ◌≢◌, ◌∷◌, [], IfOk, IfSome, IfErr, None};
-ghost use Rattle.replay_core.specs.Driver.{told, HasShape};
+// A session: what is kept of the events so far.
+ghost use Rattle.std.specs.Prelude.{◌≡◌, ◌+◌, ◌++◌, ◌∷◌, [], ℕ, true, false, map, OnOk, OnErr, IfErr};
+ghost use Rattle.command_tables.specs.Table.{row_of};
+ghost use Rattle.object_model.specs.Objects.{is_in};
+ghost use Rattle.object_model.specs.History.{births_given};
+ghost use Rattle.trace_format.specs.Content.{Begin, Return, content};
+ghost use Rattle.trace_format.specs.Grammar.{IsBegin};
+ghost use Rattle.replay_model.specs.Past.{named_of, objects_of, retrieved_by};
+ghost use Rattle.replay_core.specs.Beginning.{begin_content, thread_of, BeginsCall};
+ghost use Rattle.replay_core.specs.Kept.{after_call, has_open};
+ghost use Rattle.replay_core.specs.Lines.{loader_line};
+ghost use Rattle.replay_core.specs.Logs.{Log};
+ghost use Rattle.replay_core.specs.Shown.{args_shown, births_shown, opened_of, retrieved_shown, valued_with, values_shown};
+ghost use Rattle.replay_core.specs.Stands.{Advances, MayTell, Stands};
 
-use crate::driver::{Driver, DriverCall, DriverReply};
+use crate::ask::ask;
+use crate::begin::{Beginning, name_at_first, open_call};
+use crate::births::{ObjectEntry, bear, end_some};
+use crate::call::{OpenCall, RetrievedEntry, close, find_open, has_open};
+use crate::driver::Driver;
 use crate::error::SessionError;
-use crate::text::{Tally, report_line, return_line};
-use command_tables::{Code, CommandId, Effect, HandleArgs, LayerCall, NoMemory, ObjectType, row};
-use std::alloc::Global;
-use trace_format::{Event, Name, TraceArg};
-
-// An object that was born. Its owner is named by its place in the list of objects.
-#[derive(Clone, Copy)]
-struct Object {
-    ty: ObjectType,
-    owner: Option<usize>,
-    is_alive: bool,
-    value: u64,
-}
-
-#[derive(Drop)]
-struct OpenCall {
-    number: u64,
-    cmd: CommandId,
-    argument: Option<usize>,
-    code: Option<Code>,
-    is_skipped: bool,
-    handles: Vec<u64>,
-}
+use crate::lines::{report, return_line};
+use crate::made::{effect_of, keep_names, keep_retrieved, keep_values, made};
+use crate::names::ValueEntry;
+use crate::tally::Tally;
+use command_tables::NoMemory;
+use object_model::Object;
+use replay_model::{Born, Named};
+use std::alloc::{AllocError, Global};
+use std::marker::Model;
+use trace_format::{Event, Name};
 
 /// What is kept of the events so far.
 #[derive(Drop)]
@@ -34,207 +36,147 @@ pub struct Session {
     calls: u64,
     skipped: u64,
     reports: u64,
-    objects: Vec<Object>,
-    names: Vec<Option<usize>>,
-    open: Option<OpenCall>,
+    names: Vec<Named>,
+    values: Vec<ValueEntry>,
+    births: Vec<ObjectEntry>,
+    living: Vec<Object>,
+    retrieved: Vec<RetrievedEntry>,
+    open_calls: Vec<OpenCall>,
 }
 
-fn first_name(args: &[TraceArg]) -> Option<Name> {
-    match args.first() {
-        None => None,
-        Some(arg) => arg.names.first().copied().flatten(),
-    }
+impl Model for Session {
+    ghost use Rattle.std.specs.Prelude.{◌≤◌, map};
+    ghost use Rattle.replay_core.specs.Kept.{Kept};
+    ghost use Rattle.replay_core.specs.Shown.{births_shown, retrieved_shown, sent_of, values_shown};
+
+    ghost Value = { Kept };
+
+    ghost view = { λ s. record {
+      calls = s.calls;
+      skipped = s.skipped;
+      reports = s.reports;
+      names = s.names.items;
+      values = values_shown s.values.items;
+      births = births_shown s.births.items;
+      living = s.living.items;
+      retrieved = retrieved_shown s.retrieved.items;
+      sent = map sent_of s.open_calls.items;
+    } };
+
+    ghost invariant = { λ s. (s.skipped ≤ s.calls) × (s.reports ≤ s.calls) };
 }
 
-fn one_argument(
+// What a return adds to each list.
+fn settle(
     alloc: Global,
-    cmd: CommandId,
-    handle: u64,
-    asked: u32,
-    code: Option<Code>,
-) -> Result<DriverCall, NoMemory>
-    ensures { IfOk result (λ call. told call ≡ record { driver = 0; cmd = cmd; args = (handle ∷ []) ∷ []; asked = asked; code = code; payload = [] }) }
+    call: &OpenCall,
+    born: &[Born],
+    names: &mut Vec<Named>,
+    values: &mut Vec<ValueEntry>,
+    births: &mut Vec<ObjectEntry>,
+    living: &mut Vec<Object>,
+    retrieved: &mut Vec<RetrievedEntry>,
+) -> Result<(), AllocError>
+    ensures names { OnOk result (names.new.items ≡ names.old.items ++ map named_of born.now) }
+    ensures values { OnOk result (values_shown values.new.items ≡ values_shown values.old.items ++ map (valued_with call.now.handles.items) born.now) }
+    ensures births { OnOk result (births_shown births.new.items ≡ births_shown births.old.items ++ births_given (births_shown births.old.items) (args_shown call.now.args.items) (row_of call.now.cmd).effect (objects_of born.now)) }
+    ensures living { OnOk result (living.new.items ≡ living.old.items ++ map (λ b. b.object) (births_given (births_shown births.old.items) (args_shown call.now.args.items) (row_of call.now.cmd).effect (objects_of born.now))) }
+    ensures retrieved { OnOk result (retrieved_shown retrieved.new.items ≡ retrieved_shown retrieved.old.items ++ retrieved_by (births_shown births.old.items) (opened_of call.now) born.now) }
 {
-    let mut args = HandleArgs::new(alloc);
-    args.push_param(&[handle])?;
-    Ok(DriverCall {
-        driver: 0,
-        body: LayerCall {
-            cmd,
-            args,
-            asked,
-            code,
-            payload: Vec::new(alloc),
-        },
-    })
-}
-
-fn no_argument(alloc: Global, cmd: CommandId, asked: u32, code: Option<Code>) -> DriverCall
-    ensures { told result ≡ record { driver = 0; cmd = cmd; args = []; asked = asked; code = code; payload = [] } }
-{
-    DriverCall {
-        driver: 0,
-        body: LayerCall {
-            cmd,
-            args: HandleArgs::new(alloc),
-            asked,
-            code,
-            payload: Vec::new(alloc),
-        },
-    }
-}
-
-// The driver's call, at one of the five commands.
-#[tactic(auto, unfolding(command_tables::specs::Table::row_of))]
-fn call_for(
-    alloc: Global,
-    cmd: CommandId,
-    handle: u64,
-    code: Option<Code>,
-) -> Result<Option<DriverCall>, NoMemory>
-    ensures { IfOk result (λ call. IfSome call (λ c. HasShape (told c))) }
-{
-    match cmd {
-        CommandId::CreateInstance => Ok(Some(no_argument(
-            alloc,
-            CommandId::CreateInstance,
-            1,
-            code,
-        ))),
-        CommandId::EnumeratePhysicalDevices => Ok(Some(one_argument(
-            alloc,
-            CommandId::EnumeratePhysicalDevices,
-            handle,
-            1,
-            code,
-        )?)),
-        CommandId::CreateDevice => Ok(Some(one_argument(
-            alloc,
-            CommandId::CreateDevice,
-            handle,
-            1,
-            code,
-        )?)),
-        CommandId::DestroyDevice => Ok(Some(one_argument(
-            alloc,
-            CommandId::DestroyDevice,
-            handle,
-            0,
-            code,
-        )?)),
-        CommandId::DestroyInstance => Ok(Some(one_argument(
-            alloc,
-            CommandId::DestroyInstance,
-            handle,
-            0,
-            code,
-        )?)),
-        _ => Ok(None),
-    }
-}
-
-// Asks the driver, and answers its handles.
-fn ask<D: Driver>(alloc: Global, call: &DriverCall, driver: &mut D) -> Result<Vec<u64>, NoMemory>
-    requires { HasShape (told call.now) }
-{
-    let mut reply = DriverReply {
-        code: None,
-        handles: Vec::new(alloc),
-    };
-    driver.call(call, &mut reply)?;
-    let DriverReply { handles, .. } = reply;
-    Ok(handles)
-}
-
-fn made_type(effect: Effect) -> Option<ObjectType> {
-    match effect {
-        Effect::Create { ty, .. } | Effect::Retrieve { ty, .. } => Some(ty),
-        Effect::None | Effect::Destroy(_) | Effect::Free(_) | Effect::Reset(_) => None,
-    }
-}
-
-// The answer of a call that was skipped.
-fn refused(cmd: CommandId) -> Option<Code> {
-    if row(cmd).returns {
-        Some(Code::ErrorValidationFailedExt)
-    } else {
-        None
-    }
+    keep_names(names, born)?;
+    keep_values(values, &call.handles, born)?;
+    keep_retrieved(alloc, retrieved, births, call, born)?;
+    bear(alloc, births, living, &call.args, effect_of(call.cmd), born)?;
+    Ok(())
 }
 
 impl Session {
-    pub fn new(alloc: Global) -> Session {
+    /// A session for a trace of which nothing was replayed yet.
+    pub fn new(alloc: Global) -> Session
+        ensures { Stands result [] [] }
+    {
         Session {
             calls: 0,
             skipped: 0,
             reports: 0,
-            objects: Vec::new(alloc),
             names: Vec::new(alloc),
-            open: None,
+            values: Vec::new(alloc),
+            births: Vec::new(alloc),
+            living: Vec::new(alloc),
+            retrieved: Vec::new(alloc),
+            open_calls: Vec::new(alloc),
         }
     }
 
-    /// How many calls there were, how many of them were skipped, and how many reports.
-    pub fn tally(&self) -> Tally {
-        Tally {
-            calls: self.calls,
-            skipped: self.skipped,
-            reports: self.reports,
+    // A call that the loader reports.
+    fn skip(
+        &mut self,
+        call: OpenCall,
+        name: Option<Name>,
+        lines: &mut Vec<u8>,
+    ) -> Result<(), AllocError>
+        requires skipped { call.skipped ≡ true }
+        requires number { call.number ≡ self.old.calls + 1 }
+        requires handles { call.handles.items ≡ [] }
+        ensures kept { OnOk result (self.new ≡ after_call self.old (opened_of call) 1 []) }
+        ensures lines { OnOk result (lines.new.items ≡ lines.old.items ++ loader_line call.number call.cmd name) }
+    {
+        report(call.number, call.cmd, name, lines)?;
+        self.calls = call.number;
+        self.skipped += 1;
+        self.reports += 1;
+        self.open_calls.push(call)?;
+        Ok(())
+    }
+
+    // A call that was sent.
+    fn put(&mut self, call: OpenCall, handles: Vec<u64>) -> Result<(), AllocError>
+        requires sent { call.skipped ≡ false }
+        requires number { call.number ≡ self.old.calls + 1 }
+        ensures { OnOk result (self.new ≡ after_call self.old (opened_of call) 0 handles.items) }
+    {
+        let mut call = call;
+        end_some(
+            &mut self.living,
+            &self.births,
+            &call.args,
+            effect_of(call.cmd),
+        );
+        self.calls = call.number;
+        call.handles = handles;
+        self.open_calls.push(call)?;
+        Ok(())
+    }
+
+    // A begin.
+    fn begin_call<D: Driver>(
+        &mut self,
+        alloc: Global,
+        number: u64,
+        begin: Beginning,
+        driver: &mut D,
+        lines: &mut Vec<u8>,
+    ) -> Result<(), NoMemory>
+        requires begins { IsBegin (begin_content begin) }
+        requires number { number ≡ self.old.calls + 1 }
+        ensures ok { OnOk result (Advances self.old self.new (Begin (begin_content begin.entry)) (D.log driver.old) (D.log driver.new) lines.old.items lines.new.items) }
+        ensures err { OnErr result (MayTell self.old (Begin (begin_content begin.entry)) (D.log driver.old) (D.log driver.new)) }
+        ensures calls { OnOk result (self.new.calls ≡ number) }
+        ensures opens { OnOk result (has_open self.new begin.entry.thread ≡ true) }
+    {
+        let call = open_call(alloc, number, begin, &self.names, &self.living)?;
+        if call.skipped {
+            self.skip(call, name_at_first(begin.args), lines)?;
+            Ok(())
+        } else {
+            let handles = ask(alloc, &self.values, &call, driver)?;
+            self.put(call, handles)?;
+            Ok(())
         }
     }
 
-    fn object_of(&self, name: Option<Name>) -> Option<usize> {
-        match name {
-            None => None,
-            Some(name) => match self.names.get(name.number.saturating_sub(1) as usize) {
-                None => None,
-                Some(object) => *object,
-            },
-        }
-    }
-
-    fn is_alive(&self, object: Option<usize>) -> bool {
-        match object {
-            None => false,
-            Some(object) => match self.objects.get(object) {
-                None => false,
-                Some(object) => object.is_alive,
-            },
-        }
-    }
-
-    fn value(&self, object: Option<usize>) -> u64 {
-        match object {
-            None => 0,
-            Some(object) => match self.objects.get(object) {
-                None => 0,
-                Some(object) => object.value,
-            },
-        }
-    }
-
-    fn owner(&self, object: usize) -> Option<usize> {
-        match self.objects.get(object) {
-            None => None,
-            Some(object) => object.owner,
-        }
-    }
-
-    // An object ends with all that it owns; an owner stands before what it owns.
-    fn end(&mut self, object: usize) {
-        for k in 0..self.objects.len() {
-            let is_owned = match self.objects[k].owner {
-                None => false,
-                Some(owner) => !self.is_alive(Some(owner)),
-            };
-            if k == object || is_owned {
-                self.objects[k].is_alive = false;
-            }
-        }
-    }
-
-    /// The begin of a call: its lines are added, and the driver is asked where the call isn't skipped. After an error the
-    /// session is for dropping alone.
+    /// The begin of a call: its lines are added, and the driver is told the call where it isn't skipped. After an error the session is
+    /// for dropping alone, the call was told or wasn't, and anything may stand behind the lines.
     pub fn begin<D: Driver>(
         &mut self,
         alloc: Global,
@@ -243,140 +185,88 @@ impl Session {
         driver: &mut D,
         lines: &mut Vec<u8>,
     ) -> Result<(), SessionError>
-        ensures { IfErr result (λ e. e ≡ SessionError.NoMemory) }
+        requires begins { BeginsCall (content event.now) }
+        requires number { number ≡ self.old.calls + 1 }
+        ensures ok { OnOk result (Advances self.old self.new (content event.now) (D.log driver.old) (D.log driver.new) lines.old.items lines.new.items) }
+        ensures err { OnErr result (MayTell self.old (content event.now) (D.log driver.old) (D.log driver.new)) }
+        ensures only { IfErr result (λ e. e ≡ SessionError.NoMemory) }
+        ensures calls { OnOk result (self.new.calls ≡ number) }
+        ensures opens { OnOk result (has_open self.new (thread_of (content event.now)) ≡ true) }
     {
         match event {
             Event::Return { .. } => Ok(()),
             Event::Begin {
+                thread,
                 cmd,
                 args,
+                results,
                 code,
-                ..
+                payload,
             } => {
-                self.calls = number;
-                let name = first_name(args);
-                let argument = self.object_of(name);
-                match (row(*cmd).params.first(), name) {
-                    (Some(param), Some(name)) if !self.is_alive(argument) => {
-                        report_line(number, *cmd, param.name, name, lines)?;
-                        self.skip(alloc, number, *cmd);
-                        Ok(())
-                    }
-                    _ => self.send(alloc, number, *cmd, argument, *code, driver),
-                }
+                let begin = Beginning {
+                    thread: *thread,
+                    cmd: *cmd,
+                    args,
+                    results,
+                    code: *code,
+                    payload,
+                };
+                self.begin_call(alloc, number, begin, driver, lines)?;
+                Ok(())
             }
         }
     }
 
-    // A call that the loader reports.
-    fn skip(&mut self, alloc: Global, number: u64, cmd: CommandId) {
-        self.skipped = self.skipped.saturating_add(1);
-        self.reports = self.reports.saturating_add(1);
-        self.open = Some(OpenCall {
-            number,
-            cmd,
-            argument: None,
-            code: refused(cmd),
-            is_skipped: true,
-            handles: Vec::new(alloc),
-        });
-    }
-
-    // A call that the driver is asked.
-    fn send<D: Driver>(
-        &mut self,
-        alloc: Global,
-        number: u64,
-        cmd: CommandId,
-        argument: Option<usize>,
-        code: Option<Code>,
-        driver: &mut D,
-    ) -> Result<(), SessionError>
-        ensures { IfErr result (λ e. e ≡ SessionError.NoMemory) }
-    {
-        let handles = match call_for(alloc, cmd, self.value(argument), code)? {
-            None => Vec::new(alloc),
-            Some(call) => ask(alloc, &call, driver)?,
-        };
-        if let (Effect::Destroy(_), Some(object)) = (row(cmd).effect, argument) {
-            self.end(object);
-        }
-        self.open = Some(OpenCall {
-            number,
-            cmd,
-            argument,
-            code,
-            is_skipped: false,
-            handles,
-        });
-        Ok(())
-    }
-
-    /// The return of the open call: its line is added. After an error the session is for dropping alone.
+    /// The return of a thread's open call: its line is added. After an error the session is for dropping alone, and anything may stand
+    /// behind the lines.
     pub fn finish(
         &mut self,
-        _alloc: Global,
-        _thread: u32,
+        alloc: Global,
+        thread: u32,
         lines: &mut Vec<u8>,
-    ) -> Result<(), SessionError>
-        ensures { IfErr result (λ e. e ≡ SessionError.NoMemory) }
+    ) -> Result<(), NoMemory>
+        requires { has_open self.old thread ≡ true }
+        ensures ok { OnOk result ((log : Log) → Advances self.old self.new (Return thread) log log lines.old.items lines.new.items) }
+        ensures calls { OnOk result (self.new.calls ≡ self.old.calls) }
+        ensures closed { OnOk result (has_open self.new thread ≡ false) }
     {
-        match self.open.take() {
+        match find_open(&self.open_calls, thread) {
             None => Ok(()),
             Some(call) => {
-                let born = match made_type(row(call.cmd).effect) {
-                    None => None,
-                    Some(_) if call.is_skipped => Some(0),
-                    Some(_) => Some(1),
-                };
-                if let Some(ty) = made_type(row(call.cmd).effect) {
-                    self.bear(ty, &call)?;
-                }
-                return_line(call.number, call.cmd, call.code, born, lines)
+                let born = made(alloc, &self.births, &self.living, &self.retrieved, call)?;
+                settle(
+                    alloc,
+                    call,
+                    &born,
+                    &mut self.names,
+                    &mut self.values,
+                    &mut self.births,
+                    &mut self.living,
+                    &mut self.retrieved,
+                )?;
+                return_line(call, born.len(), lines)?;
+                let closed = call.thread;
+                close(&mut self.open_calls, closed);
+                Ok(())
             }
         }
     }
 
-    // The place of the object that a call's result stands for: a new one, or one that was given before.
-    fn given_before(&self, ty: ObjectType, owner: Option<usize>) -> Option<usize> {
-        if ty == ObjectType::PhysicalDevice {
-            self.objects
-                .iter()
-                .position(|o| o.ty == ty && o.owner == owner)
-        } else {
-            None
-        }
-    }
-
-    fn bear(&mut self, ty: ObjectType, call: &OpenCall) -> Result<(), SessionError>
-        ensures { IfErr result (λ e. e ≡ SessionError.NoMemory) }
+    /// Whether a thread has an open call.
+    pub fn is_open(&self, thread: u32) -> bool
+        ensures { result ≡ has_open self.now thread }
     {
-        if call.is_skipped {
-            self.names.push(None)?;
-            return Ok(());
+        has_open(&self.open_calls, thread)
+    }
+
+    /// How many calls there were, how many of them were skipped, and how many reports.
+    pub fn tally(&self) -> Tally
+        ensures { result ≡ record { calls = self.now.calls; skipped = self.now.skipped; reports = self.now.reports } }
+    {
+        Tally {
+            calls: self.calls,
+            skipped: self.skipped,
+            reports: self.reports,
         }
-        let owner = match (ty, call.argument) {
-            (ObjectType::Device, Some(physical_device)) => self.owner(physical_device),
-            (_, argument) => argument,
-        };
-        let value = call.handles.first().copied().unwrap_or(0);
-        match self.given_before(ty, owner) {
-            Some(object) => {
-                if object < self.objects.len() {
-                    self.objects[object].value = value;
-                }
-                self.names.push(Some(object))?;
-            }
-            None => {
-                self.names.push(Some(self.objects.len()))?;
-                self.objects.push(Object {
-                    ty,
-                    owner,
-                    is_alive: true,
-                    value,
-                })?;
-            }
-        }
-        Ok(())
     }
 }

@@ -1,0 +1,106 @@
+// How a call is judged at its begin.
+ghost use Rattle.std.specs.Prelude.{◌≡◌, ◌∷◌, [], ℕ, map, not, IfOk};
+ghost use Rattle.command_tables.specs.Table.{row_of, seen, seen_param};
+ghost use Rattle.object_model.specs.Objects.{is_in};
+ghost use Rattle.object_model.specs.Rules.{parameter_holds, loader_failures, unless};
+ghost use Rattle.trace_format.specs.Content.{arg_content};
+ghost use Rattle.replay_model.specs.Places.{is_failing};
+ghost use Rattle.replay_core.specs.Kept.{begun_from};
+ghost use Rattle.replay_core.specs.Lines.{first_name};
+ghost use Rattle.replay_core.specs.Shown.{args_shown, opened_of, sent_of};
+ghost use Rattle.replay_core.specs.Beginning.{begin_content};
+
+use crate::births::contains;
+use crate::call::OpenCall;
+use crate::names::arguments;
+use command_tables::{Code, CommandId, Param, row};
+use object_model::{Argument, Object};
+use replay_model::Named;
+use std::alloc::{AllocError, Global};
+use trace_format::{Name, TraceArg};
+
+/// What a begin event says.
+#[derive(Clone, Copy)]
+pub struct Beginning<'a> {
+    pub thread: u32,
+    pub cmd: CommandId,
+    pub args: &'a [TraceArg],
+    pub results: &'a [Name],
+    pub code: Option<Code>,
+    pub payload: &'a [u8],
+}
+
+fn holds(living: &[Object], param: &Param, argument: Argument) -> bool
+    ensures { result ≡ parameter_holds (is_in living.now) (seen_param param.now) argument }
+{
+    match argument {
+        Argument::Null => param.optional,
+        Argument::Unborn => false,
+        Argument::The(object) => contains(living, object),
+    }
+}
+
+#[tactic(auto, using(crate::proofs::Reports::failing_unless))]
+fn fails_first(living: &[Object], params: &[Param], args: &[Vec<Argument>]) -> bool
+    ensures { result ≡ is_failing (loader_failures (is_in living.now) (map seen_param params.now) (args_shown args.now)) }
+{
+    match params {
+        [] => false,
+        [param, ..] => match args {
+            [] => false,
+            [at, ..] => match at.as_slice() {
+                [] => false,
+                [argument, ..] => !holds(living, param, *argument),
+            },
+        },
+    }
+}
+
+fn is_reported(living: &[Object], cmd: CommandId, args: &[Vec<Argument>]) -> bool
+    ensures { result ≡ is_failing (loader_failures (is_in living.now) (row_of cmd).params (args_shown args.now)) }
+{
+    fails_first(living, row(cmd).params, args)
+}
+
+/// The name that stands first.
+pub fn name_at_first(args: &[TraceArg]) -> Option<Name>
+    ensures { result ≡ first_name (map arg_content args.now) }
+{
+    match args {
+        [] => None,
+        [arg, ..] => match arg.names.as_slice() {
+            [] => None,
+            [name, ..] => *name,
+        },
+    }
+}
+
+/// The call of a begin, with no handles yet.
+pub fn open_call(
+    alloc: Global,
+    number: u64,
+    begin: Beginning,
+    names: &[Named],
+    living: &[Object],
+) -> Result<OpenCall, AllocError>
+    ensures opened { IfOk result (λ c. opened_of c ≡ (begun_from number names.now (is_in living.now) (begin_content begin.entry)).opened) }
+    ensures handles { IfOk result (λ c. c.handles.items ≡ []) }
+{
+    let args = arguments(alloc, names, begin.args)?;
+    let skipped = is_reported(living, begin.cmd, &args);
+    let mut results = Vec::new(alloc);
+    results.extend_from_slice(begin.results)?;
+    let mut payload = Vec::new(alloc);
+    payload.extend_from_slice(begin.payload)?;
+    Ok(OpenCall {
+        number,
+        thread: begin.thread,
+        cmd: begin.cmd,
+        args,
+        results,
+        code: begin.code,
+        payload,
+        skipped,
+        handles: Vec::new(alloc),
+    })
+}
