@@ -37,10 +37,6 @@ pub owners_shown : (es : List ObjectEntry) (o : Object) → owners_in (births_sh
 owners_shown es o =
     ap (λ r. option_map_or (λ (b : Birth). b.owners) r []) (find_map (λ (b : Birth). same b.object o) birth_of es) ∙ owners_mapped (find (λ (e : ObjectEntry). same e.object o) es)
 
-pub objects_back : (created : Bool) (owners xs : List Object) → map (λ (b : Birth). b.object) (map (λ o. record { object = o; created = created; owners = owners }) xs) ≡ xs
-objects_back created owners [] = refl
-objects_back created owners (x ∷ xs) = ap (λ ys. x ∷ ys) (objects_back created owners xs)
-
 -- an entry that is found, or the object given
 abbrev pub object_found : Object → Option RetrievedEntry → Object
 object_found new None = new

@@ -3,38 +3,44 @@ use Rattle.std.proofs.Common.{◌≡◌, ℕ, ◌+◌, Bool, true, false, not, c
 use Rattle.std.proofs.lemmas.List.{map-append, append-nil, length-append}
 use Rattle.std.proofs.lemmas.Bool.{eqb-true}
 use Rattle.std.specs.Prelude.{◌==◌, find}
-use Rattle.std.specs.List.{list_any, filter}
+use Rattle.std.specs.List.{list_any, filter, AllByRecursion}
 use Rattle.std.specs.Option.{option_map_or}
 use Rattle.command_tables.specs.Calls.{ReplyContent}
 use Rattle.command_tables.specs.Table.{row_of}
 use Rattle.trace_format.specs.Content.{BeginEvent, TraceEvent, Begin, Return}
 use Rattle.object_model.specs.declared.Object.{Object}
-use Rattle.object_model.specs.Objects.{is_in}
-use Rattle.object_model.specs.History.{births, births_given, alive, ends_by}
+use Rattle.object_model.specs.History.{Birth, born_in, births, births_given, alive, ends_by}
 use Rattle.replay_model.specs.declared.Born.{Born}
 use Rattle.replay_model.specs.Past.{Opened, Past, Began, Returned, is_skipped, is_of, open_calls, history, named, named_of, retrievals, retrieved_by, objects_of, calls_in}
 use Rattle.replay_model.specs.Births.{made_by}
 use Rattle.replay_model.specs.Judged.{Begun, returned_by, judged, begun_of, made_of}
 use Rattle.replay_model.specs.Direct.{Answered, Sent, sent, valued, before_call, own_replies, answers_to, answers_of, sends_in}
 use Rattle.replay_core.specs.Setups.{one_driver}
-use Rattle.replay_core.specs.Kept.{Kept, after_call, after_begin, after_return, living_after, begun_from, begun_at, made_at, answered_by}
-use Rattle.replay_core.specs.Stands.{StandsFor, Stands}
-use Rattle.replay_core.proofs.Objects.{is_in-filter, is_in-more}
+use Rattle.replay_core.specs.Kept.{Kept, after_call, after_begin, after_return, living_after, begun_from, begun_at, made_at, answered_by, ends_birth}
+use Rattle.replay_core.specs.Stands.{StandsFor, Stands, IsOwned}
+use Rattle.replay_core.proofs.Objects.{living_left, owned_left, born_more, owned_more}
 use Rattle.replay_core.proofs.OneDriver.{begun_judged}
 
-living_begun : (k : Kept) (past : Past) (o : Opened) (x : Object) → k.births ≡ births (history past) → is_in k.living x ≡ alive (history past) x
-    → is_in (living_after k.births k.living o) x ≡ (alive (history past) x && (is_skipped o || not (ends_by (births (history past)) o.args (row_of o.cmd).effect x)))
-living_begun k past o x born lives = go (is_skipped o)
+living_begun : (k : Kept) (past : Past) (o : Opened) (x : Object) → k.births ≡ births (history past) → born_in k.living x ≡ alive (history past) x → AllByRecursion (IsOwned k.births) k.living
+    → born_in (living_after k.births k.living o) x ≡ (alive (history past) x && (is_skipped o || not (ends_by (births (history past)) o.args (row_of o.cmd).effect x)))
+living_begun k past o x born lives owned = go (is_skipped o)
   where
     keep : (b : Bool) → b ≡ b && true
     keep true = refl
     keep false = refl
 
-    go : (t : Bool) → is_in (cond t k.living (filter (λ y. not (ends_by k.births o.args (row_of o.cmd).effect y)) k.living)) x ≡ (alive (history past) x && (t || not (ends_by (births (history past)) o.args (row_of o.cmd).effect x)))
+    go : (t : Bool) → born_in (cond t k.living (filter (λ b. not (ends_birth k.births o.args (row_of o.cmd).effect b)) k.living)) x ≡ (alive (history past) x && (t || not (ends_by (births (history past)) o.args (row_of o.cmd).effect x)))
     go true = lives ∙ keep (alive (history past) x)
     go false =
-        is_in-filter (λ y. not (ends_by k.births o.args (row_of o.cmd).effect y)) x k.living
+        living_left k.births o.args (row_of o.cmd).effect k.living x owned
         ∙ (ap (λ t. t && not (ends_by k.births o.args (row_of o.cmd).effect x)) lives ∙ ap (λ bs. alive (history past) x && not (ends_by bs o.args (row_of o.cmd).effect x)) born)
+
+owned_begun : (k : Kept) (o : Opened) → AllByRecursion (IsOwned k.births) k.living → AllByRecursion (IsOwned k.births) (living_after k.births k.living o)
+owned_begun k o owned = go (is_skipped o)
+  where
+    go : (t : Bool) → AllByRecursion (IsOwned k.births) (cond t k.living (filter (λ b. not (ends_birth k.births o.args (row_of o.cmd).effect b)) k.living))
+    go true = owned
+    go false = owned_left k.births (λ b. not (ends_birth k.births o.args (row_of o.cmd).effect b)) k.living owned
 
 -- a call as it was judged, with its replies
 pub begins : (k : Kept) (past : Past) (before after : List ReplyContent) (e : BeginEvent) (b : Begun) (handles : List ℕ) → StandsFor k past before → before_call b.opened after ≡ before
@@ -47,7 +53,8 @@ begins k past before after e b handles s back own each = record {
   names = s.names;
   values = s.values ∙ ap (valued past) (sym back);
   born = s.born;
-  living = λ x. living_begun k past b.opened x s.born (s.living x);
+  living = λ x. living_begun k past b.opened x s.born (s.living x) s.owners;
+  owners = owned_begun k b.opened s.owners;
   retrieved = s.retrieved;
   open_calls = map-append (λ (c : Sent). c.opened) k.sent (record { opened = b.opened; answers = answered_by b.opened.drivers handles } ∷ []) ∙ ap (λ os. os ++ b.opened ∷ []) s.open_calls;
   sent = ap (λ cs. cs ++ record { opened = b.opened; answers = answered_by b.opened.drivers handles } ∷ []) (s.sent ∙ ap (sent past) (sym back))
@@ -75,7 +82,8 @@ returns_with k past replies o made s = record {
   names = ap (λ ns. ns ++ map named_of made) s.names;
   values = rw (s.values, s.sent) refl;
   born = rw s.born refl;
-  living = λ x. is_in-more k.living k.births o.args (row_of o.cmd).effect (objects_of made) x ∙ rw (s.living x, s.born) refl;
+  living = λ x. born_more k.living k.births o.args (row_of o.cmd).effect (objects_of made) x ∙ rw (s.living x, s.born) refl;
+  owners = owned_more k.births o.args (row_of o.cmd).effect (objects_of made) k.living s.owners;
   retrieved = rw (s.retrieved, s.born) refl;
   open_calls = sent_rest o.thread k.sent ∙ ap (filter (λ c. not (is_of o.thread c))) s.open_calls;
   sent = ap (filter (λ c. not (is_of o.thread c.opened))) s.sent;
@@ -85,15 +93,15 @@ returns_with k past replies o made s = record {
 -- what is judged is what the session computes
 begun-past : (k : Kept) (past : Past) (replies : List ReplyContent) (e : BeginEvent) → StandsFor k past replies → begun_at k e ≡ begun_from (calls_in past + 1) (named past) (alive (history past)) e
 begun-past k past replies e s =
-    ap (λ n. begun_from (n + 1) k.names (is_in k.living) e) s.calls
-    ∙ (ap (λ ns. begun_from (calls_in past + 1) ns (is_in k.living) e) s.names ∙ ap (λ (f : Object → Bool). begun_from (calls_in past + 1) (named past) f e) ((λ i x. s.living x i)))
+    ap (λ n. begun_from (n + 1) k.names (born_in k.living) e) s.calls
+    ∙ (ap (λ ns. begun_from (calls_in past + 1) ns (born_in k.living) e) s.names ∙ ap (λ (f : Object → Bool). begun_from (calls_in past + 1) (named past) f e) ((λ i x. s.living x i)))
 
 pub begun-kept : (k : Kept) (events : List TraceEvent) (replies : List ReplyContent) (e : BeginEvent) → Stands k events replies → begun_at k e ≡ begun_of one_driver (judged one_driver events) e
 begun-kept k events replies e s = begun-past k (judged one_driver events) replies e s ∙ sym (begun_judged events e)
 
 pub made-kept : (k : Kept) (past : Past) (replies : List ReplyContent) (o : Opened) → StandsFor k past replies → made_at k o ≡ made_of one_driver past o
 made-kept k past replies o s =
-    ap (λ bs. made_by 1 bs (is_in k.living) k.retrieved o) s.born
+    ap (λ bs. made_by 1 bs (born_in k.living) k.retrieved o) s.born
     ∙ (ap (λ (f : Object → Bool). made_by 1 (births (history past)) f k.retrieved o) ((λ i x. s.living x i)) ∙ ap (λ rs. made_by 1 (births (history past)) (alive (history past)) rs o) s.retrieved)
 
 returns : (k : Kept) (past : Past) (replies : List ReplyContent) (o : Opened) → StandsFor k past replies

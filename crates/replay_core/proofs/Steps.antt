@@ -13,8 +13,7 @@ use Rattle.trace_format.specs.declared.event.Name.{Name}
 use Rattle.trace_format.specs.Content.{Arg, BeginEvent, TraceEvent, Begin, Return}
 use Rattle.object_model.specs.declared.Object.{Object}
 use Rattle.object_model.specs.declared.Argument.{Argument}
-use Rattle.object_model.specs.Objects.{is_in}
-use Rattle.object_model.specs.History.{Birth, births_given}
+use Rattle.object_model.specs.History.{Birth, born_in, births_given}
 use Rattle.object_model.specs.Rules.{Failure, failure, loader_failures}
 use Rattle.replay_model.specs.declared.Named.{Named}
 use Rattle.replay_model.specs.declared.Born.{Born}
@@ -40,16 +39,16 @@ logged_nil (Some xs) = ap (λ ys. Some ys) (sym (append-nil xs))
 
 -- ---- a begin, by whether it is skipped
 
-failing_so : (k : Kept) (e : BeginEvent) (t : Bool) → (begun_at k e).opened.stop ≡ stop_where t → is_failing (loader_failures (is_in k.living) (row_of e.cmd).params (arguments_in k.names e.args)) ≡ t
+failing_so : (k : Kept) (e : BeginEvent) (t : Bool) → (begun_at k e).opened.stop ≡ stop_where t → is_failing (loader_failures (born_in k.living) (row_of e.cmd).params (arguments_in k.names e.args)) ≡ t
 failing_so k e t is =
-    let fs = loader_failures (is_in k.living) (row_of e.cmd).params (arguments_in k.names e.args) in sym (skipped_so (is_failing fs)) ∙ (ap (λ (s : Option ℕ). is_some s) is ∙ skipped_so t)
+    let fs = loader_failures (born_in k.living) (row_of e.cmd).params (arguments_in k.names e.args) in sym (skipped_so (is_failing fs)) ∙ (ap (λ (s : Option ℕ). is_some s) is ∙ skipped_so t)
 
 drivers_so : (k : Kept) (e : BeginEvent) (t : Bool) → (begun_at k e).opened.stop ≡ stop_where t → (begun_at k e).opened.drivers ≡ sent_to t
 drivers_so k e t is = ap sent_to (failing_so k e t is)
 
 reports_so : (k : Kept) (e : BeginEvent) (t : Bool) → (begun_at k e).opened.stop ≡ stop_where t → (begun_at k e).reports ≡ at_place 0 (cond t (failure 0 0 rule.Parameter 0 ∷ []) [])
 reports_so k e t is =
-    ap (at_place 0) (failures_are (is_in k.living) (row_of e.cmd).params (arguments_in k.names e.args) ∙ ap (λ u. cond u (failure 0 0 rule.Parameter 0 ∷ []) []) (failing_so k e t is))
+    ap (at_place 0) (failures_are (born_in k.living) (row_of e.cmd).params (arguments_in k.names e.args) ∙ ap (λ u. cond u (failure 0 0 rule.Parameter 0 ∷ []) []) (failing_so k e t is))
 
 before_none : (o : Opened) (replies : List ReplyContent) → o.drivers ≡ [] → before_call o replies ≡ replies
 before_none o replies is = ap (λ (ds : List ℕ). drop (length ds) replies) is
@@ -112,10 +111,10 @@ return_lines past f = option_map_or (λ o. lines_of one_driver (Returned o (made
 -- ---- steps
 
 -- the call of a begin, by what is kept
-pub opened_so : (k : Kept) (e : BeginEvent) (n : ℕ) (names : List Named) (living : List Object) (o : Opened) → n ≡ k.calls + 1 → names ≡ k.names → living ≡ k.living
-    → o ≡ (begun_from n names (is_in living) e).opened → o ≡ (begun_at k e).opened
+pub opened_so : (k : Kept) (e : BeginEvent) (n : ℕ) (names : List Named) (living : List Birth) (o : Opened) → n ≡ k.calls + 1 → names ≡ k.names → living ≡ k.living
+    → o ≡ (begun_from n names (born_in living) e).opened → o ≡ (begun_at k e).opened
 opened_so k e n names living o count known lives is =
-    is ∙ (ap (λ m. (begun_from m names (is_in living) e).opened) count ∙ (ap (λ ns. (begun_from (k.calls + 1) ns (is_in living) e).opened) known ∙ ap (λ ls. (begun_from (k.calls + 1) k.names (is_in ls) e).opened) lives))
+    is ∙ (ap (λ m. (begun_from m names (born_in living) e).opened) count ∙ (ap (λ ns. (begun_from (k.calls + 1) ns (born_in living) e).opened) known ∙ ap (λ ls. (begun_from (k.calls + 1) k.names (born_in ls) e).opened) lives))
 
 -- a begin that the loader reports
 pub advances_skipped : (k new : Kept) (e : BeginEvent) (o : Opened) (name : Option Name) (log : Log) (lines0 lines1 : List ℕ) → o ≡ (begun_at k e).opened → o.stop ≡ stop_where true
@@ -200,15 +199,15 @@ advances_returned k new thread c made log lines0 lines1 is made_is new_is report
     }
 
 -- what is made, by the lists that are kept
-pub made_so : (k : Kept) (o : Opened) (bs : List Birth) (living : List Object) (kept : List Retrieval) (made : List Born) → bs ≡ k.births → living ≡ k.living → kept ≡ k.retrieved
-    → made ≡ made_by 1 bs (is_in living) kept o → made ≡ made_at k o
+pub made_so : (k : Kept) (o : Opened) (bs : List Birth) (living : List Birth) (kept : List Retrieval) (made : List Born) → bs ≡ k.births → living ≡ k.living → kept ≡ k.retrieved
+    → made ≡ made_by 1 bs (born_in living) kept o → made ≡ made_at k o
 made_so k o bs living kept made known lives keeps is =
-    is ∙ (ap (λ (x : List Birth). made_by 1 x (is_in living) kept o) known ∙ (ap (λ (x : List Object). made_by 1 k.births (is_in x) kept o) lives ∙ ap (λ (x : List Retrieval). made_by 1 k.births (is_in k.living) x o) keeps))
+    is ∙ (ap (λ (x : List Birth). made_by 1 x (born_in living) kept o) known ∙ (ap (λ (x : List Birth). made_by 1 k.births (born_in x) kept o) lives ∙ ap (λ (x : List Retrieval). made_by 1 k.births (born_in k.living) x o) keeps))
 
 -- what is kept after a return, list by list
-pub after_return_so : (k : Kept) (o : Opened) (made : List Born) (answers : List Answered) (names : List Named) (values : List Valued) (bs : List Birth) (living : List Object) (kept : List Retrieval) (sent : List Sent)
+pub after_return_so : (k : Kept) (o : Opened) (made : List Born) (answers : List Answered) (names : List Named) (values : List Valued) (bs : List Birth) (living : List Birth) (kept : List Retrieval) (sent : List Sent)
     → names ≡ k.names ++ map named_of made → values ≡ k.values ++ map (valued_of o answers) made → bs ≡ k.births ++ births_given k.births o.args (row_of o.cmd).effect (objects_of made)
-    → living ≡ k.living ++ map (λ b. b.object) (births_given k.births o.args (row_of o.cmd).effect (objects_of made)) → kept ≡ k.retrieved ++ retrieved_by k.births o made
+    → living ≡ k.living ++ births_given k.births o.args (row_of o.cmd).effect (objects_of made) → kept ≡ k.retrieved ++ retrieved_by k.births o made
     → sent ≡ filter (λ (c : Sent). not (is_of o.thread c.opened)) k.sent
     → record k { names = names; values = values; births = bs; living = living; retrieved = kept; sent = sent } ≡ after_return k o made answers
 after_return_so k o made answers names values bs living kept sent a b c d e f = rw (a, b, c, d, e, f) refl

@@ -1,20 +1,20 @@
 // How a call is judged at its begin.
 ghost use Rattle.std.specs.Prelude.{◌≡◌, ◌∷◌, [], ℕ, map, not, IfOk};
 ghost use Rattle.command_tables.specs.Table.{row_of, seen, seen_param};
-ghost use Rattle.object_model.specs.Objects.{is_in};
+ghost use Rattle.object_model.specs.History.{born_in};
 ghost use Rattle.object_model.specs.Rules.{parameter_holds, loader_failures, unless};
 ghost use Rattle.trace_format.specs.Content.{arg_content};
 ghost use Rattle.replay_model.specs.Places.{is_failing};
 ghost use Rattle.replay_core.specs.Kept.{begun_from};
 ghost use Rattle.replay_core.specs.Lines.{first_name};
-ghost use Rattle.replay_core.specs.Shown.{args_shown, opened_of, sent_of};
+ghost use Rattle.replay_core.specs.Shown.{args_shown, births_shown, opened_of, sent_of};
 ghost use Rattle.replay_core.specs.Beginning.{begin_content};
 
-use crate::births::contains;
+use crate::births::{ObjectEntry, is_born};
 use crate::call::OpenCall;
 use crate::names::arguments;
 use command_tables::{Code, CommandId, Param, row};
-use object_model::{Argument, Object};
+use object_model::Argument;
 use replay_model::Named;
 use std::alloc::{AllocError, Global};
 use trace_format::{Name, TraceArg};
@@ -30,19 +30,19 @@ pub struct Beginning<'a> {
     pub payload: &'a [u8],
 }
 
-fn holds(living: &[Object], param: &Param, argument: Argument) -> bool
-    ensures { result ≡ parameter_holds (is_in living.now) (seen_param param.now) argument }
+fn holds(living: &[ObjectEntry], param: &Param, argument: Argument) -> bool
+    ensures { result ≡ parameter_holds (born_in (births_shown living.now)) (seen_param param.now) argument }
 {
     match argument {
         Argument::Null => param.optional,
         Argument::Unborn => false,
-        Argument::The(object) => contains(living, object),
+        Argument::The(object) => is_born(living, object),
     }
 }
 
 #[tactic(auto, using(crate::proofs::Reports::failing_unless))]
-fn fails_first(living: &[Object], params: &[Param], args: &[Vec<Argument>]) -> bool
-    ensures { result ≡ is_failing (loader_failures (is_in living.now) (map seen_param params.now) (args_shown args.now)) }
+fn fails_first(living: &[ObjectEntry], params: &[Param], args: &[Vec<Argument>]) -> bool
+    ensures { result ≡ is_failing (loader_failures (born_in (births_shown living.now)) (map seen_param params.now) (args_shown args.now)) }
 {
     match params {
         [] => false,
@@ -56,8 +56,8 @@ fn fails_first(living: &[Object], params: &[Param], args: &[Vec<Argument>]) -> b
     }
 }
 
-fn is_reported(living: &[Object], cmd: CommandId, args: &[Vec<Argument>]) -> bool
-    ensures { result ≡ is_failing (loader_failures (is_in living.now) (row_of cmd).params (args_shown args.now)) }
+fn is_reported(living: &[ObjectEntry], cmd: CommandId, args: &[Vec<Argument>]) -> bool
+    ensures { result ≡ is_failing (loader_failures (born_in (births_shown living.now)) (row_of cmd).params (args_shown args.now)) }
 {
     fails_first(living, row(cmd).params, args)
 }
@@ -81,9 +81,9 @@ pub fn open_call(
     number: u64,
     begin: Beginning,
     names: &[Named],
-    living: &[Object],
+    living: &[ObjectEntry],
 ) -> Result<OpenCall, AllocError>
-    ensures opened { IfOk result (λ c. opened_of c ≡ (begun_from number names.now (is_in living.now) (begin_content begin.entry)).opened) }
+    ensures opened { IfOk result (λ c. opened_of c ≡ (begun_from number names.now (born_in (births_shown living.now)) (begin_content begin.entry)).opened) }
     ensures handles { IfOk result (λ c. c.handles.items ≡ []) }
 {
     let args = arguments(alloc, names, begin.args)?;

@@ -3,7 +3,8 @@ ghost use Rattle.std.specs.Prelude.{◌≡◌, ◌++◌, [], map, filter, slice_
 ghost use Rattle.std.specs.List.{list_any, filter_map, find};
 ghost use Rattle.std.specs.Option.{option_map};
 ghost use Rattle.object_model.specs.Objects.{same, is_in, objects_in, first_in, object_of};
-ghost use Rattle.object_model.specs.History.{born_in, created_in, owners_in, owners_given, births_of, births_given, ends_with, ends_by, line_of};
+ghost use Rattle.object_model.specs.History.{born_in, created_in, owners_in, owners_given, births_of, births_given, line_of};
+ghost use Rattle.replay_core.specs.Kept.{goes_with, ends_birth};
 ghost use Rattle.replay_model.specs.Past.{owner_by, objects_of};
 ghost use Rattle.replay_core.specs.Shown.{birth_of, births_shown, args_shown};
 
@@ -101,13 +102,6 @@ fn first_object(args: &[Vec<Argument>], p: u8) -> Option<Object>
     }
 }
 
-fn ends_with_named(entries: &[ObjectEntry], object: Object, named: Object) -> bool
-    ensures { result ≡ ends_with (births_shown entries.now) object named }
-{
-    is_created(entries, named)
-        && (same_object(object, named) || contains(owners_of(entries, object), named))
-}
-
 #[tactic(auto, unfolding(command_tables::specs::Tests::same_type))]
 fn same_object(a: Object, b: Object) -> bool
     ensures { result ≡ same a b }
@@ -115,44 +109,51 @@ fn same_object(a: Object, b: Object) -> bool
     a == b
 }
 
-fn any_ends(entries: &[ObjectEntry], at: &[Argument], object: Object) -> bool
-    ensures { result ≡ list_any (ends_with (births_shown entries.now) object) (filter_map object_of at.now) }
+// The births are searched only where the object goes.
+fn goes_with_named(births: &[ObjectEntry], entry: &ObjectEntry, named: Object) -> bool
+    ensures { result ≡ goes_with (births_shown births.now) (birth_of entry.now) named }
+{
+    (same_object(entry.object, named) || contains(&entry.owners, named))
+        && is_created(births, named)
+}
+
+fn any_ends(births: &[ObjectEntry], at: &[Argument], entry: &ObjectEntry) -> bool
+    ensures { result ≡ list_any (goes_with (births_shown births.now) (birth_of entry.now)) (filter_map object_of at.now) }
 {
     at.iter()
         .filter_map(|a| object_in_place(*a))
-        .any(|named| ends_with_named(entries, object, named))
+        .any(|named| goes_with_named(births, entry, named))
 }
 
-fn any_owns(entries: &[ObjectEntry], at: &[Argument], object: Object) -> bool
-    ensures { result ≡ list_any (is_in (owners_in (births_shown entries.now) object)) (filter_map object_of at.now) }
+fn any_owns(at: &[Argument], entry: &ObjectEntry) -> bool
+    ensures { result ≡ list_any (is_in entry.now.owners.items) (filter_map object_of at.now) }
 {
-    let owners = owners_of(entries, object);
     at.iter()
         .filter_map(|a| object_in_place(*a))
-        .any(|named| contains(owners, named))
+        .any(|named| contains(&entry.owners, named))
 }
 
-/// Whether a call that isn't skipped ends an object.
-pub fn ends(entries: &[ObjectEntry], args: &[Vec<Argument>], effect: Effect, object: Object) -> bool
-    ensures { result ≡ ends_by (births_shown entries.now) (args_shown args.now) effect object }
+// Whether the effect of a call ends a born object.
+fn ends(births: &[ObjectEntry], args: &[Vec<Argument>], effect: Effect, entry: &ObjectEntry) -> bool
+    ensures { result ≡ ends_birth (births_shown births.now) (args_shown args.now) effect (birth_of entry.now) }
 {
     match effect {
-        Effect::Destroy(p) | Effect::Free(p) => any_ends(entries, arguments_at(args, p), object),
-        Effect::Reset(p) => any_owns(entries, arguments_at(args, p), object),
+        Effect::Destroy(p) | Effect::Free(p) => any_ends(births, arguments_at(args, p), entry),
+        Effect::Reset(p) => any_owns(arguments_at(args, p), entry),
         Effect::None | Effect::Create { .. } | Effect::Retrieve { .. } => false,
     }
 }
 
 /// Leaves what a call doesn't end.
 pub fn end_some(
-    living: &mut Vec<Object>,
-    entries: &[ObjectEntry],
+    living: &mut Vec<ObjectEntry>,
+    births: &[ObjectEntry],
     args: &[Vec<Argument>],
     effect: Effect,
 )
-    ensures { living.new.items ≡ filter (λ o. not (ends_by (births_shown entries.now) (args_shown args.now) effect o)) living.old.items }
+    ensures { births_shown living.new.items ≡ filter (λ b. not (ends_birth (births_shown births.now) (args_shown args.now) effect b)) (births_shown living.old.items) }
 {
-    living.retain(|o| !ends(entries, args, effect, *o));
+    living.retain(|e| !ends(births, args, effect, e));
 }
 
 /// The owner of what a call makes, its owner, and so on.
@@ -237,21 +238,20 @@ fn add_entries(
     Ok(())
 }
 
-#[tactic(auto, using(crate::proofs::Shown::objects_back))]
 fn bear_of(
     alloc: Global,
     entries: &mut Vec<ObjectEntry>,
-    living: &mut Vec<Object>,
+    living: &mut Vec<ObjectEntry>,
     created: bool,
     owners: &[Object],
     made: &[Born],
 ) -> Result<(), AllocError>
     ensures births { OnOk result (births_shown entries.new.items ≡ births_shown entries.old.items ++ births_of (births_shown entries.old.items) created owners.now (objects_of made.now)) }
-    ensures living { OnOk result (living.new.items ≡ living.old.items ++ map (λ b. b.object) (births_of (births_shown entries.old.items) created owners.now (objects_of made.now))) }
+    ensures living { OnOk result (births_shown living.new.items ≡ births_shown living.old.items ++ births_of (births_shown entries.old.items) created owners.now (objects_of made.now)) }
 {
     let objects = fresh(alloc, entries, made)?;
     add_entries(alloc, entries, created, owners, &objects)?;
-    living.extend_from_slice(&objects)?;
+    add_entries(alloc, living, created, owners, &objects)?;
     Ok(())
 }
 
@@ -259,13 +259,13 @@ fn bear_of(
 pub fn bear(
     alloc: Global,
     entries: &mut Vec<ObjectEntry>,
-    living: &mut Vec<Object>,
+    living: &mut Vec<ObjectEntry>,
     args: &[Vec<Argument>],
     effect: Effect,
     made: &[Born],
 ) -> Result<(), AllocError>
     ensures births { OnOk result (births_shown entries.new.items ≡ births_shown entries.old.items ++ births_given (births_shown entries.old.items) (args_shown args.now) effect (objects_of made.now)) }
-    ensures living { OnOk result (living.new.items ≡ living.old.items ++ map (λ b. b.object) (births_given (births_shown entries.old.items) (args_shown args.now) effect (objects_of made.now))) }
+    ensures living { OnOk result (births_shown living.new.items ≡ births_shown living.old.items ++ births_given (births_shown entries.old.items) (args_shown args.now) effect (objects_of made.now)) }
 {
     match effect {
         Effect::Create { owner, .. } => {

@@ -3,14 +3,14 @@ ghost use Rattle.std.specs.Prelude.{◌≡◌, ◌++◌, ◌∷◌, [], map, fil
 ghost use Rattle.std.specs.List.{find, enumerate_from};
 ghost use Rattle.std.specs.Option.{option_map};
 ghost use Rattle.command_tables.specs.Table.{row_of, seen, seen_param};
-ghost use Rattle.object_model.specs.Objects.{is_in, are_same};
+ghost use Rattle.object_model.specs.Objects.{are_same};
 ghost use Rattle.object_model.specs.History.{born_in};
 ghost use Rattle.trace_format.specs.Accepting.{type_made as type_of};
 ghost use Rattle.replay_model.specs.Past.{is_new, key_payload, named_of, retrieval, retrieved_by, retrieves};
 ghost use Rattle.replay_model.specs.Births.{succeeds, lists_objects, owner_lives, bears, bearable, own_object, own_number, is_kept, retrieved_object, result_object, born_with, made_by};
 ghost use Rattle.replay_core.specs.Shown.{births_shown, args_shown, opened_of, retrieval_of, retrieved_shown, values_shown, valued_with};
 
-use crate::births::{ObjectEntry, contains, is_born, owner};
+use crate::births::{ObjectEntry, is_born, owner};
 use crate::call::{OpenCall, RetrievedEntry};
 use crate::names::ValueEntry;
 use command_tables::{Code, CommandId, Effect, ObjectType, row};
@@ -63,19 +63,19 @@ pub fn has_succeeded(cmd: CommandId, code: Option<Code>) -> bool
 }
 
 #[tactic(auto, unfolding(command_tables::specs::Tests::same_command))]
-fn has_living_owner(living: &[Object], cmd: CommandId, owner: Option<Object>) -> bool
-    ensures { result ≡ owner_lives (is_in living.now) cmd owner }
+fn has_living_owner(living: &[ObjectEntry], cmd: CommandId, owner: Option<Object>) -> bool
+    ensures { result ≡ owner_lives (born_in (births_shown living.now)) cmd owner }
 {
     cmd == CommandId::CreateInstance
         || match owner {
             None => false,
-            Some(owner) => contains(living, owner),
+            Some(owner) => is_born(living, owner),
         }
 }
 
 #[tactic(auto, using(crate::proofs::Openings::skipped_so))]
-fn is_bearing(entries: &[ObjectEntry], living: &[Object], call: &OpenCall) -> bool
-    ensures { result ≡ bears (births_shown entries.now) (is_in living.now) (opened_of call.now) }
+fn is_bearing(entries: &[ObjectEntry], living: &[ObjectEntry], call: &OpenCall) -> bool
+    ensures { result ≡ bears (births_shown entries.now) (born_in (births_shown living.now)) (opened_of call.now) }
 {
     !call.skipped
         && has_succeeded(call.cmd, call.code)
@@ -236,11 +236,11 @@ fn results(
 pub fn made(
     alloc: Global,
     births: &[ObjectEntry],
-    living: &[Object],
+    living: &[ObjectEntry],
     entries: &[RetrievedEntry],
     call: &OpenCall,
 ) -> Result<Vec<Born>, AllocError>
-    ensures { IfOk result (λ v. v.items ≡ made_by 1 (births_shown births.now) (is_in living.now) (retrieved_shown entries.now) (opened_of call.now)) }
+    ensures { IfOk result (λ v. v.items ≡ made_by 1 (births_shown births.now) (born_in (births_shown living.now)) (retrieved_shown entries.now) (opened_of call.now)) }
 {
     if is_bearing(births, living, call) {
         results(alloc, births, entries, call)

@@ -1,7 +1,6 @@
 // A session: what is kept of the events so far.
 ghost use Rattle.std.specs.Prelude.{◌≡◌, ◌+◌, ◌++◌, ◌∷◌, [], ℕ, true, false, map, OnOk, OnErr, IfErr};
 ghost use Rattle.command_tables.specs.Table.{row_of};
-ghost use Rattle.object_model.specs.Objects.{is_in};
 ghost use Rattle.object_model.specs.History.{births_given};
 ghost use Rattle.trace_format.specs.Content.{Begin, Return, content};
 ghost use Rattle.trace_format.specs.Grammar.{IsBegin};
@@ -24,7 +23,6 @@ use crate::made::{effect_of, keep_names, keep_retrieved, keep_values, made};
 use crate::names::ValueEntry;
 use crate::tally::Tally;
 use command_tables::NoMemory;
-use object_model::Object;
 use replay_model::{Born, Named};
 use std::alloc::{AllocError, Global};
 use std::marker::Model;
@@ -39,7 +37,7 @@ pub struct Session {
     names: Vec<Named>,
     values: Vec<ValueEntry>,
     births: Vec<ObjectEntry>,
-    living: Vec<Object>,
+    living: Vec<ObjectEntry>,
     retrieved: Vec<RetrievedEntry>,
     open_calls: Vec<OpenCall>,
 }
@@ -58,7 +56,7 @@ impl Model for Session {
       names = s.names.items;
       values = values_shown s.values.items;
       births = births_shown s.births.items;
-      living = s.living.items;
+      living = births_shown s.living.items;
       retrieved = retrieved_shown s.retrieved.items;
       sent = map sent_of s.open_calls.items;
     } };
@@ -74,13 +72,13 @@ fn settle(
     names: &mut Vec<Named>,
     values: &mut Vec<ValueEntry>,
     births: &mut Vec<ObjectEntry>,
-    living: &mut Vec<Object>,
+    living: &mut Vec<ObjectEntry>,
     retrieved: &mut Vec<RetrievedEntry>,
 ) -> Result<(), AllocError>
     ensures names { OnOk result (names.new.items ≡ names.old.items ++ map named_of born.now) }
     ensures values { OnOk result (values_shown values.new.items ≡ values_shown values.old.items ++ map (valued_with call.now.handles.items) born.now) }
     ensures births { OnOk result (births_shown births.new.items ≡ births_shown births.old.items ++ births_given (births_shown births.old.items) (args_shown call.now.args.items) (row_of call.now.cmd).effect (objects_of born.now)) }
-    ensures living { OnOk result (living.new.items ≡ living.old.items ++ map (λ b. b.object) (births_given (births_shown births.old.items) (args_shown call.now.args.items) (row_of call.now.cmd).effect (objects_of born.now))) }
+    ensures living { OnOk result (births_shown living.new.items ≡ births_shown living.old.items ++ births_given (births_shown births.old.items) (args_shown call.now.args.items) (row_of call.now.cmd).effect (objects_of born.now)) }
     ensures retrieved { OnOk result (retrieved_shown retrieved.new.items ≡ retrieved_shown retrieved.old.items ++ retrieved_by (births_shown births.old.items) (opened_of call.now) born.now) }
 {
     keep_names(names, born)?;

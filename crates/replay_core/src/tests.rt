@@ -1,7 +1,10 @@
 // Small traces, call by call: what each prints and what the driver is told.
+ghost use Rattle.std.specs.Prelude.{IsTrue};
+ghost use Rattle.replay_core.specs.Driver.{are_handles};
 ghost use Rattle.trace_format.specs.Content.{content};
 ghost use Rattle.trace_format.specs.Grammar.{IsEvent};
 
+use crate::adverse_driver::AdverseDriver;
 use crate::driver::{Driver, DriverCall};
 use crate::model_driver::ModelDriver;
 use crate::recording_driver::RecordingDriver;
@@ -339,6 +342,63 @@ fn check(rt: &impl Abort, alloc: Global, case: Case) -> Result<(), Fail> {
 fn small_traces(rt: HostRuntime) -> Result<(), Fail> {
     for case in CASES {
         check(&rt, rt.alloc(), case)?;
+    }
+    Ok(())
+}
+
+// A device that is destroyed twice, over a driver that answers these handles: the driver's calls, in order.
+fn destroyed_twice(rt: &impl Abort, alloc: Global, values: &[u64]) -> Result<Vec<String>, Fail>
+    requires { IsTrue (are_handles values.now) }
+{
+    let mut session = Session::new(alloc);
+    let adverse = AdverseDriver::new(Vec::from_slice(alloc, values)?);
+    let mut driver = RecordingDriver::new(alloc, adverse);
+    play(&mut session, alloc, &START, true, &mut driver)?;
+    let rest = [
+        "b 1 vkDestroyDevice %1.3 void",
+        "b 1 vkDestroyDevice %1.3 void",
+        "b 1 vkDestroyInstance %1.1 void",
+    ];
+    let lines = play(&mut session, alloc, &rest, true, &mut driver)?;
+    let wanted =
+        "ret 4 vkDestroyDevice void\nreport 5 0 VUID-vkDestroyDevice-device-parameter %1.3\nret 5 vkDestroyDevice void\nret 6 vkDestroyInstance void\n";
+    assert_eq!(rt; lines.as_slice(), wanted.as_bytes());
+    let tally = session.tally();
+    assert_eq!(rt; (tally.calls, tally.skipped, tally.reports), (6, 1, 1));
+    let mut calls = Vec::new(alloc);
+    for (call, _) in driver.log() {
+        calls.push(told(alloc, call)?)?;
+    }
+    Ok(calls)
+}
+
+// Whatever handles a driver answers, also one for all, it is told them again.
+#[test]
+fn handles_that_are_answered_again(rt: HostRuntime) -> Result<(), Fail> {
+    let alloc = rt.alloc();
+    let calls = destroyed_twice(&rt, alloc, &[1, 1, 1])?;
+    let wanted = [
+        "vkCreateInstance 1",
+        "vkEnumeratePhysicalDevices [1] 1",
+        "vkCreateDevice [1] 1",
+        "vkDestroyDevice [1] 0",
+        "vkDestroyInstance [1] 0",
+    ];
+    assert_eq!(rt; calls.len(), wanted.len());
+    for (call, wanted) in calls.iter().zip(wanted) {
+        assert_eq!(rt; call.as_str(), wanted);
+    }
+    let calls = destroyed_twice(&rt, alloc, &[7, 18446744073709551615, 9])?;
+    let wanted = [
+        "vkCreateInstance 1",
+        "vkEnumeratePhysicalDevices [7] 1",
+        "vkCreateDevice [18446744073709551615] 1",
+        "vkDestroyDevice [9] 0",
+        "vkDestroyInstance [7] 0",
+    ];
+    assert_eq!(rt; calls.len(), wanted.len());
+    for (call, wanted) in calls.iter().zip(wanted) {
+        assert_eq!(rt; call.as_str(), wanted);
     }
     Ok(())
 }

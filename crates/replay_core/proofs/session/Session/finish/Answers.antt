@@ -31,8 +31,8 @@ returns-in_ok-return_line-in-Some-clause-ok c = λ log.
     let is : find (λ (x : Sent). is_of c.args.thread x.opened) (map sent_of c.self.inside.open_calls.items) ≡ Some (sent_of call) =
     sent_found c.args.thread c.self.inside.open_calls.items call (c.in-Some.ensures ∙ ap (find (λ (x : OpenCall). is_of c.args.thread (opened_of x))) c.deref.ensures.value) in
     let made_is : c.in_ok-born-in-Some.born.items ≡ made_at (the_view c.self.inside) o =
-    made_so (the_view c.self.inside) o (births_shown c.deref-in-Some.result.now) c.deref-in-Some-2.result.now (retrieved_shown c.deref-in-Some-3.result.now) c.in_ok-born-in-Some.born.items
-    (ap births_shown c.deref-in-Some.ensures.value) c.deref-in-Some-2.ensures.value (ap retrieved_shown c.deref-in-Some-3.ensures.value) c.in_ok-born-in-Some.ensures in
+    made_so (the_view c.self.inside) o (births_shown c.deref-in-Some.result.now) (births_shown c.deref-in-Some-2.result.now) (retrieved_shown c.deref-in-Some-3.result.now) c.in_ok-born-in-Some.born.items
+    (ap births_shown c.deref-in-Some.ensures.value) (ap births_shown c.deref-in-Some-2.ensures.value) (ap retrieved_shown c.deref-in-Some-3.ensures.value) c.in_ok-born-in-Some.ensures in
     let n : c.len.result ≡ length c.in_ok-born-in-Some.born.items = omega (arith, c.len.ensures, c.in_ok-born-in-Some.born.ok.0) in
     let valued = values_of_call call _ _ _ c.in_ok-born-in-Some.born.items made_is in
     rw (← c.self.view_is)
