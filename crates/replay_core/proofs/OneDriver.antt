@@ -1,6 +1,6 @@
 -- With one driver and the empty chain each begin is judged by the loader alone, and a call that it doesn't skip goes to driver 0.
 use Rattle.std.proofs.Common.{◌≡◌, ℕ, zero, suc, ◌+◌, ◌<◌, ◌≤◌, Bool, true, false, not, cond, ◌&&◌, ◌||◌, Option, Some, None, List, [], ◌∷◌, ◌++◌, map, take, length, refl, sym, ◌∙◌, ap, arith}
-use Rattle.std.specs.Prelude.{is_some, find, filter, slice_get, ◌==◌}
+use Rattle.std.specs.Prelude.{is_some, find, filter, slice_get, unwrap_or, ◌==◌}
 use Rattle.std.specs.List.{enumerate_from, list_all}
 use Rattle.std.specs.Option.{option_map_or}
 use Rattle.std.proofs.lemmas.List.{append-nil}
@@ -71,18 +71,9 @@ is_zero r = r.driver == 0
 abbrev pub goes_to_zero : Opened → Bool
 goes_to_zero o = option_map_or (λ d. d == 0) (slice_get o.drivers 0) true
 
--- a result is no physical device, or the first
-abbrev pub is_first : Born → Bool
-is_first b = not (same_type b.object.ty ty.PhysicalDevice) || b.place == 0
-
--- only one command gives physical devices
-abbrev is_enumerated : CommandId → Option ObjectType → Bool
-is_enumerated c t = option_map_or (λ u. not (same_type u ty.PhysicalDevice) || same_command c cmd.EnumeratePhysicalDevices) t true
-
-enumerated_alone : (c : CommandId) → is_enumerated c (type_made (row_of c).effect) ≡ true
-unfolding row_of same_type same_command
-enumerated_alone cmd.EnumeratePhysicalDevices = refl
-enumerated_alone c = refl
+-- a result of an enumeration is the first
+abbrev pub is_first : CommandId → Born → Bool
+is_first c b = not (same_command c cmd.EnumeratePhysicalDevices) || b.place == 0
 
 -- ---- what is found has the test
 
@@ -130,76 +121,42 @@ all_both q xs ys a b = list_all-append q xs ys ∙ both (list_all q xs) (list_al
 
 -- ---- a physical device is the first of one
 
-or_true : (a : Bool) → (a || true) ≡ true
-or_true true = refl
-or_true false = refl
-
-not_or : (a : Bool) → (not a || false) ≡ true → a ≡ false
-not_or true p = sym p
-not_or false p = refl
-
--- an object that was retrieved before, or one of the name's own
-abbrev before_or_own : ObjectType → Name → Option Retrieval → Object
-before_or_own t name f = elim f [ None ↦ own_object t name | Some r ↦ r.object ]
-
-retrieved_of_type : (kept : List Retrieval) (o : Opened) (owner : Option Object) (t : ObjectType) (place : ℕ) (name : Name) → (retrieved_object kept o owner t place name).ty ≡ t
-unfolding same_type
-retrieved_of_type kept o owner t place name = go (find (is_kept t owner place (key_payload o.cmd o.payload)) kept) refl
-  where
-    go : (f : Option Retrieval) → find (is_kept t owner place (key_payload o.cmd o.payload)) kept ≡ f → (before_or_own t name f).ty ≡ t
-    go None is = refl
-    go (Some r) is = same_true type.the_type tt r.object.ty t (left_of (same_type r.object.ty t) _ (found_holds (is_kept t owner place (key_payload o.cmd o.payload)) kept r is))
-
-result_of_type : (bs : List Birth) (kept : List Retrieval) (o : Opened) (e : Effect) (t : ObjectType) (place : ℕ) (name : Name) → (result_object bs kept o e t place name).ty ≡ t
-result_of_type bs kept o (eff.Retrieve r owner many) t place name = retrieved_of_type kept o (owner_by bs o.args (eff.Retrieve r owner many)) t place name
-result_of_type bs kept o (eff.Create r owner many) t place name = refl
-result_of_type bs kept o eff.None t place name = refl
-result_of_type bs kept o (eff.Destroy p) t place name = refl
-result_of_type bs kept o (eff.Free p) t place name = refl
-result_of_type bs kept o (eff.Reset p) t place name = refl
-
 -- results with their places and objects
 abbrev pub placed : (ℕ → Name → Object) → ℕ → List Name → List Born
 placed f k names = map (λ (x : ℕ × Name). record { place = x.0; name = x.1; object = f x.0 x.1 }) (enumerate_from k names)
 
--- of another type
-others_first : (t : ObjectType) (f : ℕ → Name → Object) → ((k : ℕ) (n : Name) → (f k n).ty ≡ t) → same_type t ty.PhysicalDevice ≡ false → (k : ℕ) (names : List Name) → list_all is_first (placed f k names) ≡ true
-others_first t f typed other k [] = refl
-others_first t f typed other k (n ∷ names) =
-    both (is_first (record { place = k; name = n; object = f k n })) _
-    (ap (λ u. not (same_type u ty.PhysicalDevice) || k == 0) (typed k n) ∙ ap (λ b. not b || k == 0) other) (others_first t f typed other (k + 1) names)
+all_true : {X : Type 0} (xs : List X) → list_all (λ (x : X). true) xs ≡ true
+all_true [] = refl
+all_true (x ∷ xs) = all_true xs
 
-firsts : (t : ObjectType) (f : ℕ → Name → Object) → ((k : ℕ) (n : Name) → (f k n).ty ≡ t) → (results : List Name) (only : Bool) → (not (same_type t ty.PhysicalDevice) || only) ≡ true
-    → list_all is_first (placed f 0 (cond only (take 1 results) results)) ≡ true
-firsts t f typed [] true test = refl
-firsts t f typed (n ∷ names) true test = both (is_first (record { place = 0; name = n; object = f 0 n })) true (or_true (not (same_type (f 0 n).ty ty.PhysicalDevice))) refl
-firsts t f typed results false test = others_first t f typed (not_or (same_type t ty.PhysicalDevice) test) 0 results
+firsts : (f : ℕ → Name → Object) → (results : List Name) (only : Bool) → list_all (λ (b : Born). not only || b.place == 0) (placed f 0 (cond only (take 1 results) results)) ≡ true
+firsts f [] true = refl
+firsts f (n ∷ names) true = refl
+firsts f results false = all_true (placed f 0 results)
 
-pub made_first : (bs : List Birth) (living : Object → Bool) (kept : List Retrieval) (o : Opened) → list_all is_first (made_by 1 bs living kept o) ≡ true
-made_first bs living kept o = go (bears bs living o) (type_made (row_of o.cmd).effect) refl
+pub made_first : (bs : List Birth) (living : Object → Bool) (kept : List Retrieval) (o : Opened) → list_all (is_first o.cmd) (made_by 1 bs living kept o) ≡ true
+made_first bs living kept o = go (bears bs living o) (type_made (row_of o.cmd).effect)
   where
-    go : (t : Bool) (m : Option ObjectType) → type_made (row_of o.cmd).effect ≡ m
-        → list_all is_first (cond t (option_map_or (λ t. placed (result_object bs kept o (row_of o.cmd).effect t) 0 (bearable 1 o)) m []) []) ≡ true
-    go false m is = refl
-    go true None is = refl
-    go true (Some t) is =
-        firsts t (result_object bs kept o (row_of o.cmd).effect t) (λ k n. result_of_type bs kept o (row_of o.cmd).effect t k n) o.results (same_command o.cmd cmd.EnumeratePhysicalDevices)
-        (ap (is_enumerated o.cmd) (sym is) ∙ enumerated_alone o.cmd)
+    go : (t : Bool) (m : Option ObjectType) → list_all (is_first o.cmd) (cond t (option_map_or (λ t. placed (result_object bs kept o (row_of o.cmd).effect t) 0 (bearable 1 o)) m []) []) ≡ true
+    go false m = refl
+    go true None = refl
+    go true (Some t) = firsts (result_object bs kept o (row_of o.cmd).effect t) o.results (same_command o.cmd cmd.EnumeratePhysicalDevices)
 
 -- ---- all routes lead to driver 0
 
-behind_zero : (o : Opened) (b : Born) → goes_to_zero o ≡ true → is_first b ≡ true → is_zero (routed_of o b) ≡ true
-behind_zero o b goes first = go (same_type b.object.ty ty.PhysicalDevice) first (slice_get o.drivers 0) goes
+behind_zero : (o : Opened) (b : Born) → goes_to_zero o ≡ true → is_first o.cmd b ≡ true → is_zero (routed_of o b) ≡ true
+behind_zero o b goes first = go (same_command o.cmd cmd.EnumeratePhysicalDevices) first (slice_get o.drivers 0) goes
   where
-    go : (t : Bool) → (not t || b.place == 0) ≡ true → (d : Option ℕ) → option_map_or (λ d. d == 0) d true ≡ true → (cond t b.place (option_map_or (λ d. d) d 0) == 0) ≡ true
+    go : (t : Bool) → (not t || b.place == 0) ≡ true → (d : Option ℕ) → option_map_or (λ d. d == 0) d true ≡ true → (cond t b.place (unwrap_or d 0) == 0) ≡ true
     go true first d goes = first
     go false first None goes = refl
     go false first (Some d) goes = goes
 
-mapped_zero : (o : Opened) (made : List Born) → goes_to_zero o ≡ true → list_all is_first made ≡ true → list_all is_zero (map (routed_of o) made) ≡ true
+mapped_zero : (o : Opened) (made : List Born) → goes_to_zero o ≡ true → list_all (is_first o.cmd) made ≡ true → list_all is_zero (map (routed_of o) made) ≡ true
 mapped_zero o [] goes all = refl
 mapped_zero o (b ∷ made) goes all =
-    both (is_zero (routed_of o b)) _ (behind_zero o b goes (left_of (is_first b) (list_all is_first made) all)) (mapped_zero o made goes (right_of (is_first b) (list_all is_first made) all))
+    both (is_zero (routed_of o b)) _ (behind_zero o b goes (left_of (is_first o.cmd b) (list_all (is_first o.cmd) made) all))
+    (mapped_zero o made goes (right_of (is_first o.cmd b) (list_all (is_first o.cmd) made) all))
 
 driver_zero : (routes : List Routed) (o : Object) → list_all is_zero routes ≡ true → driver_in routes o ≡ 0
 driver_zero routes o all = go (find (λ r. same r.object o) routes) refl
@@ -276,7 +233,7 @@ zero_returned : (past : Past) (o : Opened) → AllZero past → goes_to_zero o �
 zero_returned past o all goes = record {
   routes = all_both is_zero (routed past) (routed_by (births (history past)) o (made_of one_driver past o)) all.routes
       (mapped_zero o (filter (λ b. is_routed b.object.ty && is_new (births (history past)) b) (made_of one_driver past o)) goes
-      (all_filtered (λ (b : Born). is_routed b.object.ty && is_new (births (history past)) b) is_first (made_of one_driver past o) (made_first (births (history past)) (alive (history past)) (retrievals past) o)));
+      (all_filtered (λ (b : Born). is_routed b.object.ty && is_new (births (history past)) b) (is_first o.cmd) (made_of one_driver past o) (made_first (births (history past)) (alive (history past)) (retrievals past) o)));
   calls = all_filtered (λ c. not (is_of o.thread c)) goes_to_zero (open_calls past) all.calls;
 }
 

@@ -42,14 +42,14 @@ abbrev pub object_found : Object → Option RetrievedEntry → Object
 object_found new None = new
 object_found new (Some e) = e.object
 
-kept_mapped : (new : Object) (f : Option RetrievedEntry) → elim (mapped retrieval_of f) [ None ↦ new | Some r ↦ r.object ] ≡ object_found new f
+kept_mapped : (new : Object) (f : Option RetrievedEntry) → option_map_or (λ (r : Retrieval). r.object) (mapped retrieval_of f) new ≡ object_found new f
 kept_mapped new None = refl
 kept_mapped new (Some e) = refl
 
 pub kept_found : (es : List RetrievedEntry) (o : Opened) (owner : Option Object) (t : ObjectType) (place : ℕ) (name : Name)
     → retrieved_object (retrieved_shown es) o owner t place name ≡ object_found (own_object t name) (find (λ (e : RetrievedEntry). is_kept t owner place (key_payload o.cmd o.payload) (retrieval_of e)) es)
 kept_found es o owner t place name =
-    ap (λ (r : Option Retrieval). elim r [ None ↦ own_object t name | Some r ↦ r.object ]) (find_map (is_kept t owner place (key_payload o.cmd o.payload)) retrieval_of es)
+    ap (λ (r : Option Retrieval). option_map_or (λ (x : Retrieval). x.object) r (own_object t name)) (find_map (is_kept t owner place (key_payload o.cmd o.payload)) retrieval_of es)
     ∙ kept_mapped (own_object t name) (find (λ (e : RetrievedEntry). is_kept t owner place (key_payload o.cmd o.payload) (retrieval_of e)) es)
 
 pub kept_at : (es : List RetrievedEntry) (o : Opened) (owner : Option Object) (t : ObjectType) (place : ℕ) (name : Name) (payload : List ℕ) (f : Option RetrievedEntry)
