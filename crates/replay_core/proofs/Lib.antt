@@ -16,3 +16,5 @@ pub mod Shapes
 pub mod Values
 pub mod Opens
 pub mod Retrieving
+pub mod Runs
+pub mod Progress

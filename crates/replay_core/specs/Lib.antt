@@ -13,3 +13,4 @@ pub mod Shown
 pub mod Beginning
 pub mod Stands
 pub mod Lines
+pub mod Played

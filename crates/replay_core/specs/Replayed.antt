@@ -1,22 +1,47 @@
 -- How a replay ends. Source: this project.
-use Rattle.std.specs.Prelude.{◌≡◌, ◌⊎◌, ℕ, List, Option, Some, None}
+use Rattle.std.specs.Prelude.{◌≡◌, ◌⊎◌, ◌++◌, ℕ, List, Option, Some, None}
 use Rattle.trace_format.specs.declared.fault.TraceFault.{TraceFault}
 use Rattle.trace_format.specs.declared.fault.TraceFault.TheVariants as fault
 use Rattle.replay_core.specs.Gave.{Gave, GaveTooMuch}
 use Rattle.replay_core.specs.Logs.{Log}
-use Rattle.replay_core.specs.Stop.{stop, stop_at}
+use Rattle.replay_core.specs.Stop.{stop, stop_at, events_of}
+use Rattle.replay_core.specs.Setups.{one_driver}
+use Rattle.replay_core.specs.Kept.{Kept}
+use Rattle.replay_core.specs.Stands.{Stands}
+use Rattle.replay_core.specs.Played.{text_of, Told, Broke, RanOut}
+use Rattle.replay_base.specs.Bytes.{grown}
+use Rattle.trace_format.specs.Content.{TraceEvent}
+use Rattle.command_tables.specs.Calls.{ReplyContent}
+use Rattle.replay_model.specs.Judged.{judged}
+use Rattle.replay_model.specs.Text.{end_of}
 
--- the whole source was read, and nothing in it stops the replay
-pub record Ended (old new : Option (List ℕ)) : Type 0 where
+-- the driver was told the calls of these events, and the sink has gained their text
+pub record Done (events : List TraceEvent) (old_log log : Log) (old_held held : Option (List ℕ)) : Type 0 where
+  pub replies : List ReplyContent
+  pub told : Told events replies old_log log
+  pub wrote : held ≡ grown old_held (text_of events)
+
+-- the session stands for these events with the driver's own replies, the driver was told their calls, and the sink has gained their text
+-- and the end line
+pub record Whole (k : Kept) (events : List TraceEvent) (old_log log : Log) (old_held held : Option (List ℕ)) : Type 0 where
+  pub replies : List ReplyContent
+  pub stands : Stands k events replies
+  pub told : Told events replies old_log log
+  pub wrote : held ≡ grown old_held (text_of events ++ end_of (judged one_driver events))
+
+-- the whole source was read, nothing in it stops the replay, and it was replayed to its end line
+pub record Ended (k : Kept) (old new : Option (List ℕ)) (old_log log : Log) (old_held held : Option (List ℕ)) : Type 0 where
   pub bytes : List ℕ
   pub read : Gave old new bytes
   pub none : stop bytes ≡ None
+  pub whole : Whole k (events_of bytes) old_log log old_held held
 
--- the source was read, and its trace stops at this line with this fault
-pub record StoppedIn (line : ℕ) (f : TraceFault) (old new : Option (List ℕ)) : Type 0 where
+-- the source was read, its trace stops at this line with this fault, and what stands before that line was replayed
+pub record StoppedIn (line : ℕ) (f : TraceFault) (old new : Option (List ℕ)) (old_log log : Log) (old_held held : Option (List ℕ)) : Type 0 where
   pub bytes : List ℕ
   pub read : Gave old new bytes
   pub here : stop bytes ≡ stop_at line f
+  pub done : Done (events_of bytes) old_log log old_held held
 
 -- the source has more than is replayed, which is NotBuilt at line 1
 pub record StoppedBySize (line : ℕ) (f : TraceFault) (old new : Option (List ℕ)) : Type 0 where
@@ -24,11 +49,27 @@ pub record StoppedBySize (line : ℕ) (f : TraceFault) (old new : Option (List �
   pub first : line ≡ 1
   pub not_built : f ≡ fault.NotBuilt
 
--- the trace stops at this line with this fault; by its size, before anything else is done
-abbrev pub StoppedAt : ℕ → TraceFault → Option (List ℕ) → Option (List ℕ) → Type 0 → Type 0
-StoppedAt line f old new Untouched = StoppedIn line f old new ⊎ (StoppedBySize line f old new × Untouched)
-
 -- nothing was written, and the driver wasn't called
-pub record IsUntouched (old_held held : Option (List ℕ)) (old_log log : Log) : Type 0 where
+pub record IsUntouched (old_log log : Log) (old_held held : Option (List ℕ)) : Type 0 where
   pub sink : held ≡ old_held
   pub driver : log ≡ old_log
+
+-- the trace stops at this line with this fault; by its size, before anything else is done
+abbrev pub StoppedAt : ℕ → TraceFault → Option (List ℕ) → Option (List ℕ) → Log → Log → Option (List ℕ) → Option (List ℕ) → Type 0
+StoppedAt line f old new old_log log old_held held = StoppedIn line f old new old_log log old_held held ⊎ (StoppedBySize line f old new × IsUntouched old_log log old_held held)
+
+-- the sink failed while the trace that was read was replayed
+pub record BrokeIn (old new : Option (List ℕ)) (old_log log : Log) (old_held held : Option (List ℕ)) : Type 0 where
+  pub bytes : List ℕ
+  pub read : Gave old new bytes
+  pub broke : Broke (events_of bytes) old_log log old_held held
+
+-- memory ran out while the trace that was read was replayed
+pub record RanOutIn (old new : Option (List ℕ)) (old_log log : Log) (old_held held : Option (List ℕ)) : Type 0 where
+  pub bytes : List ℕ
+  pub read : Gave old new bytes
+  pub ran_out : RanOut (events_of bytes) old_log log old_held held
+
+-- memory ran out, before anything else was done or then
+abbrev pub RanOutOf : Option (List ℕ) → Option (List ℕ) → Log → Log → Option (List ℕ) → Option (List ℕ) → Type 0
+RanOutOf old new old_log log old_held held = IsUntouched old_log log old_held held ⊎ RanOutIn old new old_log log old_held held

@@ -49,3 +49,29 @@ stop_in (line ∷ lines) = if is_header line then stop_from 2 at_start lines els
 -- a trace of more than 1,048,576 bytes isn't replayed yet
 abbrev pub stop : List ℕ → Option Stop
 stop bytes = if nat_lt 1048576 (length bytes) then stop_at 1 fault.NotBuilt else stop_in (lines_of bytes)
+
+-- ---- the events before the stop, the newest first
+
+-- the events so far, and where the next one is in its place, those that follow
+abbrev pub unless_refused : Option TraceFault → List TraceEvent → List TraceEvent → List TraceEvent
+unless_refused None before more = more
+unless_refused (Some f) before more = before
+
+-- the events so far, and where the line has one that is in its place, those that follow
+abbrev pub events_or : PlainState → List TraceEvent → Option TraceEvent → (PlainState → TraceEvent → List TraceEvent) → List TraceEvent
+events_or s before None more = before
+events_or s before (Some e) more = unless_refused (fault_at s e) before (more (after s e) e)
+
+-- the events of the lines, behind those of a state
+abbrev pub events_from : PlainState → List TraceEvent → List (List ℕ) → List TraceEvent
+events_from s before [] = before
+events_from s before (line ∷ lines) = events_or s before (plain_event line) (λ t e. events_from t (e ∷ before) lines)
+
+-- the events of the lines behind the header
+abbrev pub events_in : List (List ℕ) → List TraceEvent
+events_in [] = []
+events_in (line ∷ lines) = if is_header line then events_from at_start [] lines else []
+
+-- the events of a trace, up to its stop
+abbrev pub events_of : List ℕ → List TraceEvent
+events_of bytes = if nat_lt 1048576 (length bytes) then [] else events_in (lines_of bytes)

@@ -1,16 +1,18 @@
 // Replaying the lines of a trace.
-ghost use Rattle.std.specs.Prelude.{◌≡◌, ◌≢◌, ◌≤◌, ℕ, [], length, OnOk, OnErr, IfOk, IfErr, Err, Some, None};
+ghost use Rattle.std.specs.Prelude.{◌≡◌, ◌≢◌, ◌≤◌, ℕ, [], ◌∷◌, List, Option, length, OnOk, OnErr, IfOk, IfErr, Err, Some, None};
 ghost use Rattle.replay_base.specs.Faults.{Rose};
 ghost use Rattle.replay_base.specs.Lines.{lines_of};
 ghost use Rattle.trace_format.specs.declared.fault.TraceFault.{TraceFault};
-ghost use Rattle.trace_format.specs.Content.{content};
+ghost use Rattle.trace_format.specs.Content.{TraceEvent, content};
 ghost use Rattle.trace_format.specs.Grammar.{IsEvent};
 ghost use Rattle.trace_format.specs.Plain.{IsPlain, plain_event};
 ghost use Rattle.trace_format.specs.PlainForm.{at_start, after, fault_at};
 ghost use Rattle.replay_core.specs.Beginning.{CanTake, HasTaken};
 ghost use Rattle.replay_core.specs.Causes.{IsOfTrace, IsOfStep, IsOfPlay};
+ghost use Rattle.replay_core.specs.Logs.{Log};
+ghost use Rattle.replay_core.specs.Played.{Played, CutInLines, CutBefore, BrokeInLines, RanOut};
 ghost use Rattle.replay_core.specs.Stands.{Advances, MayTell, Stands};
-ghost use Rattle.replay_core.specs.Stop.{stop_at, stop_from};
+ghost use Rattle.replay_core.specs.Stop.{events_from, stop_at, stop_from};
 
 use crate::driver::Driver;
 use crate::error::{ReplayError, SessionError};
@@ -89,17 +91,28 @@ fn step<K: Sink, D: Driver>(
     out: &mut K,
 ) -> Result<(), ReplayError>
     requires { CanTake session.old (content event.now) call }
+    ensures ok { OnOk result ((events : List TraceEvent) (log : Log) (held : Option (List ℕ)) →
+        Played session.old events log (D.log driver.old) held (K.held out.old) → Played session.new (content event.now ∷ events) log (D.log driver.new) held (K.held out.new)) }
+    ensures write { result ≡ Err ReplayError.Write → (events : List TraceEvent) (log : Log) (held : Option (List ℕ)) →
+        Played session.old events log (D.log driver.old) held (K.held out.old) → CutInLines (content event.now ∷ events) log (D.log driver.new) held (K.held out.new) }
+    ensures memory { OnErr result (result ≢ Err ReplayError.Write → (events : List TraceEvent) (log : Log) (held : Option (List ℕ)) →
+        Played session.old events log (D.log driver.old) held (K.held out.old) → CutBefore events (content event.now) log (D.log driver.new) held (K.held out.new)) }
     ensures taken { OnOk result (HasTaken session.old session.new (content event.now) call) }
     ensures rose { result ≡ Err ReplayError.Write → Rose (K.faults out.old) (K.faults out.new) }
     ensures stood { result ≢ Err ReplayError.Write → K.faults out.new ≡ K.faults out.old }
     ensures others { IfErr result IsOfStep }
 {
-    take(session, alloc, call, event, driver, lines)?;
-    put_all(out, lines).map_err(|_| ReplayError::Write)
+    match take(session, alloc, call, event, driver, lines) {
+        Err(_) => Err(ReplayError::NoMemory),
+        Ok(()) => match put_all(out, lines) {
+            Ok(()) => Ok(()),
+            Err(_) => Err(ReplayError::Write),
+        },
+    }
 }
 
 /// The events behind the header, up to the first that stops the replay.
-#[tactic(auto, using(crate::proofs::Stops::next_line, crate::proofs::Stops::not_plain, crate::proofs::Stops::out_of_place, crate::proofs::Stops::at_end))]
+#[tactic(auto, using(crate::proofs::Stops::next_line, crate::proofs::Stops::not_plain, crate::proofs::Stops::out_of_place, crate::proofs::Stops::at_end, crate::proofs::Progress::far_start, crate::proofs::Progress::far_next, crate::proofs::Progress::played_not_plain, crate::proofs::Progress::played_out_of_place, crate::proofs::Progress::played_at_end, crate::proofs::Progress::far_broke, crate::proofs::Progress::far_ran_out, crate::proofs::Progress::far_stopped))]
 pub fn play<K: Sink, D: Driver>(
     session: &mut Session,
     alloc: Global,
@@ -111,6 +124,11 @@ pub fn play<K: Sink, D: Driver>(
     requires size { length bytes.now ≤ MOST_BYTES }
     ensures ok { OnOk result (stop_from 2 at_start (lines_of bytes.now) ≡ None) }
     ensures stop { (n : ℕ) (f : TraceFault) → result ≡ Err (ReplayError.Trace n f) → stop_from 2 at_start (lines_of bytes.now) ≡ stop_at n f }
+    ensures played { OnOk result (Played session.new (events_from at_start [] (lines_of bytes.now)) (D.log driver.old) (D.log driver.new) (K.held out.old) (K.held out.new)) }
+    ensures stopped { (n : ℕ) (f : TraceFault) → result ≡ Err (ReplayError.Trace n f)
+        → Played session.new (events_from at_start [] (lines_of bytes.now)) (D.log driver.old) (D.log driver.new) (K.held out.old) (K.held out.new) }
+    ensures broke { result ≡ Err ReplayError.Write → BrokeInLines (events_from at_start [] (lines_of bytes.now)) (D.log driver.old) (D.log driver.new) (K.held out.old) (K.held out.new) }
+    ensures ran_out { result ≡ Err ReplayError.NoMemory → RanOut (events_from at_start [] (lines_of bytes.now)) (D.log driver.old) (D.log driver.new) (K.held out.old) (K.held out.new) }
     ensures rose { result ≡ Err ReplayError.Write → Rose (K.faults out.old) (K.faults out.new) }
     ensures stood { result ≢ Err ReplayError.Write → K.faults out.new ≡ K.faults out.old }
     ensures others { IfErr result IsOfPlay }
