@@ -1,9 +1,8 @@
 -- The handles that the model drivers answer: as many as are due, and none of them 0.
-use Rattle.std.proofs.Common.{◌≡◌, ℕ, zero, suc, ◌+◌, ◌-◌, ◌∙◌, min, Bool, true, false, List, [], ◌∷◌, ◌++◌, length, take, drop, refl, ap, arith, add-one, length-append, append_assoc, append-nil, sym}
+use Rattle.std.proofs.Common.{◌≡◌, ℕ, zero, suc, ◌+◌, ◌-◌, ◌∙◌, Bool, true, false, List, [], ◌∷◌, ◌++◌, length, take, drop, refl, ap, arith, add-one, length-append, append_assoc, append-nil, sym}
 use Rattle.std.specs.Prelude.{replicate, ◌&&◌, nat_le}
 use Rattle.std.proofs.lemmas.List.{length-replicate, length-take}
 use Rattle.std.proofs.lemmas.List.Folds.{list_all-append}
-use Rattle.std.specs.List.{list_all}
 use Rattle.replay_base.specs.Faults.{raised}
 use Rattle.replay_core.specs.Driver.{are_handles}
 use Rattle.replay_core.specs.Policies.{given_from, counted_on, last_counted}

@@ -1,19 +1,14 @@
 -- With one driver and the empty chain each begin is judged by the loader alone, and a call that it doesn't skip goes to driver 0.
-use Rattle.std.proofs.Common.{◌≡◌, ℕ, zero, suc, ◌+◌, ◌<◌, ◌≤◌, Bool, true, false, not, cond, ◌&&◌, ◌||◌, Option, Some, None, List, [], ◌∷◌, ◌++◌, map, take, length, refl, sym, ◌∙◌, ap, arith}
+use Rattle.std.proofs.Common.{◌≡◌, ℕ, ◌+◌, Bool, true, false, not, cond, ◌&&◌, ◌||◌, Option, Some, None, List, [], ◌∷◌, ◌++◌, map, take, refl, sym, ◌∙◌, ap}
 use Rattle.std.specs.Prelude.{is_some, find, filter, slice_get, unwrap_or, ◌==◌}
 use Rattle.std.specs.List.{enumerate_from, list_all}
 use Rattle.std.specs.Option.{option_map_or}
-use Rattle.std.proofs.lemmas.List.{append-nil}
 use Rattle.std.proofs.lemmas.List.Folds.{list_all-append}
 use Rattle.std.proofs.lemmas.Bool.{eqb-true}
-use denote.Enum.Bare.{same_true, true_same}
-use Rattle.command_tables.specs.contracts.types.ObjectType as type
 use Rattle.command_tables.specs.declared.types.CommandId.{CommandId}
 use Rattle.command_tables.specs.declared.types.CommandId.TheVariants as cmd
 use Rattle.command_tables.specs.declared.types.ObjectType.{ObjectType}
 use Rattle.command_tables.specs.declared.types.ObjectType.TheVariants as ty
-use Rattle.command_tables.specs.declared.types.Effect.{Effect}
-use Rattle.command_tables.specs.declared.types.Effect.TheVariants as eff
 use Rattle.command_tables.specs.Table.{row_of}
 use Rattle.command_tables.specs.Tests.{same_command, same_type}
 use Rattle.trace_format.specs.declared.event.Name.{Name}
@@ -25,14 +20,11 @@ use Rattle.object_model.specs.Objects.{same, first_in}
 use Rattle.object_model.specs.History.{Call, Birth, births, alive}
 use Rattle.object_model.specs.Rules.{Failure, loader_failures}
 use Rattle.replay_model.specs.declared.Born.{Born}
-use Rattle.replay_model.specs.declared.Named.{Named}
 use Rattle.replay_model.specs.declared.Routed.{Routed}
-use Rattle.replay_model.specs.declared.PartKind.{PartKind}
-use Rattle.replay_model.specs.Setup.{Setup}
-use Rattle.replay_model.specs.Past.{Opened, Report, Judged, Began, Returned, Past, Retrieval, is_skipped, is_of, is_new, is_routed, open_calls, routed, routed_of, routed_by, driver_behind, named, calls_in, history, retrievals, arguments_in, key_payload, owner_by}
-use Rattle.replay_model.specs.Places.{Checked, Findings, checked, findings, parts_checked, parts_in_force, is_failing, at_place}
-use Rattle.replay_model.specs.Births.{bears, bearable, born_with, made_by, is_kept, own_object, retrieved_object, result_object, succeeds}
-use Rattle.replay_model.specs.Judged.{Begun, begun_by, begun_of, made_of, returned_by, judge, judged, receivers, driver_in, is_refused}
+use Rattle.replay_model.specs.Past.{Opened, Began, Returned, Past, Retrieval, is_skipped, is_of, is_new, is_routed, open_calls, routed, routed_of, routed_by, named, calls_in, history, retrievals, arguments_in}
+use Rattle.replay_model.specs.Places.{Findings, checked, findings, parts_checked, parts_in_force, is_failing, at_place}
+use Rattle.replay_model.specs.Births.{bears, bearable, made_by, result_object, succeeds}
+use Rattle.replay_model.specs.Judged.{Begun, begun_of, made_of, returned_by, judge, judged, receivers, driver_in, is_refused}
 use Rattle.replay_core.specs.Setups.{one_driver}
 use Rattle.replay_core.specs.Kept.{stop_where, sent_to, begun_with, begun_from}
 

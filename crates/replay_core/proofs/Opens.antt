@@ -1,11 +1,10 @@
 -- Which thread has an open call after a step.
-use Rattle.std.proofs.Common.{◌≡◌, ℕ, Bool, true, false, cond, not, ◌||◌, Option, Some, None, List, [], ◌∷◌, ◌++◌, refl, sym, ◌∙◌, ap}
-use Rattle.std.specs.Prelude.{find, filter, is_some, ◌==◌}
+use Rattle.std.proofs.Common.{◌≡◌, ℕ, Bool, true, false, cond, not, Some, None, List, [], ◌∷◌, ◌++◌, refl, ◌∙◌, ap}
+use Rattle.std.specs.Prelude.{find, filter, is_some}
 use Rattle.std.proofs.lemmas.Bool.{eq-eqb}
-use Rattle.replay_model.specs.declared.Born.{Born}
 use Rattle.replay_model.specs.Past.{Opened, is_of}
-use Rattle.replay_model.specs.Direct.{Answered, Sent}
-use Rattle.replay_core.specs.Kept.{Kept, after_call, after_return, has_open, answered_by}
+use Rattle.replay_model.specs.Direct.{Sent}
+use Rattle.replay_core.specs.Kept.{Kept, after_call, has_open, answered_by}
 
 found_behind : {X : Type 0} (p : X → Bool) (xs : List X) (x : X) → p x ≡ true → is_some (find p (xs ++ x ∷ [])) ≡ true
 found_behind p [] x is = ap (λ t. is_some (cond t (Some x) None)) is

@@ -1,5 +1,5 @@
 -- How far a replay has come in the lines of a trace.
-use Rattle.std.proofs.Common.{◌≡◌, ◌∙◌, ℕ, ◌+◌, Option, Some, None, List, [], ◌∷◌, ◌++◌, refl, sym, ap, subst, append_assoc, append-nil, inl, inr, arith}
+use Rattle.std.proofs.Common.{◌≡◌, ◌∙◌, ℕ, Option, Some, None, List, [], ◌∷◌, ◌++◌, refl, sym, ap, subst, append_assoc, inl, inr, arith}
 use Rattle.std.specs.Prelude.{◌⊎◌, cond, nat_lt, length, ◌≤◌, true, false}
 use Rattle.replay_base.specs.Lines.{lines_of}
 use Rattle.trace_format.specs.declared.fault.TraceFault.{TraceFault}
@@ -8,7 +8,7 @@ use Rattle.trace_format.specs.Plain.{plain_event}
 use Rattle.trace_format.specs.PlainForm.{PlainState, at_start, after, fault_at}
 use Rattle.replay_core.specs.Kept.{Kept}
 use Rattle.replay_core.specs.Logs.{Log}
-use Rattle.replay_core.specs.Played.{text_of, Played, CutInLines, CutBetweenLines, CutBefore, IsFront, BrokeInLines, Broke, RanOut}
+use Rattle.replay_core.specs.Played.{text_of, Played, CutInLines, CutBefore, IsFront, BrokeInLines, Broke, RanOut}
 use Rattle.replay_core.specs.Stands.{Stands}
 use Rattle.replay_core.proofs.Runs.{played_none, front_behind}
 use Rattle.replay_core.specs.Stop.{stop, stop_at, is_header, events_or, events_from, events_in, events_of, unless_refused}
@@ -20,7 +20,7 @@ use Rattle.replay_base.specs.Bytes.{grown, GrownByFront}
 use Rattle.replay_base.proofs.Written.{grown_grown}
 use Rattle.replay_model.specs.Past.{calls_in}
 use Rattle.replay_model.specs.Judged.{judged}
-use Rattle.replay_model.specs.Text.{skipped_in, reports_in, end_line, end_of}
+use Rattle.replay_model.specs.Text.{skipped_in, end_line, end_of}
 
 -- the events so far were replayed, and what follows them is what the rest of the lines has
 pub record SoFar (k : Kept) (s : PlainState) (all rest : List (List ℕ)) (old_log log : Log) (old_held held : Option (List ℕ)) : Type 0 where

@@ -1,5 +1,5 @@
 -- What the loader finds is one failure or none.
-use Rattle.std.proofs.Common.{◌≡◌, ℕ, Bool, true, false, not, cond, List, [], ◌∷◌, refl}
+use Rattle.std.proofs.Common.{◌≡◌, Bool, true, false, not, cond, List, [], ◌∷◌, refl}
 use Rattle.command_tables.specs.declared.types.Rule.TheVariants as rule
 use Rattle.command_tables.specs.Table.{ParamSpec}
 use Rattle.object_model.specs.declared.Object.{Object}

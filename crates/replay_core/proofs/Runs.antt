@@ -1,21 +1,21 @@
 -- A replay, one event longer.
-use Rattle.std.proofs.Common.{◌≡◌, ℕ, ◌+◌, ◌<◌, Option, Some, None, List, [], ◌∷◌, ◌++◌, length, take, refl, sym, ◌∙◌, ap, subst, arith, append_assoc, append-nil, length-append, inl, inr}
-use Rattle.std.specs.Prelude.{◌⊎◌, find}
+use Rattle.std.proofs.Common.{◌≡◌, ℕ, ◌+◌, Option, Some, None, List, [], ◌∷◌, ◌++◌, length, take, refl, sym, ◌∙◌, ap, subst, arith, append_assoc, append-nil, length-append, inl, inr}
+use Rattle.std.specs.Prelude.{find}
 use Rattle.std.proofs.Math.Seq.{take-append-add}
 use Rattle.command_tables.specs.Calls.{DriverCallContent, ReplyContent}
 use Rattle.trace_format.specs.Content.{TraceEvent, Begin, Return}
 use Rattle.replay_base.specs.Bytes.{grown, GrownByFront}
 use Rattle.replay_base.proofs.Written.{grown_grown, grown_nil}
-use Rattle.replay_model.specs.Past.{Past, Opened, calls_in, is_of, open_calls}
+use Rattle.replay_model.specs.Past.{Past, Opened, is_of, open_calls}
 use Rattle.replay_model.specs.Judged.{judge, judged, returned_by}
-use Rattle.replay_model.specs.Text.{text, lines_at, skipped_in, reports_in, end_line, end_of}
-use Rattle.replay_model.specs.Direct.{exchanges, exchanges_at, sends_in, sends_at}
+use Rattle.replay_model.specs.Text.{lines_at}
+use Rattle.replay_model.specs.Direct.{exchanges_at, sends_in, sends_at}
 use Rattle.replay_model.proofs.Exchanges.{lines-judge, exchanges-judge}
 use Rattle.replay_core.specs.Setups.{one_driver}
 use Rattle.replay_core.specs.Kept.{Kept}
 use Rattle.replay_core.specs.Logs.{Log, logged}
-use Rattle.replay_core.specs.Stands.{Stands, Advances, MayTell, Tells}
-use Rattle.replay_core.specs.Played.{text_of, Told, Played, CutInLines, CutBetweenLines, CutBefore, HasOneMore, IsFront, BrokeInLines, Broke, RanOut}
+use Rattle.replay_core.specs.Stands.{Stands, Advances, MayTell}
+use Rattle.replay_core.specs.Played.{text_of, Told, Played, CutInLines, CutBefore}
 
 logged_logged : (log : Log) (xs ys : List (DriverCallContent × ReplyContent)) → logged (logged log xs) ys ≡ logged log (xs ++ ys)
 logged_logged None xs ys = refl

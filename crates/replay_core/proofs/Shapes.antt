@@ -1,6 +1,6 @@
 -- What a driver is told of a begin of the grammar has its command's shape.
 use Rattle.std.proofs.Common.{◌≡◌, ℕ, suc, ◌≤◌, Bool, true, false, cond, List, [], ◌∷◌, length, map, refl, sym, ◌∙◌, ap, subst, arith}
-use Rattle.std.specs.Prelude.{nat_le, ◌==◌, Option}
+use Rattle.std.specs.Prelude.{nat_le, Option}
 use Rattle.std.proofs.lemmas.Bool.{eqb-true}
 use Rattle.std.proofs.lemmas.List.{length-map}
 use Rattle.command_tables.specs.declared.types.CommandId.{CommandId}
@@ -13,9 +13,9 @@ use Rattle.trace_format.specs.declared.event.Name.{Name}
 use Rattle.trace_format.specs.Content.{Arg, BeginEvent}
 use Rattle.trace_format.specs.Grammar.{HasForm, FitParams as FitArgs, IsBegin, takes}
 use Rattle.object_model.specs.declared.Argument.{Argument}
-use Rattle.replay_model.specs.Past.{Opened, argument_in, arguments_in}
-use Rattle.replay_model.specs.Direct.{Valued, value_in}
-use Rattle.replay_core.specs.Driver.{FitsParam, FitParams, FitsAsked, HasShape}
+use Rattle.replay_model.specs.Past.{Opened, argument_in}
+use Rattle.replay_model.specs.Direct.{value_in}
+use Rattle.replay_core.specs.Driver.{FitsParam, FitParams, FitsAsked}
 use Rattle.replay_core.specs.Kept.{Kept, begun_at}
 use Rattle.replay_core.specs.Beginning.{CanBeTold}
 

@@ -1,22 +1,22 @@
 -- One event more.
-use Rattle.std.proofs.Common.{◌≡◌, ℕ, ◌+◌, Bool, true, false, not, cond, ◌&&◌, ◌||◌, Option, Some, None, List, [], ◌∷◌, ◌++◌, map, length, refl, sym, ◌∙◌, ap, subst, arith}
-use Rattle.std.proofs.lemmas.List.{map-append, append-nil, length-append}
+use Rattle.std.proofs.Common.{◌≡◌, ℕ, ◌+◌, Bool, true, false, not, cond, ◌&&◌, ◌||◌, Option, Some, List, [], ◌∷◌, ◌++◌, map, length, refl, sym, ◌∙◌, ap, subst}
+use Rattle.std.proofs.lemmas.List.{map-append}
 use Rattle.std.proofs.lemmas.Bool.{eqb-true}
-use Rattle.std.specs.Prelude.{◌==◌, find}
-use Rattle.std.specs.List.{list_any, filter, AllByRecursion}
+use Rattle.std.specs.Prelude.{find}
+use Rattle.std.specs.List.{filter, AllByRecursion}
 use Rattle.std.specs.Option.{option_map_or}
 use Rattle.command_tables.specs.Calls.{ReplyContent}
 use Rattle.command_tables.specs.Table.{row_of}
 use Rattle.trace_format.specs.Content.{BeginEvent, TraceEvent, Begin, Return}
 use Rattle.object_model.specs.declared.Object.{Object}
-use Rattle.object_model.specs.History.{Birth, born_in, births, births_given, alive, ends_by}
+use Rattle.object_model.specs.History.{born_in, births, alive, ends_by}
 use Rattle.replay_model.specs.declared.Born.{Born}
-use Rattle.replay_model.specs.Past.{Opened, Past, Began, Returned, is_skipped, is_of, open_calls, history, named, named_of, retrievals, retrieved_by, objects_of, calls_in}
+use Rattle.replay_model.specs.Past.{Opened, Past, Began, Returned, is_skipped, is_of, open_calls, history, named, named_of, objects_of, calls_in}
 use Rattle.replay_model.specs.Births.{made_by}
 use Rattle.replay_model.specs.Judged.{Begun, returned_by, judged, begun_of, made_of}
-use Rattle.replay_model.specs.Direct.{Answered, Sent, sent, valued, before_call, own_replies, answers_to, answers_of, sends_in}
+use Rattle.replay_model.specs.Direct.{Answered, Sent, sent, valued, before_call, own_replies, answers_to, answers_of}
 use Rattle.replay_core.specs.Setups.{one_driver}
-use Rattle.replay_core.specs.Kept.{Kept, after_call, after_begin, after_return, living_after, begun_from, begun_at, made_at, answered_by, ends_birth}
+use Rattle.replay_core.specs.Kept.{Kept, after_begin, after_return, living_after, begun_from, begun_at, made_at, answered_by, ends_birth}
 use Rattle.replay_core.specs.Stands.{StandsFor, Stands, IsOwned}
 use Rattle.replay_core.proofs.Objects.{living_left, owned_left, born_more, owned_more}
 use Rattle.replay_core.proofs.OneDriver.{begun_judged}

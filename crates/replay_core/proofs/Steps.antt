@@ -1,29 +1,26 @@
 -- A step of a session.
-use Rattle.std.proofs.Common.{◌≡◌, ℕ, ◌+◌, Bool, true, false, cond, not, Option, Some, None, List, [], ◌∷◌, ◌++◌, length, map, take, refl, sym, ◌∙◌, ap, subst, arith}
+use Rattle.std.proofs.Common.{◌≡◌, ℕ, ◌+◌, Bool, true, false, cond, not, Option, Some, None, List, [], ◌∷◌, ◌++◌, length, map, refl, sym, ◌∙◌, ap, subst, arith}
 use Rattle.std.specs.Prelude.{drop, filter, is_some, slice_get, unwrap_or}
 use Rattle.std.specs.List.{flat_map, find}
 use Rattle.std.proofs.lemmas.List.{append-nil}
-use Rattle.command_tables.specs.Calls.{DriverCallContent, ReplyContent}
-use Rattle.command_tables.specs.declared.types.CommandId.{CommandId}
+use Rattle.command_tables.specs.Calls.{ReplyContent}
 use Rattle.command_tables.specs.declared.types.CommandId.TheVariants as cmd
 use Rattle.command_tables.specs.declared.types.Rule.TheVariants as rule
 use Rattle.command_tables.specs.Table.{row_of}
 use Rattle.command_tables.specs.Tests.{same_command}
 use Rattle.trace_format.specs.declared.event.Name.{Name}
-use Rattle.trace_format.specs.Content.{Arg, BeginEvent, TraceEvent, Begin, Return}
-use Rattle.object_model.specs.declared.Object.{Object}
-use Rattle.object_model.specs.declared.Argument.{Argument}
+use Rattle.trace_format.specs.Content.{Arg, BeginEvent, Begin, Return}
 use Rattle.object_model.specs.History.{Birth, born_in, births_given}
-use Rattle.object_model.specs.Rules.{Failure, failure, loader_failures}
+use Rattle.object_model.specs.Rules.{failure, loader_failures}
 use Rattle.replay_model.specs.declared.Named.{Named}
 use Rattle.replay_model.specs.declared.Born.{Born}
 use Rattle.std.specs.Option.{option_map_or}
-use Rattle.replay_model.specs.Past.{Past, Opened, Report, Began, Returned, Retrieval, is_skipped, is_of, named_of, objects_of, retrieved_by, arguments_in, open_calls}
+use Rattle.replay_model.specs.Past.{Past, Opened, Report, Began, Returned, Retrieval, is_of, named_of, objects_of, retrieved_by, arguments_in}
 use Rattle.replay_model.specs.Places.{is_failing, at_place}
 use Rattle.replay_model.specs.Births.{made_by}
 use Rattle.replay_model.specs.Judged.{Begun, judged, begun_of, made_of}
-use Rattle.replay_model.specs.Direct.{Answered, Sent, Valued, valued, valued_of, driver_call, before_call, own_replies, answers_to, begin_exchanges, exchanges_at, sends_at}
-use Rattle.replay_model.specs.Text.{chain_text, report_text, written_at, return_text, lines_of, lines_at}
+use Rattle.replay_model.specs.Direct.{Answered, Sent, Valued, valued, valued_of, driver_call, before_call, own_replies, answers_to, begin_exchanges}
+use Rattle.replay_model.specs.Text.{chain_text, report_text, written_at, return_text, lines_of}
 use Rattle.replay_core.specs.Setups.{one_driver}
 use Rattle.replay_core.specs.Kept.{Kept, stop_where, sent_to, answered_by, begun_from, begun_at, after_call, after_begin, after_return, made_at}
 use Rattle.replay_core.specs.Lines.{first_of, first_name, loader_report, loader_line}

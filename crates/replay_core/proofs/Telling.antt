@@ -1,8 +1,7 @@
 -- What the driver is told.
-use Rattle.std.proofs.Common.{◌≡◌, ℕ, ◌≤◌, List, [], ◌∷◌, length, map, refl, ap, sym, ◌∙◌, arith, subst}
+use Rattle.std.proofs.Common.{◌≡◌, ◌≤◌, List, [], ◌∷◌, length, refl, ap, sym, ◌∙◌, subst}
 use Rattle.std.proofs.lemmas.List.{length-map}
 use Rattle.command_tables.specs.Calls.{DriverCallContent, ReplyContent}
-use Rattle.object_model.specs.declared.Argument.{Argument}
 use Rattle.replay_model.specs.Past.{Opened}
 use Rattle.replay_model.specs.Direct.{Valued, driver_call}
 use Rattle.replay_core.specs.Logs.{Log, logged}

@@ -1,9 +1,8 @@
 -- What a replay has told the driver and written, over the events of a trace, the newest first. Source: this project.
-use Rattle.std.specs.Prelude.{◌≡◌, ◌⊎◌, ℕ, List, ◌∷◌, ◌++◌, [], Option, length}
+use Rattle.std.specs.Prelude.{◌≡◌, ◌⊎◌, ℕ, List, ◌∷◌, ◌++◌, Option, length}
 use Rattle.command_tables.specs.Calls.{ReplyContent}
 use Rattle.trace_format.specs.Content.{TraceEvent}
 use Rattle.replay_base.specs.Bytes.{grown, GrownByFront}
-use Rattle.replay_model.specs.Past.{Past}
 use Rattle.replay_model.specs.Judged.{judged}
 use Rattle.replay_model.specs.Text.{text, end_of}
 use Rattle.replay_model.specs.Direct.{exchanges, sends_in}

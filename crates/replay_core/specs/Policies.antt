@@ -1,5 +1,5 @@
 -- Which handles the model drivers answer. Source: this project.
-use Rattle.std.specs.Prelude.{ℕ, zero, suc, ◌+◌, ◌-◌, List, [], ◌∷◌, ◌++◌, take, length, replicate}
+use Rattle.std.specs.Prelude.{ℕ, zero, suc, ◌-◌, List, [], ◌∷◌, ◌++◌, take, length, replicate}
 use Rattle.replay_base.specs.Faults.{raised}
 
 -- so many handles, counted on from the last one

@@ -1,5 +1,5 @@
 -- The setup under which traces are replayed so far. Source: this project.
-use Rattle.std.specs.Prelude.{ℕ, List, []}
+use Rattle.std.specs.Prelude.{[]}
 use Rattle.replay_model.specs.Setup.{Chain, Setup}
 
 -- one driver, no notes, and the empty chain whatever an application asks for

@@ -1,3 +1,4 @@
 pub mod Said
 pub mod Statuses
 pub mod Words
+pub mod Output

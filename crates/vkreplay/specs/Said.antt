@@ -4,6 +4,7 @@ use Rattle.replay_base.specs.Bytes.{grown, GrownByFront}
 use Rattle.replay_base.specs.Faults.{Rose}
 use Rattle.trace_format.specs.declared.fault.TraceFault.{TraceFault}
 use Rattle.trace_format.specs.FaultNames.{fault_name}
+use Rattle.replay_core.specs.Logs.{Log}
 use Rattle.replay_core.specs.Replayed.{StoppedAt}
 
 -- the sink has this line, or it failed behind a front of it
@@ -27,9 +28,9 @@ pub record IsSilent (old new : Option (List ℕ)) (faults_before faults : ℕ) :
   pub same : new ≡ old
   pub stood : faults ≡ faults_before
 
--- the trace stops at this line with this fault, and the sink was told so
-pub record StoppedAndSaid (old_left left : Option (List ℕ)) (Untouched : Type 0) (old new : Option (List ℕ)) (faults_before faults : ℕ) : Type 0 where
+-- the trace stops at this line with this fault, what stands before that line was replayed, and the sink was told so
+pub record StoppedAndSaid (old_left left : Option (List ℕ)) (old_log log : Log) (old_held held : Option (List ℕ)) (old new : Option (List ℕ)) (faults_before faults : ℕ) : Type 0 where
   pub line : ℕ
   pub fault : TraceFault
-  pub stopped : StoppedAt line fault old_left left Untouched
+  pub stopped : StoppedAt line fault old_left left old_log log old_held held
   pub said : Said (fault_line line fault) old new faults_before faults

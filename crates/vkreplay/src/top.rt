@@ -1,10 +1,9 @@
 // All that the program does.
-ghost use Rattle.std.specs.Prelude.{◌≡◌, ◌≢◌, ◌↔◌, ◌⊎◌, ℕ, List, IsSome, Some, None};
+ghost use Rattle.std.specs.Prelude.{◌≡◌, ◌≢◌, ◌↔◌, ◌⊎◌, List, ℕ, IsSome, IfSome, Some};
 ghost use Rattle.replay_base.specs.Faults.{Rose};
-ghost use Rattle.trace_format.specs.declared.fault.TraceFault.{TraceFault};
-ghost use Rattle.replay_core.specs.Replayed.{Ended, IsUntouched};
-ghost use Rattle.replay_core.specs.Stop.{stop, stop_at};
-ghost use Rattle.vkreplay.specs.Said.{Said, StoppedAndSaid, IsSilent, fault_line};
+ghost use Rattle.replay_core.specs.Replayed.{Ended, BrokeIn, RanOutOf, IsUntouched};
+ghost use Rattle.vkreplay.specs.Output.{Gives, end_status, output};
+ghost use Rattle.vkreplay.specs.Said.{Said, StoppedAndSaid, IsSilent};
 ghost use Rattle.vkreplay.specs.Words.{IsRun};
 ghost use Rattle.vkreplay.specs.Statuses.{IsEnd, status_of, line_of, words_line, read_line, write_line, memory_line};
 
@@ -52,7 +51,7 @@ fn refuse<L: Sink>(errs: &mut L, error: ReplayError) -> Status
 
 // Whether something was reported.
 fn status_at_end(tally: Tally) -> Status
-    ensures { IsEnd result }
+    ensures { result ≡ end_status tally.reports }
 {
     if tally.reports == 0 {
         Status::Clean
@@ -63,7 +62,7 @@ fn status_at_end(tally: Tally) -> Status
 
 /// Runs the program: `words` are the command line's without the program's name, and the one word `run` replays the trace.
 /// A failure of the error sink changes no status.
-#[tactic(auto, using(crate::proofs::Complete::ended_no_stop))]
+#[tactic(auto, using(crate::proofs::Complete::ends, crate::proofs::Answered::ended_gives))]
 pub fn replay_main<S: Source, K: Sink, L: Sink, D: Driver>(
     alloc: Global,
     words: &[String],
@@ -72,19 +71,29 @@ pub fn replay_main<S: Source, K: Sink, L: Sink, D: Driver>(
     errs: &mut L,
     driver: &mut D,
 ) -> Finished
-    // Each status has its cause.
+    // Where the source tells its bytes and neither its count nor the sink's rose, the answer is a function of these bytes:
+    // the status, what is written and what is said are those of `output`. Only memory is free.
+    ensures headline { (bs : List ℕ) → S.left trace.old ≡ Some bs → IsRun words.now
+        → (Rose (S.faults trace.old) (S.faults trace.new) → ⊥) → (Rose (K.faults out.old) (K.faults out.new) → ⊥)
+        → Gives (output bs) result.status (K.held out.old) (K.held out.new) (L.held errs.old) (L.held errs.new) (L.faults errs.old) (L.faults errs.new) ⊎ (result.status ≡ Status.NoMemory) }
+
+    // Each status has its cause. The session that comes back stands for all events of the trace with the driver's own
+    // replies, and the driver was told just their calls.
     ensures usage { (result.status ≡ Status.Usage) ↔ (IsRun words.now → ⊥) }
     ensures run { result.status ≢ Status.Usage → IsRun words.now }
-    ensures ended { IsEnd result.status → Ended (S.left trace.old) (S.left trace.new) }
+    ensures session { IsSome result.session ↔ IsEnd result.status }
+    ensures ended { IfSome result.session (λ session. Ended session (S.left trace.old) (S.left trace.new) (D.log driver.old) (D.log driver.new) (K.held out.old) (K.held out.new)) }
+    ensures reported { IfSome result.session (λ session. result.status ≡ end_status session.reports) }
     ensures malformed { result.status ≡ Status.Malformed
-        → StoppedAndSaid (S.left trace.old) (S.left trace.new) (IsUntouched (K.held out.old) (K.held out.new) (D.log driver.old) (D.log driver.new)) (L.held errs.old) (L.held errs.new) (L.faults errs.old) (L.faults errs.new) }
+        → StoppedAndSaid (S.left trace.old) (S.left trace.new) (D.log driver.old) (D.log driver.new) (K.held out.old) (K.held out.new) (L.held errs.old) (L.held errs.new) (L.faults errs.old) (L.faults errs.new) }
     ensures read { result.status ≡ Status.ReadFault → Rose (S.faults trace.old) (S.faults trace.new) }
     ensures write { result.status ≡ Status.WriteFault → Rose (K.faults out.old) (K.faults out.new) }
     ensures limit { result.status ≢ Status.Limit }
-    ensures session { IsSome result.session ↔ IsEnd result.status }
 
-    // What is left undone.
-    ensures untouched { (result.status ≡ Status.Usage) ⊎ (result.status ≡ Status.ReadFault) → IsUntouched (K.held out.old) (K.held out.new) (D.log driver.old) (D.log driver.new) }
+    // What stands in the sink and the driver's log where a run is cut.
+    ensures untouched { (result.status ≡ Status.Usage) ⊎ (result.status ≡ Status.ReadFault) → IsUntouched (D.log driver.old) (D.log driver.new) (K.held out.old) (K.held out.new) }
+    ensures broke { result.status ≡ Status.WriteFault → BrokeIn (S.left trace.old) (S.left trace.new) (D.log driver.old) (D.log driver.new) (K.held out.old) (K.held out.new) }
+    ensures ran_out { result.status ≡ Status.NoMemory → RanOutOf (S.left trace.old) (S.left trace.new) (D.log driver.old) (D.log driver.new) (K.held out.old) (K.held out.new) }
     ensures unread { result.status ≡ Status.Usage → S.left trace.new ≡ S.left trace.old }
     ensures source_stood { result.status ≢ Status.ReadFault → S.faults trace.new ≡ S.faults trace.old }
     ensures sink_stood { result.status ≢ Status.WriteFault → K.faults out.new ≡ K.faults out.old }
@@ -95,14 +104,6 @@ pub fn replay_main<S: Source, K: Sink, L: Sink, D: Driver>(
     ensures said_read { result.status ≡ Status.ReadFault → Said read_line (L.held errs.old) (L.held errs.new) (L.faults errs.old) (L.faults errs.new) }
     ensures said_write { result.status ≡ Status.WriteFault → Said write_line (L.held errs.old) (L.held errs.new) (L.faults errs.old) (L.faults errs.new) }
     ensures said_memory { result.status ≡ Status.NoMemory → Said memory_line (L.held errs.old) (L.held errs.new) (L.faults errs.old) (L.faults errs.new) }
-
-    // Where the source tells its bytes and no count rose: a trace with no stop ends, and one with a stop is malformed there.
-    ensures complete { (bs : List ℕ) → S.left trace.old ≡ Some bs → stop bs ≡ None → IsRun words.now
-        → (Rose (S.faults trace.old) (S.faults trace.new) → ⊥) → (Rose (K.faults out.old) (K.faults out.new) → ⊥)
-        → IsEnd result.status ⊎ (result.status ≡ Status.NoMemory) }
-    ensures stops { (bs : List ℕ) (n : ℕ) (f : TraceFault) → S.left trace.old ≡ Some bs → stop bs ≡ stop_at n f → IsRun words.now
-        → (Rose (S.faults trace.old) (S.faults trace.new) → ⊥) → (Rose (K.faults out.old) (K.faults out.new) → ⊥)
-        → ((result.status ≡ Status.Malformed) × Said (fault_line n f) (L.held errs.old) (L.held errs.new) (L.faults errs.old) (L.faults errs.new)) ⊎ (result.status ≡ Status.NoMemory) }
 {
     if !is_run(words) {
         say(errs, b"vkreplay: words not understood\n");

@@ -1,10 +1,9 @@
-use Rattle.std.proofs.Common.{◌≡◌, ◌∙◌, List, Option, IfOk, ap, subst}
+use Rattle.std.proofs.Common.{◌≡◌, List, IfOk, subst}
 use Rattle.command_tables.specs.declared.types.Effect.TheVariants as eff
 use Rattle.command_tables.specs.Table.{row_of}
-use Rattle.object_model.specs.declared.Object.{Object}
 use Rattle.replay_model.specs.declared.Born.{Born}
 use Rattle.replay_model.specs.Past.{owner_by}
-use Rattle.replay_core.specs.Shown.{births_shown, args_shown, opened_of, retrieved_shown}
+use Rattle.replay_core.specs.Shown.{births_shown, opened_of, retrieved_shown}
 use Rattle.replay_core.proofs.Retrieving.{retrieved_all}
 use Rattle.replay_core.proofs.made.results.Goals as goal
 

@@ -2,7 +2,7 @@ use Rattle.std.proofs.Common.{◌≡◌, Err}
 use Rattle.std.proofs.lemmas.Result.{err_from_is_err_and}
 use Rattle.replay_base.specs.Lines.{lines_of}
 use Rattle.trace_format.specs.Content.{content}
-use Rattle.replay_core.specs.declared.error.ReplayError.TheVariants.{Write, NoMemory}
+use Rattle.replay_core.specs.declared.error.ReplayError.TheVariants.{Write}
 use Rattle.replay_core.proofs.Progress.{far_broke, far_ran_out, far_stopped}
 use Rattle.replay_core.proofs.play.play.Goals as goal
 

@@ -1,6 +1,6 @@
 use Rattle.std.proofs.Common.{◌≡◌, ◌∙◌, ap, ◌++◌, List, ℕ}
 use Rattle.std.specs.Prelude.{codes, decimal}
-use Rattle.replay_base.specs.Bytes.{grown, GrownByFront}
+use Rattle.replay_base.specs.Bytes.{grown}
 use Rattle.vkreplay.proofs.say.put_number.Goals as goal
 
 pub returns-clause-all : goal.returns-clause-all

@@ -1,4 +1,4 @@
-use Rattle.std.proofs.Common.{◌≡◌, subst, sym, List, ℕ}
+use Rattle.std.proofs.Common.{subst, sym}
 use Rattle.replay_core.specs.declared.error.ReplayError.{ReplayError}
 use Rattle.vkreplay.specs.Said.{Said}
 use Rattle.vkreplay.specs.Statuses.{line_of}

@@ -1,4 +1,4 @@
-use Rattle.std.proofs.Common.{arith, ◌≡◌, ℕ, ◌∙◌, ap, sym, Some, None, true, false, length, List, map, ◌++◌, filter, Option}
+use Rattle.std.proofs.Common.{arith, ◌≡◌, ℕ, ◌∙◌, ap, sym, Some, false, length, List, map, ◌++◌, Option}
 use Rattle.std.specs.List.{find}
 use Rattle.std.specs.Prelude.{is_some}
 use Rattle.std.proofs.lemmas.Bool.{eqb-true}
@@ -6,8 +6,8 @@ use Rattle.replay_model.specs.Past.{is_of, Opened}
 use Rattle.replay_model.specs.Direct.{Sent, Valued}
 use Rattle.replay_model.specs.Text.{return_text}
 use Rattle.replay_core.specs.Setups.{one_driver}
-use Rattle.replay_core.specs.Kept.{Kept, after_return, made_at, answered_by, sent_to, has_open}
-use Rattle.replay_core.specs.Shown.{opened_of, sent_of, births_shown, retrieved_shown, values_shown, valued_with}
+use Rattle.replay_core.specs.Kept.{Kept, made_at, answered_by, sent_to, has_open}
+use Rattle.replay_core.specs.Shown.{opened_of, sent_of, births_shown, retrieved_shown, values_shown}
 use Rattle.replay_core.specs.declared.call.OpenCall.{OpenCall}
 use Rattle.replay_core.specs.contracts.session.Session.{the_view}
 use Rattle.replay_core.proofs.OneDriver.{found_holds}
