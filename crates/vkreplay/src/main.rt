@@ -3,6 +3,10 @@
 //! What a trace means and how it is replayed is left to the crates below.
 #![tactic(auto)]
 
+#[cfg(test)]
+mod case_tests;
+#[cfg(test)]
+mod fault_tests;
 mod say;
 #[cfg(test)]
 mod tests;

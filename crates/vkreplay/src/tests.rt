@@ -13,6 +13,13 @@ const FIRST: &str =
 const FIRST_TEXT: &str =
     "ret 1 vkCreateInstance VK_SUCCESS born=1\nret 2 vkEnumeratePhysicalDevices VK_SUCCESS born=1\nret 3 vkCreateDevice VK_SUCCESS born=1\nret 4 vkDestroyDevice void\nret 5 vkDestroyInstance void\nend calls=5 skipped=0 reports=0\n";
 
+// A device that is destroyed twice.
+pub const TWICE: &str =
+    "vktrace 1\nb 1 vkCreateInstance = %1.1 VK_SUCCESS\nr 1\nb 1 vkEnumeratePhysicalDevices %1.1 = %1.2 VK_SUCCESS\nr 1\nb 1 vkCreateDevice %1.2 = %1.3 VK_SUCCESS\nr 1\nb 1 vkDestroyDevice %1.3 void\nr 1\nb 1 vkDestroyDevice %1.3 void\nr 1\n";
+
+pub const TWICE_TEXT: &str =
+    "ret 1 vkCreateInstance VK_SUCCESS born=1\nret 2 vkEnumeratePhysicalDevices VK_SUCCESS born=1\nret 3 vkCreateDevice VK_SUCCESS born=1\nret 4 vkDestroyDevice void\nreport 5 0 VUID-vkDestroyDevice-device-parameter %1.3\nret 5 vkDestroyDevice void\nend calls=5 skipped=1 reports=1\n";
+
 // The words, the trace, how many letters follow it, and the numbers of the first call of the source and the sink that
 // fails; and what the run must answer, print and say.
 #[derive(Clone, Copy)]
@@ -79,11 +86,10 @@ const RUNS: [Run; 22] = [
         errs: "vkreplay: words not understood\n",
         ..CLEAN
     },
-    // A device that is destroyed twice.
     Run {
-        trace: "vktrace 1\nb 1 vkCreateInstance = %1.1 VK_SUCCESS\nr 1\nb 1 vkEnumeratePhysicalDevices %1.1 = %1.2 VK_SUCCESS\nr 1\nb 1 vkCreateDevice %1.2 = %1.3 VK_SUCCESS\nr 1\nb 1 vkDestroyDevice %1.3 void\nr 1\nb 1 vkDestroyDevice %1.3 void\nr 1\n",
+        trace: TWICE,
         status: Status::Reported,
-        out: "ret 1 vkCreateInstance VK_SUCCESS born=1\nret 2 vkEnumeratePhysicalDevices VK_SUCCESS born=1\nret 3 vkCreateDevice VK_SUCCESS born=1\nret 4 vkDestroyDevice void\nreport 5 0 VUID-vkDestroyDevice-device-parameter %1.3\nret 5 vkDestroyDevice void\nend calls=5 skipped=1 reports=1\n",
+        out: TWICE_TEXT,
         ..CLEAN
     },
     // A begin in place of a return that is due, and a trace that ends where one is due.
@@ -169,7 +175,7 @@ const RUNS: [Run; 22] = [
     },
 ];
 
-fn words_of(alloc: Global, text: &str) -> Result<Vec<String>, Fail> {
+pub fn words_of(alloc: Global, text: &str) -> Result<Vec<String>, Fail> {
     let mut words = Vec::new(alloc);
     for word in text.split_whitespace() {
         words.push(String::from_str(alloc, word)?)?;
@@ -185,7 +191,7 @@ fn bytes_of(alloc: Global, run: &Run) -> Result<Vec<u8>, Fail> {
     Ok(bytes)
 }
 
-fn sink(alloc: Global, fails: u64) -> Result<MemSink, Fail> {
+pub fn sink(alloc: Global, fails: u64) -> Result<MemSink, Fail> {
     let fails = vec![in alloc; fails]?;
     Ok(MemSink::new(alloc, 4096, fails).ok().ok_or("no memory")?)
 }

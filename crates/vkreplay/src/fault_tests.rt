@@ -1,0 +1,141 @@
+// Runs over a source and a sink that move one byte a call and fail at one of their calls.
+ghost use Rattle.std.specs.Prelude.{None};
+
+use crate::tests::{TWICE, TWICE_TEXT, sink, words_of};
+use crate::top::{Finished, replay_main};
+use replay_base::{Failed, Sink, Source};
+use replay_core::{ModelDriver, RecordingDriver, Status};
+use std::alloc::Global;
+use std::process::Abort;
+use std::test::Fail;
+
+#[derive(Drop)]
+struct ByteSource {
+    bytes: Vec<u8>,
+    at: usize,
+    fails_at: usize,
+    faults: u64,
+}
+
+impl Source for ByteSource {
+    ghost left = { λ _. None };
+
+    ghost faults = { λ s. s.faults };
+
+    ghost loan = { λ _. None };
+
+    fn read(&mut self, buf: &mut [u8]) -> Result<usize, Failed> {
+        if self.at == self.fails_at {
+            self.faults = self.faults.saturating_add(1);
+            return Err(Failed);
+        }
+        match self.bytes.get(self.at).copied() {
+            None => Ok(0),
+            Some(byte) => {
+                buf[0] = byte;
+                self.at = self.at.saturating_add(1);
+                Ok(1)
+            }
+        }
+    }
+}
+
+#[derive(Drop)]
+struct ByteSink {
+    bytes: Vec<u8>,
+    fails_at: usize,
+    faults: u64,
+}
+
+impl Sink for ByteSink {
+    ghost held = { λ _. None };
+
+    ghost faults = { λ s. s.faults };
+
+    fn write(&mut self, piece: &[u8]) -> Result<usize, Failed> {
+        if self.bytes.len() != self.fails_at && self.bytes.push(piece[0]).is_ok() {
+            return Ok(1);
+        }
+        self.faults = self.faults.saturating_add(1);
+        Err(Failed)
+    }
+}
+
+// The calls of a run whose source fails behind so many bytes, and whose sink fails behind so many.
+#[derive(Drop)]
+struct Cut {
+    status: Status,
+    out: Vec<u8>,
+    told: usize,
+}
+
+fn cut_run(alloc: Global, read: usize, written: usize) -> Result<Cut, Fail> {
+    let words = words_of(alloc, "run")?;
+    let mut trace = ByteSource {
+        bytes: Vec::from_slice(alloc, TWICE.as_bytes())?,
+        at: 0,
+        fails_at: read,
+        faults: 0,
+    };
+    let mut out = ByteSink {
+        bytes: Vec::new(alloc),
+        fails_at: written,
+        faults: 0,
+    };
+    let mut errs = sink(alloc, 0)?;
+    let mut driver = RecordingDriver::new(alloc, ModelDriver::new());
+    let Finished { status, .. } = replay_main(
+        alloc,
+        &words,
+        &mut trace,
+        &mut out,
+        &mut errs,
+        &mut driver,
+    );
+    let told = driver.log().len();
+    Ok(Cut {
+        status,
+        out: out.bytes,
+        told,
+    })
+}
+
+#[test]
+fn a_source_that_fails_leaves_nothing(rt: HostRuntime) -> Result<(), Fail> {
+    for read in 0..=TWICE.len() {
+        let cut = cut_run(rt.alloc(), read, TWICE_TEXT.len())?;
+        assert_eq!(rt; cut.status, Status::ReadFault);
+        assert_eq!(rt; cut.out.len(), 0);
+        assert_eq!(rt; cut.told, 0);
+    }
+    Ok(())
+}
+
+// The driver is told a call before its line is written, and four calls in all.
+fn told_behind(text: &[u8]) -> usize {
+    let lines = text.iter().filter(|byte| **byte == b'\n').count();
+    lines.saturating_add(1).min(4)
+}
+
+#[test]
+fn a_sink_that_fails_has_a_front_of_the_text(rt: HostRuntime) -> Result<(), Fail> {
+    for written in 0..TWICE_TEXT.len() {
+        let cut = cut_run(rt.alloc(), usize::MAX, written)?;
+        assert_eq!(rt; cut.status, Status::WriteFault);
+        assert!(rt;
+            cut.out.as_slice() == &TWICE_TEXT.as_bytes()[..written],
+            "{written}"
+        );
+        assert_eq!(rt; cut.told, told_behind(&cut.out));
+    }
+    Ok(())
+}
+
+#[test]
+fn one_byte_a_call_is_enough(rt: HostRuntime) -> Result<(), Fail> {
+    let cut = cut_run(rt.alloc(), usize::MAX, usize::MAX)?;
+    assert_eq!(rt; cut.status, Status::Reported);
+    assert!(rt; cut.out.as_slice() == TWICE_TEXT.as_bytes());
+    assert_eq!(rt; cut.told, 4);
+    Ok(())
+}
