@@ -1,6 +1,6 @@
 -- The name of a file in its path.
-use Rattle.std.proofs.Common.{◌≡◌, ◌∙◌, ℕ, ◌+◌, ◌-◌, ◌<◌, ◌≤◌, Bool, true, false, not, eqb, List, Some, None, length, get_or, drop, refl, ap, sym, arith, lit<, Option, length-drop}
-use Rattle.std.specs.List.{after_last, suffix_len}
+use Rattle.std.proofs.Common.{◌≡◌, ◌∙◌, ℕ, ◌+◌, ◌-◌, ◌<◌, ◌≤◌, Bool, true, false, not, eqb, List, None, length, get_or, drop, refl, ap, sym, arith, lit<, length-drop}
+use Rattle.std.specs.List.{suffix_len}
 use Rattle.std.specs.Str.Pattern.{RFindsChar, SplitsAroundMatch}
 use Rattle.std.proofs.lemmas.Bool.Decides.{Decides-eqb}
 use Rattle.std.proofs.lemmas.List.{get_or-drop}

@@ -1,5 +1,5 @@
 -- Lists in which the first of equal keys stays.
-use Rattle.std.proofs.Common.{◌≡◌, ◌∙◌, ℕ, ◌+◌, ◌≤◌, Bool, true, false, not, cond, ◌||◌, List, [], ◌∷◌, ◌++◌, map, filter, length, refl, ap, sym, subst, arith, length-append, append-nil, string_bytes, Global}
+use Rattle.std.proofs.Common.{◌≡◌, ◌∙◌, ℕ, ◌≤◌, Bool, true, false, not, cond, ◌||◌, List, [], ◌∷◌, ◌++◌, map, filter, length, refl, ap, sym, subst, arith, length-append, append-nil, string_bytes, Global}
 use Rattle.std.specs.BTreeSet.{BTreeSet, UpdatesBy, contains, contains_text}
 use Rattle.std.specs.Cmp.Lexicographic.{slice_cmp}
 use Rattle.std.specs.List.{list_any}

@@ -1,5 +1,5 @@
 -- Texts in byte order: a sorted list of them is the one that `in_order` makes.
-use Rattle.std.proofs.Common.{◌≡◌, ◌∙◌, ℕ, zero, suc, ◌+◌, ◌<◌, ◌≤◌, Bool, true, false, cond, List, [], ◌∷◌, map, length, get_or, refl, ap, sym, add-one, arith, sum_by, Option, Some, Ordering, Less, Equal, Greater, lit≤}
+use Rattle.std.proofs.Common.{◌≡◌, ◌∙◌, ℕ, ◌+◌, ◌<◌, Bool, true, false, cond, List, [], ◌∷◌, map, length, get_or, refl, ap, sym, add-one, arith, sum_by, Option, Some, Ordering, Less, Equal, Greater}
 use Rattle.std.specs.Bool.{⊤}
 use Rattle.std.specs.Cmp.{IsStrictWeakOrder}
 use Rattle.std.specs.Cmp.Lexicographic.{slice_cmp}

@@ -1,6 +1,6 @@
 -- What a search finds. Source: Khronos Vulkan-Loader, LoaderDriverInterface.md and LoaderLayerInterface.md, discovery on Linux
 -- and the filters of drivers; the notes and the limit on a file's bytes are this project's choices.
-use Rattle.std.specs.Prelude.{ℕ, ◌==◌, nat_le, Bool, true, not, ◌&&◌, if◌then◌else◌, List, [], ◌∷◌, ◌++◌, length, map, filter, codes, replicate, Option, Some, None, Result, Ok, Err}
+use Rattle.std.specs.Prelude.{ℕ, ◌==◌, nat_le, Bool, true, not, ◌&&◌, if◌then◌else◌, List, [], ◌∷◌, length, map, filter, codes, replicate, Option, Some, None, Result, Ok, Err}
 use Rattle.std.specs.List.{flat_map, after_last}
 use Rattle.replay_base.specs.Files.{File, bytes_at}
 use Rattle.env_filters.specs.Filters.{filter_of, hits}

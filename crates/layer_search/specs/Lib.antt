@@ -7,3 +7,4 @@ pub mod Contents
 pub mod Causes
 pub mod Found
 pub mod Collecting
+pub mod Examples

@@ -1,4 +1,4 @@
-use Rattle.std.proofs.Common.{◌≡◌, ◌∙◌, ℕ, suc, arith, Bool, true, false, not, cond, eqb, List, [], ◌∷◌, map, filter, length, refl, ap, sym, lit<, rules, ◌||◌}
+use Rattle.std.proofs.Common.{◌≡◌, ◌∙◌, ℕ, suc, arith, Bool, true, false, not, cond, eqb, List, [], ◌∷◌, filter, length, refl, ap, sym, lit<, rules, ◌||◌}
 use borrow.Author.Tests.{tests}
 use Rattle.std.specs.List.{list_any, slice_split}
 use Rattle.std.proofs.lemmas.Bool.Decides.{Decides-eqb}

@@ -1,4 +1,4 @@
-use Rattle.std.proofs.Common.{◌≡◌, ◌∙◌, ap, sym, arith, map, take, string_bytes}
+use Rattle.std.proofs.Common.{◌≡◌, ◌∙◌, arith, take, string_bytes}
 use Rattle.std.proofs.lemmas.Grind.{common_steps}
 use Rattle.layer_search.specs.Found.{path_layers, layer_notes, layers_at}
 use Rattle.layer_search.proofs.Joins.{piece_is}

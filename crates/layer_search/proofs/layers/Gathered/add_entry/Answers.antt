@@ -1,4 +1,4 @@
-use Rattle.std.proofs.Common.{◌∙◌, ap, map, [], ◌∷◌, ◌++◌, Vec}
+use Rattle.std.proofs.Common.{◌∙◌, ap, map, [], ◌∷◌, ◌++◌}
 use Rattle.std.proofs.lemmas.List.{map-append}
 use Rattle.layer_search.specs.Contents.{found_layer}
 use Rattle.layer_search.specs.Found.{layer_at}

@@ -1,4 +1,4 @@
-use Rattle.std.proofs.Common.{◌≡◌, ◌∙◌, ◌<◌, ◌++◌, [], ◌∷◌, ap, sym, arith, map, length, string_bytes, length-append}
+use Rattle.std.proofs.Common.{◌≡◌, ◌∙◌, ◌++◌, [], ◌∷◌, ap, sym, arith, map, length, string_bytes, length-append}
 use Rattle.std.proofs.lemmas.List.{length-map, map-append}
 use Rattle.layer_search.specs.Order.{firsts}
 use Rattle.layer_search.proofs.FirstOnes.{known_kept, new_kept}
