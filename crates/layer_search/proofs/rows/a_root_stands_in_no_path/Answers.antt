@@ -1,0 +1,10 @@
+-- By computation.
+use Rattle.std.proofs.Common.{refl}
+use Rattle.layer_search.specs.Folders.{config_folders, data_folders, suffix_of, folders_of}
+use Rattle.layer_search.specs.Found.{driver_paths}
+use Rattle.layer_search.specs.Places.{replacing, adding}
+use Rattle.layer_search.proofs.rows.a_root_stands_in_no_path.Goals as goal
+
+pub returns : goal.returns
+unfolding config_folders data_folders suffix_of folders_of replacing adding driver_paths
+returns c = refl

@@ -1,0 +1,10 @@
+pub mod Kinds
+pub mod Folders
+pub mod Places
+pub mod Order
+pub mod Paths
+pub mod Contents
+pub mod Causes
+pub mod Found
+pub mod Collecting
+pub mod Examples
