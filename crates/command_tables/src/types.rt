@@ -2,7 +2,7 @@
 
 /// The types of Vulkan objects, each `Vk` and the name; `Surface` and `Swapchain` are `VkSurfaceKHR` and `VkSwapchainKHR`.
 /// The first five are dispatchable.
-#[derive(Clone, Copy, Debug, PartialEq, Eq)]
+#[derive(Clone, Copy, Debug, PartialEq, Eq, Hash)]
 pub enum ObjectType {
     Instance,
     PhysicalDevice,

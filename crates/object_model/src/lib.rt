@@ -14,7 +14,7 @@ ghost use Rattle.object_model.specs.Uses.{uses, overlaps};
 use command_tables::ObjectType;
 
 /// An object of the application, known by its type and a number that it alone has in its type.
-#[derive(Clone, Copy, Debug, PartialEq, Eq)]
+#[derive(Clone, Copy, Debug, PartialEq, Eq, Hash)]
 pub struct Object {
     pub ty: ObjectType,
     pub number: u64,

@@ -11,7 +11,7 @@ use Rattle.replay_core.specs.Logs.{Log}
 use Rattle.replay_core.specs.Played.{text_of, Played, CutInLines, CutBefore, IsFront, BrokeInLines, Broke, RanOut}
 use Rattle.replay_core.specs.Stands.{Stands}
 use Rattle.replay_core.proofs.Runs.{played_none, front_behind}
-use Rattle.replay_core.specs.Stop.{stop, stop_at, is_header, events_or, events_from, events_in, events_of, unless_refused}
+use Rattle.replay_model.specs.Stop.{stop, stop_at, is_header, events_or, events_from, events_in, events_of, unless_refused}
 use Rattle.replay_core.specs.Setups.{one_driver}
 use Rattle.replay_core.specs.Gave.{Gave}
 use Rattle.replay_core.specs.Replayed.{Whole, Ended, StoppedAt}

@@ -7,7 +7,7 @@ use Rattle.trace_format.specs.declared.fault.TraceFault.TheVariants as fault
 use Rattle.trace_format.specs.Content.{TraceEvent}
 use Rattle.trace_format.specs.Plain.{plain_event}
 use Rattle.trace_format.specs.PlainForm.{PlainState, at_start, after, fault_at}
-use Rattle.replay_core.specs.Stop.{stop, stop_at, stop_or, stop_in, stop_from, stop_at_end, is_header, unless_out_of_place}
+use Rattle.replay_model.specs.Stop.{stop, stop_at, stop_or, stop_in, stop_from, stop_at_end, is_header, unless_out_of_place}
 
 -- a line whose event may stand there leaves the rest to decide
 pub next_line : (rest more : List ℕ) (text : List ℕ) (n : ℕ) (s t : PlainState) (e : TraceEvent) → lines_of rest ≡ text ∷ lines_of more → plain_event text ≡ Some e → fault_at s e ≡ None → t ≡ after s e → stop_from n s (lines_of rest) ≡ stop_from (n + 1) t (lines_of more)

@@ -1,7 +1,6 @@
 pub mod Driver
 pub mod Logs
 pub mod Policies
-pub mod Stop
 pub mod Errors
 pub mod Gave
 pub mod Replayed

@@ -4,7 +4,7 @@ use Rattle.trace_format.specs.declared.fault.TraceFault.{TraceFault}
 use Rattle.trace_format.specs.declared.fault.TraceFault.TheVariants as fault
 use Rattle.replay_core.specs.Gave.{Gave, GaveTooMuch}
 use Rattle.replay_core.specs.Logs.{Log}
-use Rattle.replay_core.specs.Stop.{stop, stop_at, events_of}
+use Rattle.replay_model.specs.Stop.{stop, stop_at, events_of}
 use Rattle.replay_core.specs.Setups.{one_driver}
 use Rattle.replay_core.specs.Kept.{Kept}
 use Rattle.replay_core.specs.Stands.{Stands}

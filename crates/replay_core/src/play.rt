@@ -12,7 +12,7 @@ ghost use Rattle.replay_core.specs.Causes.{IsOfTrace, IsOfStep, IsOfPlay};
 ghost use Rattle.replay_core.specs.Logs.{Log};
 ghost use Rattle.replay_core.specs.Played.{Played, CutInLines, CutBefore, BrokeInLines, RanOut};
 ghost use Rattle.replay_core.specs.Stands.{Advances, MayTell, Stands};
-ghost use Rattle.replay_core.specs.Stop.{events_from, stop_at, stop_from};
+ghost use Rattle.replay_model.specs.Stop.{events_from, stop_at, stop_from};
 
 use crate::driver::Driver;
 use crate::error::{ReplayError, SessionError};

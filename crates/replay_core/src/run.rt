@@ -11,7 +11,7 @@ ghost use Rattle.replay_base.specs.Bytes.{grown, GrownByFront};
 ghost use Rattle.replay_model.specs.Text.{end_line as line_at_end};
 ghost use Rattle.replay_core.specs.Played.{Played, BrokeInLines, Broke, RanOut};
 ghost use Rattle.replay_core.specs.Stands.{Stands};
-ghost use Rattle.replay_core.specs.Stop.{stop, stop_at, stop_in, stop_from, events_from, events_in, events_of};
+ghost use Rattle.replay_model.specs.Stop.{stop, stop_at, stop_in, stop_from, events_from, events_in, events_of};
 
 use crate::driver::Driver;
 use crate::error::ReplayError;

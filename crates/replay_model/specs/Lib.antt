@@ -7,3 +7,4 @@ pub mod Direct
 pub mod Text
 pub mod Less
 pub mod Samples
+pub mod Stop

@@ -2,7 +2,7 @@
 use command_tables::{Code, CommandId};
 
 /// The name of a result: the `number`-th that a thread's calls were given, from 1. Threads are 1 to 1,024, numbers 1 to 4,194,304.
-#[derive(Clone, Copy, Debug, PartialEq, Eq)]
+#[derive(Clone, Copy, Debug, PartialEq, Eq, Hash)]
 pub struct Name {
     pub thread: u32,
     pub number: u32,

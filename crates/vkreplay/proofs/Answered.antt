@@ -5,7 +5,7 @@ use Rattle.replay_base.proofs.Written.{grown_nil}
 use Rattle.replay_core.specs.Kept.{Kept}
 use Rattle.replay_core.specs.Logs.{Log}
 use Rattle.replay_core.specs.Replayed.{Ended}
-use Rattle.replay_core.specs.Stop.{Stop, stop, events_of}
+use Rattle.replay_model.specs.Stop.{Stop, stop, events_of}
 use Rattle.replay_core.specs.declared.status.Status.{Status}
 use Rattle.vkreplay.specs.Output.{Gives, output, output_at, whole_output, end_status}
 use Rattle.vkreplay.proofs.Complete.{gave_all}

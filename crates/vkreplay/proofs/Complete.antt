@@ -10,7 +10,7 @@ use Rattle.replay_core.specs.Causes.{IsNoLimit}
 use Rattle.replay_core.specs.Logs.{Log}
 use Rattle.replay_core.specs.Played.{text_of}
 use Rattle.replay_core.specs.Replayed.{StoppedAt}
-use Rattle.replay_core.specs.Stop.{Stop, stop, stop_at, stop_in, events_in, events_of}
+use Rattle.replay_model.specs.Stop.{Stop, stop, stop_at, stop_in, events_in, events_of}
 use Rattle.replay_core.specs.declared.error.ReplayError.{ReplayError}
 use Rattle.replay_core.specs.declared.error.ReplayError.TheVariants as error
 use Rattle.replay_core.specs.declared.status.Status.TheVariants as status

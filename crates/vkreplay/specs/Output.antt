@@ -6,7 +6,7 @@ use Rattle.replay_model.specs.Judged.{judged}
 use Rattle.replay_model.specs.Text.{reports_in, end_of}
 use Rattle.replay_core.specs.Setups.{one_driver}
 use Rattle.replay_core.specs.Played.{text_of}
-use Rattle.replay_core.specs.Stop.{Stop, stop, events_of}
+use Rattle.replay_model.specs.Stop.{Stop, stop, events_of}
 use Rattle.replay_core.specs.declared.status.Status.{Status}
 use Rattle.replay_core.specs.declared.status.Status.TheVariants as status
 use Rattle.vkreplay.specs.Said.{Said, fault_line}

@@ -2,7 +2,7 @@ use Rattle.std.proofs.Common.{◌≡◌, ◌≤◌, ◌+◌, length}
 use Rattle.replay_base.specs.Lines.{lines_of}
 use Rattle.trace_format.specs.PlainForm.{at_start}
 use Rattle.replay_core.specs.Kept.{has_open}
-use Rattle.replay_core.specs.Stop.{stop_from}
+use Rattle.replay_model.specs.Stop.{stop_from}
 use Rattle.replay_core.proofs.Progress.{SoFar}
 use Rattle.replay_core.proofs.play.play.Given as goal
 
