@@ -19,6 +19,7 @@ ghost use Rattle.replay_model.specs.Places.{parts_in_force};
 ghost use Rattle.replay_model.specs.Direct.{direct, exchanges, exchanges_at, sends_at, sends_in};
 ghost use Rattle.replay_model.specs.Text.{lines, lines_at, skipped_in};
 ghost use Rattle.replay_model.specs.Less.{less, no_layers};
+ghost use Rattle.replay_model.specs.Stop.{events_of};
 
 use object_model::Object;
 use trace_format::Name;
@@ -65,6 +66,19 @@ pub fn skipped_calls_are_not_sent()
         exchanges (judged (no_layers s) (less (judged s events))) replies ≡ exchanges (judged s events) replies }
     ensures skipped { (s : Setup) (events : List TraceEvent) → are_accepted events ≡ true →
         skipped_in (judged (no_layers s) (less (judged s events))) ≡ 0 }
+{}
+
+/// The events of a plain trace, up to its stop, may each follow those before it, so that what is said of accepted events holds of them.
+pub fn plain_traces_are_accepted()
+    ensures { (bytes : List ℕ) → are_accepted (events_of bytes) ≡ true }
+{}
+
+/// So the drivers of a plain trace are told just what the trace less its skipped calls tells them with no layers.
+pub fn skipped_calls_of_a_plain_trace_are_not_sent()
+    ensures calls { (s : Setup) (bytes : List ℕ) (replies : List ReplyContent) →
+        direct (judged (no_layers s) (less (judged s (events_of bytes)))) replies ≡ direct (judged s (events_of bytes)) replies }
+    ensures exchanges { (s : Setup) (bytes : List ℕ) (replies : List ReplyContent) →
+        exchanges (judged (no_layers s) (less (judged s (events_of bytes)))) replies ≡ exchanges (judged s (events_of bytes)) replies }
 {}
 
 /// The judged calls are those of the events: as many have begun, and a thread has an open one where its events say so.
