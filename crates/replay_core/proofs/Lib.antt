@@ -9,11 +9,14 @@ pub mod Openings
 pub mod Telling
 pub mod Joined
 pub mod Objects
+pub mod Found
+pub mod Same
+pub mod Living
 pub mod OneDriver
 pub mod Simulation
 pub mod Steps
 pub mod Shapes
-pub mod Values
+pub mod Valuing
 pub mod Opens
 pub mod Retrieving
 pub mod Runs

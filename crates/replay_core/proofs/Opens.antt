@@ -2,6 +2,7 @@
 use Rattle.std.proofs.Common.{◌≡◌, ℕ, Bool, true, false, cond, not, Some, None, List, [], ◌∷◌, ◌++◌, refl, ◌∙◌, ap}
 use Rattle.std.specs.Prelude.{find, filter, is_some}
 use Rattle.std.proofs.lemmas.Bool.{eq-eqb}
+use Rattle.object_model.specs.declared.Object.{Object}
 use Rattle.replay_model.specs.Past.{Opened, is_of}
 use Rattle.replay_model.specs.Direct.{Sent}
 use Rattle.replay_core.specs.Kept.{Kept, after_call, has_open, answered_by}
@@ -23,8 +24,8 @@ none_left p (x ∷ xs) = go (p x) refl (none_left p xs)
     go false is ih = rw is ih
 
 -- after a begin its thread has an open call
-pub opens_after : (k new : Kept) (o : Opened) (n : ℕ) (handles : List ℕ) → new ≡ after_call k o n handles → has_open new o.thread ≡ true
-opens_after k new o n handles is =
+pub opens_after : (k new : Kept) (o : Opened) (n : ℕ) (handles : List ℕ) (living : List Object) → new ≡ after_call k o n handles living → has_open new o.thread ≡ true
+opens_after k new o n handles living is =
     ap (λ (x : Kept). has_open x o.thread) is
     ∙ found_behind (λ (c : Sent). is_of o.thread c.opened) k.sent (record { opened = o; answers = answered_by o.drivers handles }) (eq-eqb o.thread o.thread refl)
 

@@ -1,22 +1,25 @@
 -- What is found among entries.
-use Rattle.std.proofs.Common.{◌≡◌, ℕ, ◌&&◌, Bool, true, false, not, cond, filter, Option, Some, None, List, [], ◌∷◌, map, refl, ap, sym, ◌∙◌, reverse, ◌++◌}
+use Rattle.std.proofs.Common.{◌≡◌, ℕ, ◌&&◌, ◌||◌, slice_get, Bool, true, false, not, cond, filter, Option, Some, None, List, [], ◌∷◌, map, refl, ap, sym, ◌∙◌, reverse, ◌++◌}
 use Rattle.std.specs.List.{list_any, find}
-use Rattle.std.specs.Option.{option_map_or, option_map}
+use Rattle.std.specs.Option.{option_map_or, option_map, option_and_then}
 use Rattle.std.proofs.lemmas.List.{reverse-append, map-append}
 use Rattle.std.specs.Prelude.{is_some, unwrap_or}
 use Rattle.object_model.specs.declared.Object.{Object}
 use Rattle.object_model.specs.Objects.{same}
 use Rattle.object_model.specs.History.{Birth, born_in, created_in, owners_in}
-use Rattle.replay_core.specs.declared.births.ObjectEntry.{ObjectEntry}
-use Rattle.replay_core.specs.Shown.{birth_of, births_shown, retrieval_of, retrieved_shown, value_of, values_shown, opened_of, sent_of}
+use Rattle.replay_core.specs.declared.birth_table.ObjectEntry.{ObjectEntry}
+use Rattle.replay_core.specs.declared.birth_table.BirthPlace.{BirthPlace}
+use Rattle.replay_core.specs.Shown.{birth_of, births_shown, place_of, is_creation, owners_found, value_of, values_shown, opened_of, sent_of, retrieval_of, retrieved_shown, has_key}
+use Rattle.replay_core.specs.declared.retrieved_table.RetrievedEntry.{RetrievedEntry}
+use Rattle.replay_core.specs.declared.retrieved_table.RetrievedKey.{RetrievedKey}
+use Rattle.replay_core.specs.Places.{first_place, last_place}
+use Rattle.replay_core.proofs.Found.{find_first, find_last, any_first}
+use Rattle.replay_core.proofs.Objects.{list_any-append}
 use Rattle.replay_core.specs.declared.call.OpenCall.{OpenCall}
 use Rattle.replay_model.specs.Direct.{Sent, Valued, last_values, value_for}
-use Rattle.replay_core.specs.declared.names.ValueEntry.{ValueEntry}
-use Rattle.replay_core.specs.declared.call.RetrievedEntry.{RetrievedEntry}
-use Rattle.replay_model.specs.Past.{Opened, is_of, Retrieval, key_payload}
-use Rattle.replay_model.specs.Births.{retrieved_object, own_object, is_kept}
-use Rattle.command_tables.specs.declared.types.ObjectType.{ObjectType}
-use Rattle.trace_format.specs.declared.event.Name.{Name}
+use Rattle.replay_core.specs.declared.value_table.ValueEntry.{ValueEntry}
+use Rattle.replay_model.specs.Past.{is_of, Retrieval}
+use Rattle.replay_model.specs.Births.{is_kept}
 use Rattle.replay_core.proofs.Lists.{list_any_map, find_map, mapped}
 
 pub born_shown : (es : List ObjectEntry) (o : Object) → born_in (births_shown es) o ≡ list_any (λ (e : ObjectEntry). same e.object o) es
@@ -25,10 +28,6 @@ born_shown es o = list_any_map (λ (b : Birth). same b.object o) birth_of es
 pub created_shown : (es : List ObjectEntry) (o : Object) → created_in (births_shown es) o ≡ list_any (λ (e : ObjectEntry). same e.object o && e.created) es
 created_shown es o = list_any_map (λ (b : Birth). same b.object o && b.created) birth_of es
 
-abbrev pub owners_found : Option ObjectEntry → List Object
-owners_found None = []
-owners_found (Some e) = e.owners.items
-
 owners_mapped : (f : Option ObjectEntry) → option_map_or (λ (b : Birth). b.owners) (mapped birth_of f) [] ≡ owners_found f
 owners_mapped None = refl
 owners_mapped (Some e) = refl
@@ -36,26 +35,6 @@ owners_mapped (Some e) = refl
 pub owners_shown : (es : List ObjectEntry) (o : Object) → owners_in (births_shown es) o ≡ owners_found (find (λ (e : ObjectEntry). same e.object o) es)
 owners_shown es o =
     ap (λ r. option_map_or (λ (b : Birth). b.owners) r []) (find_map (λ (b : Birth). same b.object o) birth_of es) ∙ owners_mapped (find (λ (e : ObjectEntry). same e.object o) es)
-
--- an entry that is found, or the object given
-abbrev pub object_found : Object → Option RetrievedEntry → Object
-object_found new None = new
-object_found new (Some e) = e.object
-
-kept_mapped : (new : Object) (f : Option RetrievedEntry) → option_map_or (λ (r : Retrieval). r.object) (mapped retrieval_of f) new ≡ object_found new f
-kept_mapped new None = refl
-kept_mapped new (Some e) = refl
-
-pub kept_found : (es : List RetrievedEntry) (o : Opened) (owner : Option Object) (t : ObjectType) (place : ℕ) (name : Name)
-    → retrieved_object (retrieved_shown es) o owner t place name ≡ object_found (own_object t name) (find (λ (e : RetrievedEntry). is_kept t owner place (key_payload o.cmd o.payload) (retrieval_of e)) es)
-kept_found es o owner t place name =
-    ap (λ (r : Option Retrieval). option_map_or (λ (x : Retrieval). x.object) r (own_object t name)) (find_map (is_kept t owner place (key_payload o.cmd o.payload)) retrieval_of es)
-    ∙ kept_mapped (own_object t name) (find (λ (e : RetrievedEntry). is_kept t owner place (key_payload o.cmd o.payload) (retrieval_of e)) es)
-
-pub kept_at : (es : List RetrievedEntry) (o : Opened) (owner : Option Object) (t : ObjectType) (place : ℕ) (name : Name) (payload : List ℕ) (f : Option RetrievedEntry)
-    → payload ≡ key_payload o.cmd o.payload → f ≡ find (λ (e : RetrievedEntry). is_kept t owner place payload (retrieval_of e)) es → object_found (own_object t name) f ≡ retrieved_object (retrieved_shown es) o owner t place name
-kept_at es o owner t place name payload f same is =
-    ap (object_found (own_object t name)) (is ∙ ap (λ bs. find (λ (e : RetrievedEntry). is_kept t owner place bs (retrieval_of e)) es) same) ∙ sym (kept_found es o owner t place name)
 
 pub sent_filter : (thread : ℕ) (cs : List OpenCall) → map sent_of (filter (λ c. not (is_of thread (opened_of c))) cs) ≡ filter (λ (c : Sent). not (is_of thread c.opened)) (map sent_of cs)
 sent_filter thread [] = refl
@@ -96,7 +75,67 @@ told_mapped None = refl
 told_mapped (Some v) = refl
 
 -- what is told is the last value, and 0 where there is none
-pub value_told : (vs : List ValueEntry) (o : Object) → value_for 0 (last_values (values_shown vs) o) ≡ unwrap_or (option_map (λ (v : ValueEntry). v.value) (find (λ (v : ValueEntry). same v.object o) (reverse vs))) 0
+value_told : (vs : List ValueEntry) (o : Object) → value_for 0 (last_values (values_shown vs) o) ≡ unwrap_or (option_map (λ (v : ValueEntry). v.value) (find (λ (v : ValueEntry). same v.object o) (reverse vs))) 0
 value_told vs o =
     ap (λ xs. value_for 0 (option_map_or (λ (v : Valued). v.values) (find (λ (v : Valued). same v.object o) xs) [])) (reverse_shown vs)
     ∙ (ap (λ f. value_for 0 (option_map_or (λ (v : Valued). v.values) f [])) (find_map (λ (v : Valued). same v.object o) value_of (reverse vs)) ∙ told_mapped (find (λ (v : ValueEntry). same v.object o) (reverse vs)))
+
+-- and stands in the last place of its object
+pub value_indexed : (vs : List ValueEntry) (o : Object) (p : Option ℕ) → p ≡ last_place (λ (v : ValueEntry). same v.object o) vs
+    → value_for 0 (last_values (values_shown vs) o) ≡ unwrap_or (option_map (λ (v : ValueEntry). v.value) (option_and_then (slice_get vs) p)) 0
+value_indexed vs o p is =
+    value_told vs o ∙ ap (λ (f : Option ValueEntry). unwrap_or (option_map (λ (v : ValueEntry). v.value) f) 0) (find_last (λ (v : ValueEntry). same v.object o) vs ∙ ap (option_and_then (slice_get vs)) (sym is))
+
+-- ---- births
+
+is_placed : (p : Option BirthPlace) → is_some p ≡ is_some (place_of p)
+is_placed None = refl
+is_placed (Some p) = refl
+
+-- an object that has a place was born
+pub born_indexed : (es : List ObjectEntry) (o : Object) (p : Option BirthPlace) → place_of p ≡ first_place (λ (e : ObjectEntry). same e.object o) es → born_in (births_shown es) o ≡ is_some p
+born_indexed es o p is = born_shown es o ∙ (any_first (λ (e : ObjectEntry). same e.object o) es ∙ (ap (λ (f : Option ℕ). is_some f) (sym is) ∙ sym (is_placed p)))
+
+-- and was created where its place says so
+pub created_indexed : (es : List ObjectEntry) (o : Object) (p : Option BirthPlace) → is_creation p ≡ list_any (λ (e : ObjectEntry). same e.object o && e.created) es → created_in (births_shown es) o ≡ is_creation p
+created_indexed es o p is = created_shown es o ∙ sym is
+
+-- and has the owners that stand there
+pub owners_indexed : (es : List ObjectEntry) (o : Object) (p : Option BirthPlace) → place_of p ≡ first_place (λ (e : ObjectEntry). same e.object o) es
+    → owners_in (births_shown es) o ≡ owners_found (option_and_then (slice_get es) (place_of p))
+owners_indexed es o p is = owners_shown es o ∙ ap owners_found (find_first (λ (e : ObjectEntry). same e.object o) es ∙ ap (option_and_then (slice_get es)) (sym is))
+
+-- the creations of a list with one birth more, where the flag of an object is set by any of them
+pub creations_more : (es : List ObjectEntry) (e : ObjectEntry) (f g : Object → Bool) → ((o : Object) → f o ≡ list_any (λ (x : ObjectEntry). same x.object o && x.created) es)
+    → ((o : Object) → g o ≡ cond (same e.object o) (f e.object || e.created) (f o)) → ((o : Object) → same e.object o ≡ true → e.object ≡ o)
+    → (o : Object) → g o ≡ list_any (λ (x : ObjectEntry). same x.object o && x.created) (es ++ e ∷ [])
+creations_more es e f g is more one o =
+    more o ∙ (go (same e.object o) refl ∙ sym (list_any-append (λ (x : ObjectEntry). same x.object o && x.created) es (e ∷ [])))
+  where
+    or_none : (b : Bool) → b ≡ (b || (false || false))
+    or_none true = refl
+    or_none false = refl
+
+    or_here : (b c : Bool) → (b || c) ≡ (b || (c || false))
+    or_here true c = refl
+    or_here false true = refl
+    or_here false false = refl
+
+    go : (t : Bool) → same e.object o ≡ t → cond t (f e.object || e.created) (f o) ≡ (list_any (λ (x : ObjectEntry). same x.object o && x.created) es || ((same e.object o && e.created) || false))
+    go true s =
+        ap (λ b. b || e.created) (ap f (one o s) ∙ is o)
+        ∙ (or_here (list_any (λ (x : ObjectEntry). same x.object o && x.created) es) e.created ∙ ap (λ u. list_any (λ (x : ObjectEntry). same x.object o && x.created) es || ((u && e.created) || false)) (sym s))
+    go false s = is o ∙ (or_none (list_any (λ (x : ObjectEntry). same x.object o && x.created) es) ∙ ap (λ u. list_any (λ (x : ObjectEntry). same x.object o && x.created) es || ((u && e.created) || false)) (sym s))
+
+-- ---- retrieved objects
+
+object_mapped : (f : Option RetrievedEntry) → option_map (λ (r : Retrieval). r.object) (mapped retrieval_of f) ≡ option_map (λ (e : RetrievedEntry). e.object) f
+object_mapped None = refl
+object_mapped (Some e) = refl
+
+-- an object that has a key stands in the first place of that key
+pub kept_indexed : (es : List RetrievedEntry) (k : RetrievedKey) (p : Option ℕ) → p ≡ first_place (has_key k) es
+    → option_map (λ (r : Retrieval). r.object) (find (is_kept k.ty (Some k.owner) k.place k.payload.items) (retrieved_shown es)) ≡ option_map (λ (e : RetrievedEntry). e.object) (option_and_then (slice_get es) p)
+kept_indexed es k p is =
+    ap (option_map (λ (r : Retrieval). r.object)) (find_map (is_kept k.ty (Some k.owner) k.place k.payload.items) retrieval_of es)
+    ∙ (object_mapped (find (has_key k) es) ∙ ap (option_map (λ (e : RetrievedEntry). e.object)) (find_first (has_key k) es ∙ ap (option_and_then (slice_get es)) (sym is)))

@@ -1,14 +1,11 @@
 -- What a session keeps, as flat lists with the oldest first, and how a begin and a return change it. Source: this project.
-use Rattle.std.specs.Prelude.{ℕ, ◌+◌, Bool, false, not, ◌&&◌, ◌||◌, if◌then◌else◌, Option, Some, None, List, [], ◌∷◌, ◌++◌, map, filter, find, is_some, length}
-use Rattle.std.specs.List.{list_any}
-use Rattle.command_tables.specs.declared.types.Effect.{Effect}
-use Rattle.command_tables.specs.declared.types.Effect.TheVariants as eff
+use Rattle.std.specs.Prelude.{ℕ, ◌≡◌, ◌+◌, Bool, false, not, ◌&&◌, ◌||◌, if◌then◌else◌, Option, Some, None, List, [], ◌∷◌, ◌++◌, map, filter, find, is_some, length}
 use Rattle.command_tables.specs.Table.{row_of}
 use Rattle.trace_format.specs.Content.{BeginEvent}
 use Rattle.object_model.specs.declared.Object.{Object}
 use Rattle.object_model.specs.declared.Argument.{Argument}
-use Rattle.object_model.specs.Objects.{same, is_in, objects_in}
-use Rattle.object_model.specs.History.{Birth, born_in, created_in, births_given}
+use Rattle.object_model.specs.Objects.{is_in}
+use Rattle.object_model.specs.History.{Birth, born_in, ends_by, births_given}
 use Rattle.object_model.specs.Rules.{Failure, loader_failures}
 use Rattle.replay_model.specs.declared.Named.{Named}
 use Rattle.replay_model.specs.declared.Born.{Born}
@@ -19,7 +16,7 @@ use Rattle.replay_model.specs.Judged.{Begun}
 use Rattle.replay_model.specs.Direct.{Answered, Sent, Valued, valued_of}
 
 -- the numbers of calls, skipped calls and reports; the names with their objects; the values of each born name's object; all births, with their owners;
--- the births of objects that live; the retrieved objects with their keys; and the open calls with what was answered
+-- the objects that live, in any order; the retrieved objects with their keys; and the open calls with what was answered
 pub record Kept : Type 0 where
   pub calls : ℕ
   pub skipped : ℕ
@@ -27,7 +24,7 @@ pub record Kept : Type 0 where
   pub names : List Named
   pub values : List Valued
   pub births : List Birth
-  pub living : List Birth
+  pub living : List Object
   pub retrieved : List Retrieval
   pub sent : List Sent
 
@@ -67,57 +64,53 @@ begun_from number names living e =
 
 -- a begin by what is kept
 abbrev pub begun_at : Kept → BeginEvent → Begun
-begun_at k e = begun_from (k.calls + 1) k.names (born_in k.living) e
+begun_at k e = begun_from (k.calls + 1) k.names (is_in k.living) e
 
 -- the drivers of a call, each with these handles
 abbrev pub answered_by : List ℕ → List ℕ → List Answered
 answered_by drivers handles = map (λ d. record { driver = d; handles = handles }) drivers
 
--- a born object goes with a created object that is named: it is that object, or is owned by it at any depth
-abbrev pub goes_with : List Birth → Birth → Object → Bool
-goes_with births b named = (same b.object named || is_in b.owners named) && created_in births named
+-- the objects that live after a begin: a skipped call ends nothing
+abbrev pub LivesOn : List Birth → List Object → Opened → List Object → Type 0
+LivesOn births before o living = (x : Object) → is_in living x ≡ (is_in before x && (is_skipped o || not (ends_by births o.args (row_of o.cmd).effect x)))
 
--- the effect of a call ends a born object
-abbrev pub ends_birth : List Birth → List (List Argument) → Effect → Birth → Bool
-ends_birth births args (eff.Destroy p) b = list_any (goes_with births b) (objects_in args p)
-ends_birth births args (eff.Free p) b = list_any (goes_with births b) (objects_in args p)
-ends_birth births args (eff.Reset p) b = list_any (is_in b.owners) (objects_in args p)
-ends_birth births args _ b = false
-
--- what lives after a begin: a skipped call ends nothing
-abbrev pub living_after : List Birth → List Birth → Opened → List Birth
-living_after births living o = if is_skipped o then living else filter (λ b. not (ends_birth births o.args (row_of o.cmd).effect b)) living
-
--- what is kept after a begin with so many reports, and these handles of the driver
-abbrev pub after_call : Kept → Opened → ℕ → List ℕ → Kept
-after_call k o reports handles =
+-- what is kept after a begin with so many reports, these handles of the driver, and these objects that live
+abbrev pub after_call : Kept → Opened → ℕ → List ℕ → List Object → Kept
+after_call k o reports handles living =
     record k {
       calls = k.calls + 1;
       skipped = k.skipped + (if is_skipped o then 1 else 0);
       reports = k.reports + reports;
-      living = living_after k.births k.living o;
+      living = living;
       sent = k.sent ++ record { opened = o; answers = answered_by o.drivers handles } ∷ [];
     }
 
 -- the same of a judged begin
-abbrev pub after_begin : Kept → Begun → List ℕ → Kept
-after_begin k b handles = after_call k b.opened (length b.reports) handles
+abbrev pub after_begin : Kept → Begun → List ℕ → List Object → Kept
+after_begin k b handles living = after_call k b.opened (length b.reports) handles living
 
 -- ---- a return
 
 -- the results of an open call that are born, by what is kept
 abbrev pub made_at : Kept → Opened → List Born
-made_at k o = made_by 1 k.births (born_in k.living) k.retrieved o
+made_at k o = made_by 1 k.births (is_in k.living) k.retrieved o
 
--- what is kept after a return with these results and these answers
-abbrev pub after_return : Kept → Opened → List Born → List Answered → Kept
-after_return k o made answers =
-    let given = births_given k.births o.args (row_of o.cmd).effect (objects_of made) in
+-- what a return makes is born, as far as it isn't yet
+abbrev pub given_at : Kept → Opened → List Born → List Birth
+given_at k o made = births_given k.births o.args (row_of o.cmd).effect (objects_of made)
+
+-- the objects that live after these births
+abbrev pub LivesToo : List Object → List Birth → List Object → Type 0
+LivesToo before given living = (x : Object) → is_in living x ≡ (is_in before x || born_in given x)
+
+-- what is kept after a return with these results and these answers, and these objects that live
+abbrev pub after_return : Kept → Opened → List Born → List Answered → List Object → Kept
+after_return k o made answers living =
     record k {
       names = k.names ++ map named_of made;
       values = k.values ++ map (valued_of o answers) made;
-      births = k.births ++ given;
-      living = k.living ++ given;
+      births = k.births ++ given_at k o made;
+      living = living;
       retrieved = k.retrieved ++ retrieved_by k.births o made;
       sent = filter (λ c. not (is_of o.thread c.opened)) k.sent;
     }

@@ -1,10 +1,10 @@
 -- What a session keeps says the same as the events so far, and what one event more does. Events and replies stand newest first. Source: this project.
-use Rattle.std.specs.Prelude.{◌≡◌, ◌⊎◌, ℕ, true, List, [], ◌∷◌, ◌++◌, map, length}
-use Rattle.std.specs.List.{AllByRecursion}
+use Rattle.std.specs.Prelude.{◌≡◌, ◌⊎◌, ℕ, List, [], ◌∷◌, ◌++◌, map, length}
 use Rattle.command_tables.specs.Calls.{DriverCallContent, ReplyContent}
 use Rattle.trace_format.specs.Content.{TraceEvent}
 use Rattle.object_model.specs.declared.Object.{Object}
-use Rattle.object_model.specs.History.{Birth, born_in, owners_in, births, alive}
+use Rattle.object_model.specs.Objects.{is_in}
+use Rattle.object_model.specs.History.{births, alive}
 use Rattle.replay_model.specs.Past.{Past, calls_in, named, history, retrievals, open_calls}
 use Rattle.replay_model.specs.Judged.{judged}
 use Rattle.replay_model.specs.Direct.{valued, sent, sends_in, sends_at, exchanges_at}
@@ -12,11 +12,6 @@ use Rattle.replay_model.specs.Text.{skipped_in, reports_in, lines_at}
 use Rattle.replay_core.specs.Setups.{one_driver}
 use Rattle.replay_core.specs.Kept.{Kept}
 use Rattle.replay_core.specs.Logs.{Log, logged}
-
--- it is one of these births, or another of the same object, with the same owners
-pub record IsOwned (bs : List Birth) (b : Birth) : Type 0 where
-  pub born : born_in bs b.object ≡ true
-  pub owners : owners_in bs b.object ≡ b.owners
 
 -- what is kept is what later events read of a judged past, where the driver answered these replies, one for each of its calls
 pub record StandsFor (k : Kept) (past : Past) (replies : List ReplyContent) : Type 0 where
@@ -26,8 +21,7 @@ pub record StandsFor (k : Kept) (past : Past) (replies : List ReplyContent) : Ty
   pub names : k.names ≡ named past
   pub values : k.values ≡ valued past replies
   pub born : k.births ≡ births (history past)
-  pub living : (o : Object) → born_in k.living o ≡ alive (history past) o
-  pub owners : AllByRecursion (IsOwned k.births) k.living
+  pub living : (o : Object) → is_in k.living o ≡ alive (history past) o
   pub retrieved : k.retrieved ≡ retrievals past
   pub open_calls : map (λ c. c.opened) k.sent ≡ open_calls past
   pub sent : k.sent ≡ sent past replies

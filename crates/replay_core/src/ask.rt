@@ -5,12 +5,13 @@ ghost use Rattle.command_tables.specs.declared.types.CommandId.TheVariants as cm
 ghost use Rattle.replay_model.specs.Direct.{driver_call};
 ghost use Rattle.replay_core.specs.Beginning.{CanBeTold};
 ghost use Rattle.replay_core.specs.Driver.{told};
-ghost use Rattle.replay_core.specs.Shown.{opened_of, values_shown};
+ghost use Rattle.replay_core.specs.Shown.{opened_of};
 ghost use Rattle.replay_core.specs.Stands.{Asked};
 
 use crate::call::OpenCall;
 use crate::driver::{Driver, DriverCall, DriverReply};
-use crate::names::{ValueEntry, values_of};
+use crate::told::values_of;
+use crate::value_table::ValueTable;
 use command_tables::{CommandId, LayerCall, NoMemory};
 use std::alloc::Global;
 
@@ -28,10 +29,10 @@ fn asked_of(call: &OpenCall) -> u32
 }
 
 // What the driver is told of a call.
-fn call_for(alloc: Global, values: &[ValueEntry], call: &OpenCall) -> Result<DriverCall, NoMemory>
+fn call_for(alloc: Global, values: &ValueTable, call: &OpenCall) -> Result<DriverCall, NoMemory>
     requires params { length call.now.args.items ≤ 6 }
     requires results { length call.now.results.items ≤ 1024 }
-    ensures { IfOk result (λ c. told c ≡ driver_call (values_shown values.now) (opened_of call.now) 0) }
+    ensures { IfOk result (λ c. told c ≡ driver_call values.now (opened_of call.now) 0) }
 {
     let args = values_of(alloc, values, &call.args)?;
     let payload = Vec::from_slice(alloc, &call.payload)?;
@@ -51,12 +52,12 @@ fn call_for(alloc: Global, values: &[ValueEntry], call: &OpenCall) -> Result<Dri
 #[tactic(auto, using(crate::proofs::Telling::few_params, crate::proofs::Telling::asked_so))]
 pub fn ask<D: Driver>(
     alloc: Global,
-    values: &[ValueEntry],
+    values: &ValueTable,
     call: &OpenCall,
     driver: &mut D,
 ) -> Result<Vec<u64>, NoMemory>
     requires { CanBeTold (opened_of call.now) }
-    ensures ok { IfOk result (λ handles. Asked (driver_call (values_shown values.now) (opened_of call.now) 0) handles.items (D.log driver.old) (D.log driver.new)) }
+    ensures ok { IfOk result (λ handles. Asked (driver_call values.now (opened_of call.now) 0) handles.items (D.log driver.old) (D.log driver.new)) }
     ensures err { OnErr result (D.log driver.new ≡ D.log driver.old) }
 {
     let request = call_for(alloc, values, call)?;

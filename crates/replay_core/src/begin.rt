@@ -1,21 +1,21 @@
 // How a call is judged at its begin.
 ghost use Rattle.std.specs.Prelude.{◌≡◌, ◌∷◌, [], ℕ, map, not, IfOk};
 ghost use Rattle.command_tables.specs.Table.{row_of, seen, seen_param};
-ghost use Rattle.object_model.specs.History.{born_in};
+ghost use Rattle.object_model.specs.Objects.{is_in};
 ghost use Rattle.object_model.specs.Rules.{parameter_holds, loader_failures, unless};
 ghost use Rattle.trace_format.specs.Content.{arg_content};
 ghost use Rattle.replay_model.specs.Places.{is_failing};
 ghost use Rattle.replay_core.specs.Kept.{begun_from};
 ghost use Rattle.replay_core.specs.Lines.{first_name};
-ghost use Rattle.replay_core.specs.Shown.{args_shown, births_shown, opened_of, sent_of};
+ghost use Rattle.replay_core.specs.Shown.{args_shown, opened_of};
 ghost use Rattle.replay_core.specs.Beginning.{begin_content};
 
-use crate::births::{ObjectEntry, is_born};
 use crate::call::OpenCall;
+use crate::name_table::NameTable;
 use crate::names::arguments;
+use crate::object_table::ObjectTable;
 use command_tables::{Code, CommandId, Param, row};
 use object_model::Argument;
-use replay_model::Named;
 use std::alloc::{AllocError, Global};
 use trace_format::{Name, TraceArg};
 
@@ -30,19 +30,19 @@ pub struct Beginning<'a> {
     pub payload: &'a [u8],
 }
 
-fn holds(living: &[ObjectEntry], param: &Param, argument: Argument) -> bool
-    ensures { result ≡ parameter_holds (born_in (births_shown living.now)) (seen_param param.now) argument }
+fn holds(objects: &ObjectTable, param: &Param, argument: Argument) -> bool
+    ensures { result ≡ parameter_holds (is_in objects.now.living) (seen_param param.now) argument }
 {
     match argument {
         Argument::Null => param.optional,
         Argument::Unborn => false,
-        Argument::The(object) => is_born(living, object),
+        Argument::The(object) => objects.is_living(object),
     }
 }
 
 #[tactic(auto, using(crate::proofs::Reports::failing_unless))]
-fn fails_first(living: &[ObjectEntry], params: &[Param], args: &[Vec<Argument>]) -> bool
-    ensures { result ≡ is_failing (loader_failures (born_in (births_shown living.now)) (map seen_param params.now) (args_shown args.now)) }
+fn fails_first(objects: &ObjectTable, params: &[Param], args: &[Vec<Argument>]) -> bool
+    ensures { result ≡ is_failing (loader_failures (is_in objects.now.living) (map seen_param params.now) (args_shown args.now)) }
 {
     match params {
         [] => false,
@@ -50,16 +50,16 @@ fn fails_first(living: &[ObjectEntry], params: &[Param], args: &[Vec<Argument>])
             [] => false,
             [at, ..] => match at.as_slice() {
                 [] => false,
-                [argument, ..] => !holds(living, param, *argument),
+                [argument, ..] => !holds(objects, param, *argument),
             },
         },
     }
 }
 
-fn is_reported(living: &[ObjectEntry], cmd: CommandId, args: &[Vec<Argument>]) -> bool
-    ensures { result ≡ is_failing (loader_failures (born_in (births_shown living.now)) (row_of cmd).params (args_shown args.now)) }
+fn is_reported(objects: &ObjectTable, cmd: CommandId, args: &[Vec<Argument>]) -> bool
+    ensures { result ≡ is_failing (loader_failures (is_in objects.now.living) (row_of cmd).params (args_shown args.now)) }
 {
-    fails_first(living, row(cmd).params, args)
+    fails_first(objects, row(cmd).params, args)
 }
 
 /// The name that stands first.
@@ -80,14 +80,14 @@ pub fn open_call(
     alloc: Global,
     number: u64,
     begin: Beginning,
-    names: &[Named],
-    living: &[ObjectEntry],
+    names: &NameTable,
+    objects: &ObjectTable,
 ) -> Result<OpenCall, AllocError>
-    ensures opened { IfOk result (λ c. opened_of c ≡ (begun_from number names.now (born_in (births_shown living.now)) (begin_content begin.entry)).opened) }
+    ensures opened { IfOk result (λ c. opened_of c ≡ (begun_from number names.now (is_in objects.now.living) (begin_content begin.entry)).opened) }
     ensures handles { IfOk result (λ c. c.handles.items ≡ []) }
 {
     let args = arguments(alloc, names, begin.args)?;
-    let skipped = is_reported(living, begin.cmd, &args);
+    let skipped = is_reported(objects, begin.cmd, &args);
     let mut results = Vec::new(alloc);
     results.extend_from_slice(begin.results)?;
     let mut payload = Vec::new(alloc);

@@ -1,4 +1,4 @@
-// Open calls, and what calls retrieved.
+// Open calls.
 ghost use Rattle.std.specs.Prelude.{◌≡◌, map, filter, not, is_some};
 ghost use Rattle.std.specs.List.{find};
 ghost use Rattle.std.specs.Option.{option_map};
@@ -6,7 +6,7 @@ ghost use Rattle.replay_model.specs.Past.{is_of};
 ghost use Rattle.replay_core.specs.Shown.{opened_of, sent_of};
 
 use command_tables::{Code, CommandId};
-use object_model::{Argument, Object};
+use object_model::Argument;
 use trace_format::Name;
 
 /// An open call, with what the driver answered.
@@ -21,15 +21,6 @@ pub struct OpenCall {
     pub payload: Vec<u8>,
     pub skipped: bool,
     pub handles: Vec<u64>,
-}
-
-/// A retrieved object with its owner and its key there.
-#[derive(Drop)]
-pub struct RetrievedEntry {
-    pub owner: Option<Object>,
-    pub place: usize,
-    pub payload: Vec<u8>,
-    pub object: Object,
 }
 
 /// The open call of a thread.

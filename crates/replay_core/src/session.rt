@@ -1,29 +1,31 @@
 // A session: what is kept of the events so far.
-ghost use Rattle.std.specs.Prelude.{◌≡◌, ◌+◌, ◌++◌, ◌∷◌, [], ℕ, true, false, map, OnOk, OnErr, IfErr};
+ghost use Rattle.std.specs.Prelude.{◌≡◌, ◌+◌, ◌++◌, [], true, false, map, OnOk, OnErr, IfErr};
 ghost use Rattle.command_tables.specs.Table.{row_of};
 ghost use Rattle.object_model.specs.History.{births_given};
 ghost use Rattle.trace_format.specs.Content.{Begin, Return, content};
 ghost use Rattle.trace_format.specs.Grammar.{IsBegin};
 ghost use Rattle.replay_model.specs.Past.{named_of, objects_of, retrieved_by};
 ghost use Rattle.replay_core.specs.Beginning.{begin_content, thread_of, BeginsCall};
-ghost use Rattle.replay_core.specs.Kept.{after_call, has_open};
+ghost use Rattle.replay_core.specs.Kept.{after_call, has_open, LivesOn, LivesToo};
 ghost use Rattle.replay_core.specs.Lines.{loader_line};
 ghost use Rattle.replay_core.specs.Logs.{Log};
-ghost use Rattle.replay_core.specs.Shown.{args_shown, births_shown, opened_of, retrieved_shown, valued_with, values_shown};
+ghost use Rattle.replay_core.specs.Shown.{args_shown, opened_of, valued_with};
 ghost use Rattle.replay_core.specs.Stands.{Advances, MayTell, Stands};
 
 use crate::ask::ask;
 use crate::begin::{Beginning, name_at_first, open_call};
-use crate::births::{ObjectEntry, bear, end_some};
-use crate::call::{OpenCall, RetrievedEntry, close, find_open, has_open};
+use crate::call::{OpenCall, close, find_open, has_open};
 use crate::driver::Driver;
 use crate::error::SessionError;
 use crate::lines::{report, return_line};
 use crate::made::{effect_of, keep_names, keep_retrieved, keep_values, made};
-use crate::names::ValueEntry;
+use crate::name_table::NameTable;
+use crate::object_table::ObjectTable;
+use crate::retrieved_table::RetrievedTable;
 use crate::tally::Tally;
+use crate::value_table::ValueTable;
 use command_tables::NoMemory;
-use replay_model::{Born, Named};
+use replay_model::Born;
 use std::alloc::{AllocError, Global};
 use std::marker::Model;
 use trace_format::{Event, Name};
@@ -34,18 +36,17 @@ pub struct Session {
     calls: u64,
     skipped: u64,
     reports: u64,
-    names: Vec<Named>,
-    values: Vec<ValueEntry>,
-    births: Vec<ObjectEntry>,
-    living: Vec<ObjectEntry>,
-    retrieved: Vec<RetrievedEntry>,
+    names: NameTable,
+    values: ValueTable,
+    objects: ObjectTable,
+    retrieved: RetrievedTable,
     open_calls: Vec<OpenCall>,
 }
 
 impl Model for Session {
     ghost use Rattle.std.specs.Prelude.{◌≤◌, map};
     ghost use Rattle.replay_core.specs.Kept.{Kept};
-    ghost use Rattle.replay_core.specs.Shown.{births_shown, retrieved_shown, sent_of, values_shown};
+    ghost use Rattle.replay_core.specs.Shown.{sent_of};
 
     ghost Value = { Kept };
 
@@ -53,38 +54,37 @@ impl Model for Session {
       calls = s.calls;
       skipped = s.skipped;
       reports = s.reports;
-      names = s.names.items;
-      values = values_shown s.values.items;
-      births = births_shown s.births.items;
-      living = births_shown s.living.items;
-      retrieved = retrieved_shown s.retrieved.items;
+      names = s.names;
+      values = s.values;
+      births = s.objects.births;
+      living = s.objects.living;
+      retrieved = s.retrieved;
       sent = map sent_of s.open_calls.items;
     } };
 
     ghost invariant = { λ s. (s.skipped ≤ s.calls) × (s.reports ≤ s.calls) };
 }
 
-// What a return adds to each list.
+// What a return adds.
 fn settle(
     alloc: Global,
     call: &OpenCall,
     born: &[Born],
-    names: &mut Vec<Named>,
-    values: &mut Vec<ValueEntry>,
-    births: &mut Vec<ObjectEntry>,
-    living: &mut Vec<ObjectEntry>,
-    retrieved: &mut Vec<RetrievedEntry>,
+    names: &mut NameTable,
+    values: &mut ValueTable,
+    objects: &mut ObjectTable,
+    retrieved: &mut RetrievedTable,
 ) -> Result<(), AllocError>
-    ensures names { OnOk result (names.new.items ≡ names.old.items ++ map named_of born.now) }
-    ensures values { OnOk result (values_shown values.new.items ≡ values_shown values.old.items ++ map (valued_with call.now.handles.items) born.now) }
-    ensures births { OnOk result (births_shown births.new.items ≡ births_shown births.old.items ++ births_given (births_shown births.old.items) (args_shown call.now.args.items) (row_of call.now.cmd).effect (objects_of born.now)) }
-    ensures living { OnOk result (births_shown living.new.items ≡ births_shown living.old.items ++ births_given (births_shown births.old.items) (args_shown call.now.args.items) (row_of call.now.cmd).effect (objects_of born.now)) }
-    ensures retrieved { OnOk result (retrieved_shown retrieved.new.items ≡ retrieved_shown retrieved.old.items ++ retrieved_by (births_shown births.old.items) (opened_of call.now) born.now) }
+    ensures names { OnOk result (names.new ≡ names.old ++ map named_of born.now) }
+    ensures values { OnOk result (values.new ≡ values.old ++ map (valued_with call.now.handles.items) born.now) }
+    ensures births { OnOk result (objects.new.births ≡ objects.old.births ++ births_given objects.old.births (args_shown call.now.args.items) (row_of call.now.cmd).effect (objects_of born.now)) }
+    ensures living { OnOk result (LivesToo objects.old.living (births_given objects.old.births (args_shown call.now.args.items) (row_of call.now.cmd).effect (objects_of born.now)) objects.new.living) }
+    ensures retrieved { OnOk result (retrieved.new ≡ retrieved.old ++ retrieved_by objects.old.births (opened_of call.now) born.now) }
 {
     keep_names(names, born)?;
     keep_values(values, &call.handles, born)?;
-    keep_retrieved(alloc, retrieved, births, call, born)?;
-    bear(alloc, births, living, &call.args, effect_of(call.cmd), born)?;
+    keep_retrieved(alloc, retrieved, objects.births(), call, born)?;
+    objects.bear(alloc, &call.args, effect_of(call.cmd), born)?;
     Ok(())
 }
 
@@ -97,11 +97,10 @@ impl Session {
             calls: 0,
             skipped: 0,
             reports: 0,
-            names: Vec::new(alloc),
-            values: Vec::new(alloc),
-            births: Vec::new(alloc),
-            living: Vec::new(alloc),
-            retrieved: Vec::new(alloc),
+            names: NameTable::new(alloc),
+            values: ValueTable::new(alloc),
+            objects: ObjectTable::new(alloc),
+            retrieved: RetrievedTable::new(alloc),
             open_calls: Vec::new(alloc),
         }
     }
@@ -116,7 +115,7 @@ impl Session {
         requires skipped { call.skipped ≡ true }
         requires number { call.number ≡ self.old.calls + 1 }
         requires handles { call.handles.items ≡ [] }
-        ensures kept { OnOk result (self.new ≡ after_call self.old (opened_of call) 1 []) }
+        ensures kept { OnOk result (self.new ≡ after_call self.old (opened_of call) 1 [] self.old.living) }
         ensures lines { OnOk result (lines.new.items ≡ lines.old.items ++ loader_line call.number call.cmd name) }
     {
         report(call.number, call.cmd, name, lines)?;
@@ -131,15 +130,11 @@ impl Session {
     fn put(&mut self, call: OpenCall, handles: Vec<u64>) -> Result<(), AllocError>
         requires sent { call.skipped ≡ false }
         requires number { call.number ≡ self.old.calls + 1 }
-        ensures { OnOk result (self.new ≡ after_call self.old (opened_of call) 0 handles.items) }
+        ensures kept { OnOk result (self.new ≡ after_call self.old (opened_of call) 0 handles.items self.new.living) }
+        ensures living { OnOk result (LivesOn self.old.births self.old.living (opened_of call) self.new.living) }
     {
         let mut call = call;
-        end_some(
-            &mut self.living,
-            &self.births,
-            &call.args,
-            effect_of(call.cmd),
-        );
+        self.objects.end_some(&call.args, effect_of(call.cmd));
         self.calls = call.number;
         call.handles = handles;
         self.open_calls.push(call)?;
@@ -162,7 +157,7 @@ impl Session {
         ensures calls { OnOk result (self.new.calls ≡ number) }
         ensures opens { OnOk result (has_open self.new begin.entry.thread ≡ true) }
     {
-        let call = open_call(alloc, number, begin, &self.names, &self.living)?;
+        let call = open_call(alloc, number, begin, &self.names, &self.objects)?;
         if call.skipped {
             self.skip(call, name_at_first(begin.args), lines)?;
             Ok(())
@@ -231,15 +226,14 @@ impl Session {
         match find_open(&self.open_calls, thread) {
             None => Ok(()),
             Some(call) => {
-                let born = made(alloc, &self.births, &self.living, &self.retrieved, call)?;
+                let born = made(alloc, &self.objects, &self.retrieved, call)?;
                 settle(
                     alloc,
                     call,
                     &born,
                     &mut self.names,
                     &mut self.values,
-                    &mut self.births,
-                    &mut self.living,
+                    &mut self.objects,
                     &mut self.retrieved,
                 )?;
                 return_line(call, born.len(), lines)?;

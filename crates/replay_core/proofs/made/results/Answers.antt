@@ -3,7 +3,7 @@ use Rattle.command_tables.specs.declared.types.Effect.TheVariants as eff
 use Rattle.command_tables.specs.Table.{row_of}
 use Rattle.replay_model.specs.declared.Born.{Born}
 use Rattle.replay_model.specs.Past.{owner_by}
-use Rattle.replay_core.specs.Shown.{births_shown, opened_of, retrieved_shown}
+use Rattle.replay_core.specs.Shown.{opened_of}
 use Rattle.replay_core.proofs.Retrieving.{retrieved_all}
 use Rattle.replay_core.proofs.made.results.Goals as goal
 
@@ -11,7 +11,7 @@ pub returns-in-Retrieve : goal.returns-in-Retrieve
 returns-in-Retrieve c =
     let o = opened_of c.args.call.now in
     let is : (row_of c.args.call.now.cmd).effect ≡ eff.Retrieve c.in-Retrieve.ty c.in-Retrieve.owner c.in-Retrieve.many = cc in
-    let who : c.owner-owner.result ≡ owner_by (births_shown c.args.births.now) o.args (eff.Retrieve c.in-Retrieve.ty c.in-Retrieve.owner c.in-Retrieve.many) = cc in
+    let who : c.owner-owner.result ≡ owner_by c.args.births.now o.args (eff.Retrieve c.in-Retrieve.ty c.in-Retrieve.owner c.in-Retrieve.many) = cc in
     subst (λ (xs : List Born). IfOk c.retrieved_results.result (λ v. v.items ≡ xs))
-    (retrieved_all (births_shown c.args.births.now) (retrieved_shown c.args.entries.now) o c.in-Retrieve.ty c.in-Retrieve.owner c.in-Retrieve.many c.owner-owner.result c.bearable_results-in-Retrieve.result.now is who
+    (retrieved_all c.args.births.now c.args.table.now o c.in-Retrieve.ty c.in-Retrieve.owner c.in-Retrieve.many c.owner-owner.result c.bearable_results-in-Retrieve.result.now is who
     c.bearable_results-in-Retrieve.ensures) c.retrieved_results.ensures

@@ -1,12 +1,14 @@
-use Rattle.std.proofs.Common.{◌∙◌, Some, None}
+use Rattle.std.proofs.Common.{◌∙◌, ap, sym, Option}
+use Rattle.std.specs.Option.{option_map_or}
+use Rattle.replay_model.specs.Past.{Retrieval, key_payload}
+use Rattle.replay_model.specs.Births.{own_object, retrieved_object}
+use Rattle.object_model.specs.declared.Object.{Object}
 use Rattle.replay_core.specs.Shown.{opened_of}
-use Rattle.replay_core.proofs.Shown.{kept_at}
+use Rattle.replay_core.proofs.Same.{none_kept}
 use Rattle.replay_core.proofs.made.retrieved.Goals as goal
 
 pub returns-in-None : goal.returns-in-None
 returns-in-None c =
-    c.own.ensures ∙ kept_at c.args.entries.now (opened_of c.args.call.now) c.args.owner c.args.ty c.args.place c.args.name c.key_of.result.now None c.key_of.ensures c.in-None.ensures
-
-pub returns-in-Some : goal.returns-in-Some
-returns-in-Some c =
-    kept_at c.args.entries.now (opened_of c.args.call.now) c.args.owner c.args.ty c.args.place c.args.name c.key_of.result.now (Some c.in-Some.entry.now) c.key_of.ensures c.in-Some.ensures
+    c.own.ensures
+    ∙ sym (ap (λ (f : Option Retrieval). option_map_or (λ (r : Retrieval). r.object) f (own_object c.args.ty c.args.name)) (none_kept c.args.ty c.args.place (key_payload c.args.call.now.cmd c.args.call.now.payload.items) c.args.table.now))
+    ∙ ap (λ (w : Option Object). retrieved_object c.args.table.now (opened_of c.args.call.now) w c.args.ty c.args.place c.args.name) (sym c.in-None.is)
