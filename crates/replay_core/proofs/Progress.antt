@@ -1,26 +1,32 @@
 -- How far a replay has come in the lines of a trace.
-use Rattle.std.proofs.Common.{◌≡◌, ◌∙◌, ℕ, Option, Some, None, List, [], ◌∷◌, ◌++◌, refl, sym, ap, subst, append_assoc, inl, inr, arith}
+use Rattle.std.proofs.Common.{◌≡◌, ◌∙◌, ℕ, ◌+◌, Option, Some, None, List, [], ◌∷◌, ◌++◌, refl, sym, ap, subst, append_assoc, inl, inr, arith}
 use Rattle.std.specs.Prelude.{◌⊎◌, cond, nat_lt, length, ◌≤◌, true, false}
+use Rattle.std.proofs.lemmas.List.{length-append, length-map}
 use Rattle.replay_base.specs.Lines.{lines_of}
 use Rattle.trace_format.specs.declared.fault.TraceFault.{TraceFault}
 use Rattle.trace_format.specs.Content.{TraceEvent}
 use Rattle.trace_format.specs.Plain.{plain_event}
 use Rattle.trace_format.specs.PlainForm.{PlainState, at_start, after, fault_at}
 use Rattle.replay_core.specs.Kept.{Kept}
-use Rattle.replay_core.specs.Logs.{Log}
-use Rattle.replay_core.specs.Played.{text_of, Played, CutInLines, CutBefore, IsFront, BrokeInLines, Broke, RanOut}
+use Rattle.replay_core.specs.Logs.{Log, logged}
+use Rattle.replay_core.specs.Played.{text_of, Told, Played, CutInLines, CutBefore, IsFront, BrokeInLines, Broke, RanOut}
 use Rattle.replay_core.specs.Stands.{Stands}
 use Rattle.replay_core.proofs.Runs.{played_none, front_behind}
 use Rattle.replay_model.specs.Stop.{stop, stop_at, is_header, events_or, events_from, events_in, events_of, unless_refused}
 use Rattle.replay_core.specs.Setups.{one_driver}
 use Rattle.replay_core.specs.Gave.{Gave}
-use Rattle.replay_core.specs.Replayed.{Whole, Ended, StoppedAt}
+use Rattle.replay_core.specs.Replayed.{Heard, Whole, Ended, StoppedAt}
 use Rattle.command_tables.specs.Calls.{ReplyContent}
 use Rattle.replay_base.specs.Bytes.{grown, GrownByFront}
 use Rattle.replay_base.proofs.Written.{grown_grown}
-use Rattle.replay_model.specs.Past.{calls_in}
+use Rattle.replay_model.specs.Past.{Past, Began, Returned, calls_in}
 use Rattle.replay_model.specs.Judged.{judged}
+use Rattle.replay_model.specs.Direct.{before_call, valued, driver_call, driver_calls, direct, sends_in}
+use Rattle.replay_model.specs.Less.{less, no_layers}
 use Rattle.replay_model.specs.Text.{skipped_in, end_line, end_of}
+use Rattle.replay_model.proofs.Accepted.{begins-idle}
+use Rattle.replay_model.proofs.LessLemmas.{less-alike}
+use Rattle.replay_model.proofs.PlainTraces.{plain-accepted}
 
 -- the events so far were replayed, and what follows them is what the rest of the lines has
 pub record SoFar (k : Kept) (s : PlainState) (all rest : List (List ℕ)) (old_log log : Log) (old_held held : Option (List ℕ)) : Type 0 where
@@ -179,11 +185,42 @@ ran_out_at_end k events log0 log held0 held1 held2 p same = record {
   cut = record { replies = p.replies; told = p.told; wrote = same ∙ p.wrote; behind = inl refl };
 }
 
-pub ended : (k : Kept) (bytes : List ℕ) (left0 left : Option (List ℕ)) (log0 log : Log) (held0 held : Option (List ℕ)) → Gave left0 left bytes → stop bytes ≡ None → Whole k (events_of bytes) log0 log held0 held
-    → Ended k left0 left log0 log held0 held
-ended k bytes left0 left log0 log held0 held read none all = record { bytes = bytes; read = read; none = none; whole = all }
+-- as many driver calls as are counted
+count_direct : (past : Past) (replies : List ReplyContent) → length (direct past replies) ≡ sends_in past
+count_direct [] replies = refl
+count_direct (Began e o reports ∷ past) replies =
+    length-append (direct past (before_call o replies)) (driver_calls (valued past (before_call o replies)) o)
+    ∙ (ap (λ n. n + length (driver_calls (valued past (before_call o replies)) o)) (count_direct past (before_call o replies)) ∙ ap (λ n. sends_in past + n) (length-map o.drivers (driver_call (valued past (before_call o replies)) o)))
+count_direct (Returned o made ∷ past) replies = count_direct past replies
 
-pub stopped_in : (k : Kept) (bytes : List ℕ) (n : ℕ) (f : TraceFault) (left0 left : Option (List ℕ)) (log0 log : Log) (held0 held : Option (List ℕ)) → Gave left0 left bytes → stop bytes ≡ stop_at n f
-    → Played k (events_of bytes) log0 log held0 held → StoppedAt n f left0 left log0 log held0 held
-stopped_in k bytes n f left0 left log0 log held0 held read here p =
-    inl (record { bytes = bytes; read = read; here = here; done = record { replies = p.replies; told = p.told; wrote = p.wrote } })
+-- the same driver calls are as many
+as_many : (past fresh : Past) (replies : List ReplyContent) → direct fresh replies ≡ direct past replies → sends_in past ≡ sends_in fresh
+as_many past fresh replies same = sym (count_direct past replies) ∙ (ap length (sym same) ∙ count_direct fresh replies)
+
+-- the driver calls of a plain trace are those that it makes with no layers, less its skipped calls
+heard : (bytes : List ℕ) (replies : List ReplyContent) (log0 log : Log) → Told (events_of bytes) replies log0 log → Heard (events_of bytes) replies log0 log
+heard bytes replies log0 log t =
+    let past = judged one_driver (events_of bytes) in
+    let same = less-alike one_driver (events_of bytes) (begins-idle one_driver (events_of bytes) (plain-accepted bytes)) in
+    record {
+      each = t.each ∙ as_many past (judged (no_layers one_driver) (less past)) replies (same.calls replies);
+      told = t.told ∙ ap (logged log0) (sym (same.told replies));
+    }
+
+-- a whole run, of the bytes that were read
+pub ended : (k : Kept) (bytes same : List ℕ) (left0 left : Option (List ℕ)) (log0 log : Log) (held0 held : Option (List ℕ)) → Gave left0 left bytes → same ≡ bytes → stop same ≡ None → Whole k (events_of same) log0 log held0 held
+    → Ended k left0 left log0 log held0 held
+ended k bytes same left0 left log0 log held0 held read is none all =
+    record { bytes = same; read = subst (λ (bs : List ℕ). Gave left0 left bs) (sym is) read; none = none; whole = all; heard = heard same all.replies log0 log all.told }
+
+-- a run that stops, of the bytes that were read
+pub stopped_in : (k : Kept) (bytes same : List ℕ) (n : ℕ) (f : TraceFault) (left0 left : Option (List ℕ)) (log0 log : Log) (held0 held : Option (List ℕ)) → Gave left0 left bytes → same ≡ bytes → stop same ≡ stop_at n f
+    → Played k (events_of same) log0 log held0 held → StoppedAt n f left0 left log0 log held0 held
+stopped_in k bytes same n f left0 left log0 log held0 held read is here p =
+    inl (record {
+      bytes = same;
+      read = subst (λ (bs : List ℕ). Gave left0 left bs) (sym is) read;
+      here = here;
+      done = record { replies = p.replies; told = p.told; wrote = p.wrote };
+      heard = heard same p.replies log0 log p.told;
+    })

@@ -78,7 +78,7 @@ pub fn replay_main<S: Source, K: Sink, L: Sink, D: Driver>(
         → Gives (output bs) result.status (K.held out.old) (K.held out.new) (L.held errs.old) (L.held errs.new) (L.faults errs.old) (L.faults errs.new) ⊎ (result.status ≡ Status.NoMemory) }
 
     // Each status has its cause. The session that comes back stands for all events of the trace with the driver's own
-    // replies, and the driver was told just their calls.
+    // replies, and the driver was told just the calls that the trace less its skipped calls makes with no layers.
     ensures usage { (result.status ≡ Status.Usage) ↔ (IsRun words.now → ⊥) }
     ensures run { result.status ≢ Status.Usage → IsRun words.now }
     ensures session { IsSome result.session ↔ IsEnd result.status }
