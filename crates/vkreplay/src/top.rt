@@ -62,7 +62,7 @@ fn status_at_end(tally: Tally) -> Status
 
 /// Runs the program: `words` are the command line's without the program's name, and the one word `run` replays the trace.
 /// A failure of the error sink changes no status.
-#[tactic(auto, using(crate::proofs::Complete::ends, crate::proofs::Answered::ended_gives))]
+#[tactic(auto, using(crate::proofs::Complete::ends))]
 pub fn replay_main<S: Source, K: Sink, L: Sink, D: Driver>(
     alloc: Global,
     words: &[String],
