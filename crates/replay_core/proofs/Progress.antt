@@ -1,9 +1,11 @@
 -- How far a replay has come in the lines of a trace.
 use Rattle.std.proofs.Common.{◌≡◌, ◌∙◌, ℕ, ◌+◌, Option, Some, None, List, [], ◌∷◌, ◌++◌, refl, sym, ap, subst, append_assoc, inl, inr, arith}
-use Rattle.std.specs.Prelude.{◌⊎◌, cond, nat_lt, length, ◌≤◌, true, false}
+use Rattle.std.specs.Prelude.{◌⊎◌, Bool, cond, ◌&&◌, nat_lt, length, ◌≤◌, true, false}
+use Rattle.std.specs.Option.{is_none}
 use Rattle.std.proofs.lemmas.List.{length-append, length-map}
 use Rattle.replay_base.specs.Lines.{lines_of}
 use Rattle.trace_format.specs.declared.fault.TraceFault.{TraceFault}
+use Rattle.trace_format.specs.Accepting.{fault_after, are_accepted}
 use Rattle.trace_format.specs.Content.{TraceEvent}
 use Rattle.trace_format.specs.Plain.{plain_event}
 use Rattle.trace_format.specs.PlainForm.{PlainState, at_start, after, fault_at}
@@ -15,7 +17,7 @@ use Rattle.replay_core.proofs.Runs.{played_none, front_behind}
 use Rattle.replay_model.specs.Stop.{stop, stop_at, is_header, events_or, events_from, events_in, events_of, unless_refused}
 use Rattle.replay_core.specs.Setups.{one_driver}
 use Rattle.replay_core.specs.Gave.{Gave}
-use Rattle.replay_core.specs.Replayed.{Heard, Whole, Ended, StoppedAt}
+use Rattle.replay_core.specs.Replayed.{Heard, Whole, Ended, StoppedAt, HeardWhereBroke, BrokeIn, RanOutOf}
 use Rattle.command_tables.specs.Calls.{ReplyContent}
 use Rattle.replay_base.specs.Bytes.{grown, GrownByFront}
 use Rattle.replay_base.proofs.Written.{grown_grown}
@@ -197,15 +199,30 @@ count_direct (Returned o made ∷ past) replies = count_direct past replies
 as_many : (past fresh : Past) (replies : List ReplyContent) → direct fresh replies ≡ direct past replies → sends_in past ≡ sends_in fresh
 as_many past fresh replies same = sym (count_direct past replies) ∙ (ap length (sym same) ∙ count_direct fresh replies)
 
--- the driver calls of a plain trace are those that it makes with no layers, less its skipped calls
-heard : (bytes : List ℕ) (replies : List ReplyContent) (log0 log : Log) → Told (events_of bytes) replies log0 log → Heard (events_of bytes) replies log0 log
-heard bytes replies log0 log t =
-    let past = judged one_driver (events_of bytes) in
-    let same = less-alike one_driver (events_of bytes) (begins-idle one_driver (events_of bytes) (plain-accepted bytes)) in
+-- where two tests hold, the first does
+first_holds : (a b : Bool) → a && b ≡ true → a ≡ true
+first_holds true b h = refl
+first_holds false b h = cc
+
+-- where each event may follow those before it, so it is in each front of the events
+front_accepted : (later events : List TraceEvent) → are_accepted (later ++ events) ≡ true → are_accepted events ≡ true
+front_accepted [] events a = a
+front_accepted (e ∷ later) events a = front_accepted later events (first_holds (are_accepted (later ++ events)) (is_none (fault_after (later ++ events) e)) a)
+
+-- the driver calls of a front of a plain trace are those that it makes with no layers, less its skipped calls
+heard_front : (bytes : List ℕ) (events : List TraceEvent) (replies : List ReplyContent) (log0 log : Log) → IsFront (events_of bytes) events → Told events replies log0 log → Heard events replies log0 log
+heard_front bytes events replies log0 log front t =
+    let past = judged one_driver events in
+    let accepted = front_accepted front.later events (ap are_accepted (sym front.are) ∙ plain-accepted bytes) in
+    let same = less-alike one_driver events (begins-idle one_driver events accepted) in
     record {
       each = t.each ∙ as_many past (judged (no_layers one_driver) (less past)) replies (same.calls replies);
       told = t.told ∙ ap (logged log0) (sym (same.told replies));
     }
+
+-- and those of the whole trace
+heard : (bytes : List ℕ) (replies : List ReplyContent) (log0 log : Log) → Told (events_of bytes) replies log0 log → Heard (events_of bytes) replies log0 log
+heard bytes replies log0 log t = heard_front bytes (events_of bytes) replies log0 log (record { later = []; are = refl }) t
 
 -- a whole run, of the bytes that were read
 pub ended : (k : Kept) (bytes same : List ℕ) (left0 left : Option (List ℕ)) (log0 log : Log) (held0 held : Option (List ℕ)) → Gave left0 left bytes → same ≡ bytes → stop same ≡ None → Whole k (events_of same) log0 log held0 held
@@ -223,4 +240,25 @@ stopped_in k bytes same n f left0 left log0 log held0 held read is here p =
       here = here;
       done = record { replies = p.replies; told = p.told; wrote = p.wrote };
       heard = heard same p.replies log0 log p.told;
+    })
+
+-- a run that a fault of writing cut, of the bytes that were read
+pub broke_in : (bytes same : List ℕ) (left0 left : Option (List ℕ)) (log0 log : Log) (held0 held : Option (List ℕ)) → Gave left0 left bytes → same ≡ bytes → Broke (events_of same) log0 log held0 held
+    → BrokeIn left0 left log0 log held0 held
+broke_in bytes same left0 left log0 log held0 held read is broke =
+    record { bytes = same; read = subst (λ (bs : List ℕ). Gave left0 left bs) (sym is) read; broke = broke; heard = heard_so broke }
+  where
+    heard_so : (b : Broke (events_of same) log0 log held0 held) → HeardWhereBroke (events_of same) log0 log held0 held b
+    heard_so (inl b) = heard_front same b.events b.cut.replies log0 log b.front b.cut.told
+    heard_so (inr b) = heard same b.replies log0 log b.told
+
+-- a run that want of memory cut, of the bytes that were read
+pub ran_out_in : (bytes same : List ℕ) (left0 left : Option (List ℕ)) (log0 log : Log) (held0 held : Option (List ℕ)) → Gave left0 left bytes → same ≡ bytes → RanOut (events_of same) log0 log held0 held
+    → RanOutOf left0 left log0 log held0 held
+ran_out_in bytes same left0 left log0 log held0 held read is r =
+    inr (record {
+      bytes = same;
+      read = subst (λ (bs : List ℕ). Gave left0 left bs) (sym is) read;
+      ran_out = r;
+      heard = heard_front same r.events r.cut.replies log0 log r.front r.cut.told;
     })

@@ -1,5 +1,6 @@
 -- How a replay ends. Source: this project.
 use Rattle.std.specs.Prelude.{◌≡◌, ◌⊎◌, ◌++◌, ℕ, List, Option, None, length}
+use Rattle.std.proofs.Common.{inl, inr}
 use Rattle.trace_format.specs.declared.fault.TraceFault.{TraceFault}
 use Rattle.trace_format.specs.declared.fault.TraceFault.TheVariants as fault
 use Rattle.replay_core.specs.Gave.{Gave, GaveTooMuch}
@@ -69,17 +70,26 @@ pub record IsUntouched (old_log log : Log) (old_held held : Option (List ℕ)) :
 abbrev pub StoppedAt : ℕ → TraceFault → Option (List ℕ) → Option (List ℕ) → Log → Log → Option (List ℕ) → Option (List ℕ) → Type 0
 StoppedAt line f old new old_log log old_held held = StoppedIn line f old new old_log log old_held held ⊎ (StoppedBySize line f old new × IsUntouched old_log log old_held held)
 
--- the sink failed while the trace that was read was replayed
+-- where the sink failed, the driver was told just the calls of the events so far that weren't skipped
+abbrev pub HeardWhereBroke : (all : List TraceEvent) (old_log log : Log) (old_held held : Option (List ℕ)) → Broke all old_log log old_held held → Type 0
+HeardWhereBroke all old_log log old_held held (inl in_lines) = Heard in_lines.events in_lines.cut.replies old_log log
+HeardWhereBroke all old_log log old_held held (inr at_end) = Heard all at_end.replies old_log log
+
+-- the sink failed while the trace that was read was replayed, and the driver was told just the calls of the events so far that weren't
+-- skipped
 pub record BrokeIn (old new : Option (List ℕ)) (old_log log : Log) (old_held held : Option (List ℕ)) : Type 0 where
   pub bytes : List ℕ
   pub read : Gave old new bytes
   pub broke : Broke (events_of bytes) old_log log old_held held
+  pub heard : HeardWhereBroke (events_of bytes) old_log log old_held held broke
 
--- memory ran out while the trace that was read was replayed
+-- memory ran out while the trace that was read was replayed, and the driver was told just the calls of the events so far that weren't
+-- skipped
 pub record RanOutIn (old new : Option (List ℕ)) (old_log log : Log) (old_held held : Option (List ℕ)) : Type 0 where
   pub bytes : List ℕ
   pub read : Gave old new bytes
   pub ran_out : RanOut (events_of bytes) old_log log old_held held
+  pub heard : Heard ran_out.events ran_out.cut.replies old_log log
 
 -- memory ran out, before anything else was done or then
 abbrev pub RanOutOf : Option (List ℕ) → Option (List ℕ) → Log → Log → Option (List ℕ) → Option (List ℕ) → Type 0

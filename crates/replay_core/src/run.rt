@@ -149,7 +149,7 @@ fn play_whole<K: Sink, D: Driver>(
 
 /// Replays a trace: reads it whole, replays it line by line up to the first that stops it, and writes the text of each line,
 /// then the end line. Lines count from 1.
-#[tactic(auto, using(crate::proofs::Progress::ended, crate::proofs::Progress::stopped_in))]
+#[tactic(auto, using(crate::proofs::Progress::ended, crate::proofs::Progress::stopped_in, crate::proofs::Progress::broke_in, crate::proofs::Progress::ran_out_in))]
 pub fn replay<S: Source, K: Sink, D: Driver>(
     alloc: Global,
     trace: &mut S,

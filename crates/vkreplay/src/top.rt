@@ -90,7 +90,8 @@ pub fn replay_main<S: Source, K: Sink, L: Sink, D: Driver>(
     ensures write { result.status ≡ Status.WriteFault → Rose (K.faults out.old) (K.faults out.new) }
     ensures limit { result.status ≢ Status.Limit }
 
-    // What stands in the sink and the driver's log where a run is cut.
+    // What stands in the sink and the driver's log where a run is cut: here too the driver was told just the calls that the
+    // events so far less their skipped calls make with no layers.
     ensures untouched { (result.status ≡ Status.Usage) ⊎ (result.status ≡ Status.ReadFault) → IsUntouched (D.log driver.old) (D.log driver.new) (K.held out.old) (K.held out.new) }
     ensures broke { result.status ≡ Status.WriteFault → BrokeIn (S.left trace.old) (S.left trace.new) (D.log driver.old) (D.log driver.new) (K.held out.old) (K.held out.new) }
     ensures ran_out { result.status ≡ Status.NoMemory → RanOutOf (S.left trace.old) (S.left trace.new) (D.log driver.old) (D.log driver.new) (K.held out.old) (K.held out.new) }
