@@ -30,3 +30,31 @@ code_name code.ErrorOutOfDateKhr = codes "VK_ERROR_OUT_OF_DATE_KHR"
 code_name code.ErrorNativeWindowInUseKhr = codes "VK_ERROR_NATIVE_WINDOW_IN_USE_KHR"
 code_name code.ErrorUnknown = codes "VK_ERROR_UNKNOWN"
 code_name code.ErrorValidationFailedExt = codes "VK_ERROR_VALIDATION_FAILED_EXT"
+
+-- the place of a code in the list of codes, from 0: successes first, each kind in the order in which it is documented
+abbrev pub code_place : Code → ℕ
+code_place code.Success = 0
+code_place code.NotReady = 1
+code_place code.Timeout = 2
+code_place code.EventSet = 3
+code_place code.EventReset = 4
+code_place code.Incomplete = 5
+code_place code.SuboptimalKhr = 6
+code_place code.ErrorOutOfHostMemory = 7
+code_place code.ErrorOutOfDeviceMemory = 8
+code_place code.ErrorInitializationFailed = 9
+code_place code.ErrorDeviceLost = 10
+code_place code.ErrorMemoryMapFailed = 11
+code_place code.ErrorLayerNotPresent = 12
+code_place code.ErrorExtensionNotPresent = 13
+code_place code.ErrorFeatureNotPresent = 14
+code_place code.ErrorIncompatibleDriver = 15
+code_place code.ErrorTooManyObjects = 16
+code_place code.ErrorFormatNotSupported = 17
+code_place code.ErrorFragmentedPool = 18
+code_place code.ErrorOutOfPoolMemory = 19
+code_place code.ErrorSurfaceLostKhr = 20
+code_place code.ErrorOutOfDateKhr = 21
+code_place code.ErrorNativeWindowInUseKhr = 22
+code_place code.ErrorUnknown = 23
+code_place code.ErrorValidationFailedExt = 24

@@ -1,8 +1,8 @@
 //! The codes by name.
-ghost use Rattle.std.specs.Prelude.{◌≡◌, ◌≢◌, IfNone, IfSome};
+ghost use Rattle.std.specs.Prelude.{◌≡◌, ◌≢◌, IfNone, IfSome, Some, slice_get};
 ghost use Rattle.std.specs.List.{find as spec_find};
 ghost use Rattle.std.specs.Str.{bytes_eq};
-ghost use Rattle.command_tables.specs.CodeNames.{code_name};
+ghost use Rattle.command_tables.specs.CodeNames.{code_name, code_place};
 
 use crate::types::Code;
 
@@ -87,3 +87,8 @@ impl Code {
         find_code(&CODES, name)
     }
 }
+
+/// What holds of the list of codes: each stands at its place.
+pub fn codes_in_order()
+    ensures { (c : Code) → slice_get CODES (code_place c) ≡ Some c }
+{}

@@ -6,6 +6,7 @@
 mod args;
 mod call;
 mod codes;
+mod effects;
 mod lookup;
 mod memory;
 mod table;
@@ -15,7 +16,7 @@ mod types;
 
 pub use args::HandleArgs;
 pub use call::LayerCall;
-pub use codes::CODES;
+pub use codes::{CODES, codes_in_order};
 pub use lookup::{COMMANDS, facts_of_the_table, find};
 pub use memory::NoMemory;
 pub use table::row;

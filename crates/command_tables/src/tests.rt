@@ -38,6 +38,9 @@ fn each_code_is_found(rt: HostRuntime) {
         let name = code.name();
         assert_eq!(rt; Code::find(name.as_bytes()), Some(*code), "at {name}");
     }
+    assert_eq!(rt; CODES[0], Code::Success);
+    assert_eq!(rt; CODES[6], Code::SuboptimalKhr);
+    assert_eq!(rt; CODES[24], Code::ErrorValidationFailedExt);
     assert_eq!(rt;
         Code::find(b"VK_ERROR_OUT_OF_POOL_MEMORY"),
         Some(Code::ErrorOutOfPoolMemory)
