@@ -5,6 +5,7 @@ use Rattle.std.specs.List.{enumerate_from, list_all}
 use Rattle.std.specs.Option.{option_map_or}
 use Rattle.std.proofs.lemmas.List.Folds.{list_all-append}
 use Rattle.std.proofs.lemmas.Bool.{eqb-true}
+use Rattle.command_tables.specs.Effects.{succeeds, type_made}
 use Rattle.command_tables.specs.declared.types.CommandId.{CommandId}
 use Rattle.command_tables.specs.declared.types.CommandId.TheVariants as cmd
 use Rattle.command_tables.specs.declared.types.ObjectType.{ObjectType}
@@ -12,7 +13,6 @@ use Rattle.command_tables.specs.declared.types.ObjectType.TheVariants as ty
 use Rattle.command_tables.specs.Table.{row_of}
 use Rattle.command_tables.specs.Tests.{same_command, same_type}
 use Rattle.trace_format.specs.declared.event.Name.{Name}
-use Rattle.trace_format.specs.Accepting.{type_made}
 use Rattle.trace_format.specs.Content.{BeginEvent, TraceEvent, Begin, Return}
 use Rattle.object_model.specs.declared.Object.{Object}
 use Rattle.object_model.specs.declared.Argument.{Argument}
@@ -23,7 +23,7 @@ use Rattle.replay_model.specs.declared.Born.{Born}
 use Rattle.replay_model.specs.declared.Routed.{Routed}
 use Rattle.replay_model.specs.Past.{Opened, Began, Returned, Past, Retrieval, is_skipped, is_of, is_new, is_routed, open_calls, routed, routed_of, routed_by, named, calls_in, history, retrievals, arguments_in}
 use Rattle.replay_model.specs.Places.{Findings, checked, findings, parts_checked, parts_in_force, is_failing, at_place}
-use Rattle.replay_model.specs.Births.{bears, bearable, made_by, result_object, succeeds}
+use Rattle.replay_model.specs.Births.{bears, bearable, made_by, result_object}
 use Rattle.replay_model.specs.Judged.{Begun, begun_of, made_of, returned_by, judge, judged, receivers, driver_in, is_refused}
 use Rattle.replay_core.specs.Setups.{one_driver}
 use Rattle.replay_core.specs.Kept.{stop_where, sent_to, begun_with, begun_from}

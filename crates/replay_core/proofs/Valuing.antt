@@ -2,17 +2,17 @@
 use Rattle.std.proofs.Common.{◌≡◌, ℕ, Bool, true, false, cond, not, ◌&&◌, Option, Some, None, List, [], ◌∷◌, map, take, refl, sym, ◌∙◌, ap, subst}
 use Rattle.std.specs.Prelude.{filter, is_some, ◌==◌}
 use Rattle.std.specs.Option.{option_map_or}
+use Rattle.command_tables.specs.Effects.{succeeds, type_made}
 use Rattle.command_tables.specs.declared.types.CommandId.TheVariants as cmd
 use Rattle.command_tables.specs.declared.types.ObjectType.{ObjectType}
 use Rattle.command_tables.specs.Table.{row_of}
 use Rattle.command_tables.specs.Tests.{same_command}
 use Rattle.trace_format.specs.declared.event.Name.{Name}
-use Rattle.trace_format.specs.Accepting.{type_made}
 use Rattle.object_model.specs.declared.Object.{Object}
 use Rattle.object_model.specs.History.{Birth}
 use Rattle.replay_model.specs.declared.Born.{Born}
 use Rattle.replay_model.specs.Past.{Opened, Retrieval, is_skipped, owner_by}
-use Rattle.replay_model.specs.Births.{bears, bearable, born_with, made_by, result_object, succeeds, owner_lives}
+use Rattle.replay_model.specs.Births.{bears, bearable, born_with, made_by, result_object, owner_lives}
 use Rattle.replay_model.specs.Direct.{Answered, Valued, valued_of, handle_at}
 use Rattle.replay_core.specs.Kept.{answered_by, sent_to, stop_where}
 use Rattle.replay_core.specs.Shown.{opened_of, valued_with}

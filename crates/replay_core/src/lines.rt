@@ -1,9 +1,9 @@
 // The lines of a replay's text, put behind those before them.
 ghost use Rattle.std.specs.Prelude.{◌≡◌, ◌++◌, OnOk, codes, decimal};
+ghost use Rattle.command_tables.specs.Effects.{type_made};
 ghost use Rattle.command_tables.specs.Table.{row_of, seen, seen_param};
 ghost use Rattle.command_tables.specs.declared.types.Rule.TheVariants as rule;
 ghost use Rattle.trace_format.specs.Grammar.{name_text, one_text, code_text};
-ghost use Rattle.trace_format.specs.Accepting.{type_made};
 ghost use Rattle.replay_model.specs.Text.{answer_of, born_text, end_line, identifier, index_text, report_line, return_text};
 ghost use Rattle.replay_core.specs.Lines.{loader_line, loader_report};
 ghost use Rattle.replay_core.specs.Setups.{one_driver};

@@ -2,11 +2,11 @@
 ghost use Rattle.std.specs.Prelude.{◌≡◌, ◌++◌, Some, map, filter, IfOk, OnOk, ℕ};
 ghost use Rattle.std.specs.List.{find, enumerate_from};
 ghost use Rattle.std.specs.Option.{option_map};
+ghost use Rattle.command_tables.specs.Effects.{lists_objects, succeeds, type_made as type_of};
 ghost use Rattle.command_tables.specs.Table.{row_of, seen, seen_param};
 ghost use Rattle.object_model.specs.Objects.{is_in};
-ghost use Rattle.trace_format.specs.Accepting.{type_made as type_of};
 ghost use Rattle.replay_model.specs.Past.{is_new, key_payload, named_of, retrieval, retrieved_by, retrieves};
-ghost use Rattle.replay_model.specs.Births.{succeeds, lists_objects, owner_lives, bears, bearable, own_object, own_number, is_kept, retrieved_object, result_object, born_with, made_by};
+ghost use Rattle.replay_model.specs.Births.{owner_lives, bears, bearable, own_object, own_number, is_kept, retrieved_object, result_object, born_with, made_by};
 ghost use Rattle.replay_core.specs.Shown.{opened_of, value_of, valued_with};
 
 use crate::birth_table::BirthTable;

@@ -3,6 +3,7 @@ use Rattle.std.proofs.Common.{◌≡◌, ◌+◌, ℕ, Bool, true, false, not, c
 use Rattle.std.specs.Prelude.{find, is_some, if◌then◌else◌}
 use Rattle.std.proofs.Math.Path.{fun_ext}
 use Rattle.std.proofs.Math.Bool.{and-false}
+use Rattle.command_tables.specs.Effects.{succeeds}
 use Rattle.command_tables.specs.declared.types.CommandId.TheVariants as cmd
 use Rattle.command_tables.specs.Table.{row_of}
 use Rattle.command_tables.specs.Tests.{same_command}
@@ -13,7 +14,6 @@ use Rattle.object_model.specs.History.{Call, alive}
 use Rattle.object_model.specs.Rules.{Failure, loader_failures}
 use Rattle.replay_model.specs.Setup.{Setup}
 use Rattle.replay_model.specs.Past.{Opened, Began, Returned, Past, is_skipped, is_of, open_calls, calls_in, named, arguments_in, history, routed}
-use Rattle.replay_model.specs.Births.{succeeds}
 use Rattle.replay_model.specs.Places.{parts_in_force, Checked, parts_checked, checked, findings}
 use Rattle.replay_model.specs.Judged.{receivers, is_refused, begun_of, made_of, returned_by, judge, judged}
 use Rattle.replay_model.specs.Less.{less, no_layers}

@@ -3,13 +3,13 @@ use Rattle.std.proofs.Common.{◌≡◌, ◌+◌, ℕ, Bool, true, false, not, c
 use Rattle.std.specs.Prelude.{filter, find, slice_get, unwrap_or, is_some, if◌then◌else◌}
 use Rattle.std.specs.List.{AllByRecursion, enumerate_from, range_with_len}
 use Rattle.std.specs.Option.{option_map_or}
+use Rattle.command_tables.specs.Effects.{type_made}
 use Rattle.command_tables.specs.declared.types.CommandId.TheVariants as cmd
 use Rattle.command_tables.specs.declared.types.ObjectType.{ObjectType}
 use Rattle.command_tables.specs.declared.types.ObjectType.TheVariants as ty
 use Rattle.command_tables.specs.Table.{row_of}
 use Rattle.command_tables.specs.Tests.{same_command, same_type}
 use Rattle.trace_format.specs.declared.event.Name.{Name}
-use Rattle.trace_format.specs.Accepting.{type_made}
 use Rattle.trace_format.specs.Content.{TraceEvent, Begin, Return}
 use Rattle.object_model.specs.declared.Object.{Object}
 use Rattle.object_model.specs.Objects.{same, first_in}

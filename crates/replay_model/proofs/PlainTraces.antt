@@ -8,6 +8,7 @@ use Rattle.std.proofs.Math.Bool.{and-false, or-true}
 use Rattle.std.proofs.lemmas.List.{length-append}
 use Rattle.std.proofs.lemmas.List.Folds.{list_any-append, list_all-append}
 use Rattle.replay_base.specs.Lines.{lines_of}
+use Rattle.command_tables.specs.Effects.{type_made}
 use Rattle.command_tables.specs.declared.types.Code.{Code}
 use Rattle.command_tables.specs.declared.types.Code.TheVariants as code
 use Rattle.command_tables.specs.declared.types.CommandId.{CommandId}
@@ -20,7 +21,7 @@ use Rattle.command_tables.specs.Table.{ParamSpec, row_of}
 use Rattle.command_tables.specs.Tests.{same_command, same_type}
 use Rattle.trace_format.specs.declared.event.Name.{Name}
 use Rattle.trace_format.specs.declared.fault.TraceFault.{TraceFault}
-use Rattle.trace_format.specs.Accepting.{open_threads, type_made, type_given, same_name, names_used, is_known, is_of_type, names_given, count_on, makes_instance, breaks_in, fault_after, are_accepted}
+use Rattle.trace_format.specs.Accepting.{open_threads, type_given, same_name, names_used, is_known, is_of_type, names_given, count_on, makes_instance, breaks_in, fault_after, are_accepted}
 use Rattle.trace_format.specs.Content.{Arg, BeginEvent, TraceEvent, Begin, Return}
 use Rattle.trace_format.specs.Grammar.{IsOne, HasForm, FitParams, IsEvent}
 use Rattle.trace_format.specs.Plain.{is_plain_command, plain_event, IsPlain, IsPlainEnd, IsPlainPlace}

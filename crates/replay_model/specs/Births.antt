@@ -1,36 +1,24 @@
 -- Which results of a call are born at its return, and for which objects they stand.
 -- Source: Vulkan 1.3 specification, "Fundamentals", sections "Object Lifetime" and "Return Codes", and the chapters "Initialization" (vkEnumeratePhysicalDevices),
 -- "Devices and Queues" (vkGetDeviceQueue) and "Window System Integration" (vkGetSwapchainImagesKHR).
-use Rattle.std.specs.Prelude.{ℕ, ◌+◌, ◌*◌, Bool, true, false, not, ◌&&◌, ◌||◌, if◌then◌else◌, ◌==◌, Option, Some, None, List, [], map, find, take}
+use Rattle.std.specs.Prelude.{ℕ, ◌+◌, ◌*◌, Bool, true, false, not, ◌&&◌, if◌then◌else◌, ◌==◌, Option, Some, None, List, [], map, find, take}
 use Rattle.std.specs.List.{enumerate_from}
 use Rattle.std.specs.Option.{option_map_or}
 use Rattle.std.specs.Str.{bytes_eq}
 use Rattle.command_tables.specs.declared.types.CommandId.{CommandId}
 use Rattle.command_tables.specs.declared.types.CommandId.TheVariants as cmd
-use Rattle.command_tables.specs.declared.types.Code.{Code}
-use Rattle.command_tables.specs.declared.types.Code.TheVariants as code
 use Rattle.command_tables.specs.declared.types.ObjectType.{ObjectType}
 use Rattle.command_tables.specs.declared.types.Effect.{Effect}
 use Rattle.command_tables.specs.declared.types.Effect.TheVariants as eff
+use Rattle.command_tables.specs.Effects.{succeeds, type_made}
 use Rattle.command_tables.specs.Table.{row_of}
-use Rattle.command_tables.specs.Tests.{same_command, same_code, same_type}
+use Rattle.command_tables.specs.Tests.{same_command, same_type}
 use Rattle.trace_format.specs.declared.event.Name.{Name}
-use Rattle.trace_format.specs.Accepting.{type_made}
 use Rattle.object_model.specs.declared.Object.{Object}
 use Rattle.object_model.specs.Objects.{are_same}
 use Rattle.object_model.specs.History.{Birth}
 use Rattle.replay_model.specs.declared.Born.{Born}
 use Rattle.replay_model.specs.Past.{Opened, is_skipped, Retrieval, key_payload, owner_by}
-
--- the effect gives any number of objects, so that an incomplete answer is a success
-abbrev pub lists_objects : Effect → Bool
-lists_objects (eff.Retrieve t owner many) = many
-lists_objects _ = false
-
--- a call succeeds where it answers nothing, or VK_SUCCESS, or VK_INCOMPLETE at a command that lists objects
-abbrev pub succeeds : CommandId → Option Code → Bool
-succeeds c None = true
-succeeds c (Some a) = same_code a code.Success || (same_code a code.Incomplete && lists_objects (row_of c).effect)
 
 -- the owner lives, or the call makes an instance, which has none
 abbrev pub owner_lives : (Object → Bool) → CommandId → Option Object → Bool

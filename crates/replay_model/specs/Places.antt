@@ -2,6 +2,7 @@
 -- Source: Khronos Vulkan-Loader interface documents (a call passes from the application down through the layers' parts). That a reported call goes no further is this project's.
 use Rattle.std.specs.Prelude.{ℕ, ◌+◌, Bool, true, false, not, ◌&&◌, if◌then◌else◌, ◌==◌, nat_le, Option, Some, None, List, [], ◌∷◌, ◌++◌, map}
 use Rattle.std.specs.Option.{option_map_or}
+use Rattle.command_tables.specs.Effects.{succeeds}
 use Rattle.command_tables.specs.declared.types.CommandId.TheVariants as cmd
 use Rattle.command_tables.specs.Table.{row_of}
 use Rattle.command_tables.specs.Tests.{same_command}
@@ -12,7 +13,6 @@ use Rattle.replay_model.specs.declared.PartKind.{PartKind}
 use Rattle.replay_model.specs.declared.PartKind.TheVariants as part
 use Rattle.replay_model.specs.Setup.{Setup, parts_of}
 use Rattle.replay_model.specs.Past.{Opened, Report, Began, Returned, Past, is_skipped, call_of, objects_of, history}
-use Rattle.replay_model.specs.Births.{succeeds}
 
 -- ---- what a place is given
 

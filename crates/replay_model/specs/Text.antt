@@ -3,6 +3,7 @@
 use Rattle.std.specs.Prelude.{ℕ, ◌+◌, Bool, ◌&&◌, if◌then◌else◌, nat_lt, Option, Some, None, List, [], ◌∷◌, ◌++◌, find, length, slice_get, unwrap_or, codes, decimal}
 use Rattle.std.specs.List.{flat_map}
 use Rattle.std.specs.Option.{option_map_or}
+use Rattle.command_tables.specs.Effects.{succeeds, type_made}
 use Rattle.command_tables.specs.declared.types.CommandId.{CommandId}
 use Rattle.command_tables.specs.declared.types.CommandId.TheVariants as cmd
 use Rattle.command_tables.specs.declared.types.Code.{Code}
@@ -12,12 +13,10 @@ use Rattle.command_tables.specs.declared.types.Rule.TheVariants as rule
 use Rattle.command_tables.specs.Table.{ParamSpec, row_of}
 use Rattle.command_tables.specs.Tests.{same_command}
 use Rattle.trace_format.specs.declared.event.Name.{Name}
-use Rattle.trace_format.specs.Accepting.{type_made}
 use Rattle.trace_format.specs.Grammar.{one_text, code_text}
 use Rattle.trace_format.specs.Content.{Arg, BeginEvent, TraceEvent, Begin, Return}
 use Rattle.replay_model.specs.Setup.{Setup, refusal_of, outcome_text}
 use Rattle.replay_model.specs.Past.{Opened, Report, Judged, Began, Returned, Past, is_skipped, is_of, open_calls, calls_in}
-use Rattle.replay_model.specs.Births.{succeeds}
 use Rattle.replay_model.specs.Judged.{begun_of, made_of}
 
 -- ---- reports

@@ -5,9 +5,8 @@ use Rattle.std.specs.Option.{is_none, option_map_or}
 use Rattle.std.specs.Str.{bytes_eq}
 use Rattle.command_tables.specs.declared.types.Code.TheVariants as code
 use Rattle.command_tables.specs.declared.types.CommandId.TheVariants as cmd
-use Rattle.command_tables.specs.declared.types.Effect.{Effect}
-use Rattle.command_tables.specs.declared.types.Effect.TheVariants as eff
 use Rattle.command_tables.specs.declared.types.ObjectType.{ObjectType}
+use Rattle.command_tables.specs.Effects.{type_made}
 use Rattle.command_tables.specs.Table.{ParamSpec, row_of}
 use Rattle.command_tables.specs.Tests.{same_code, same_command, same_type}
 use Rattle.trace_format.specs.declared.event.Name.{Name}
@@ -65,12 +64,6 @@ call_number before (Return thread) = last_call thread before
 -- two names are one
 abbrev pub same_name : Name → Name → Bool
 same_name a b = a.thread == b.thread && a.number == b.number
-
--- the type of what a command makes or gives
-abbrev pub type_made : Effect → Option ObjectType
-type_made (eff.Create t owner many) = Some t
-type_made (eff.Retrieve t owner many) = Some t
-type_made _ = None
 
 -- the type that a name was given, where an earlier line has it as a result
 abbrev pub type_given : Name → List TraceEvent → Option ObjectType
