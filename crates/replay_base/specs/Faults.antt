@@ -9,8 +9,8 @@ raised n = min (n + 1) (2 ^ 64 - 1)
 abbrev pub Rose : ℕ → ℕ → Type 0
 Rose before now = raised before ≤ now
 
--- the count hasn't fallen, stands at Ok, and rose where an error comes
+-- the count hasn't fallen, stands at Ok, and is one higher where an error comes
 pub record HasCause {T E : Type 0} (before now : ℕ) (result : Result T E) : Type 0 where
   pub later : before ≤ now
   pub stood : OnOk result (now ≡ before)
-  pub failed : OnErr result (Rose before now)
+  pub failed : OnErr result (now ≡ raised before)

@@ -3,7 +3,7 @@ use Rattle.std.specs.Prelude.{◌≡◌, ℕ, ◌≤◌, Bool, true, false, not,
 use Rattle.std.specs.List.{list_any, cons_option, IsDistinct}
 use Rattle.std.specs.List.Sorted.{IsPermutation}
 use Rattle.std.specs.Str.{bytes_eq}
-use Rattle.replay_base.specs.Faults.{Rose}
+use Rattle.replay_base.specs.Faults.{raised}
 use Rattle.replay_base.specs.declared.tree.TreeRead.{TreeRead}
 use Rattle.replay_base.specs.declared.tree.TreeRead.TheVariants.{Data, Absent, TooLarge}
 use Rattle.replay_base.specs.declared.tree.TreeError.{TreeError}
@@ -64,12 +64,12 @@ ReadsAt (Some found) max answer bytes = MatchBool (nat_le (length found) max) ((
 abbrev pub Reads : Option (List File) → List ℕ → ℕ → TreeRead → List ℕ → Type 0
 Reads files path max answer bytes = IfSome files (λ fs. ReadsAt (bytes_at fs path) max answer bytes)
 
--- what an error says of the count of faults: it rose, or for want of memory stands
+-- what an error says of the count of faults: it is one higher, or for want of memory stands
 abbrev pub ErrorHasCause : ℕ → ℕ → TreeError → Type 0
-ErrorHasCause before now Failed = Rose before now
+ErrorHasCause before now Failed = now ≡ raised before
 ErrorHasCause before now NoMemory = now ≡ before
 
--- the count of faults hasn't fallen, stands at Ok, and rose where the outside failed
+-- the count of faults hasn't fallen, stands at Ok, and is one higher where the outside failed
 pub record HasTreeCause {T : Type 0} (before now : ℕ) (result : Result T TreeError) : Type 0 where
   pub later : before ≤ now
   pub stood : OnOk result (now ≡ before)

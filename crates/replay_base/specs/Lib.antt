@@ -3,3 +3,4 @@ pub mod Faults
 pub mod Files
 pub mod Lines
 pub mod Memory
+pub mod Changes

@@ -1,5 +1,5 @@
 // A sink in memory.
-ghost use Rattle.std.specs.Prelude.{◌≡◌, ◌<◌, ◌||◌, length, Some, IfOk, [], is_err, nat_le};
+ghost use Rattle.std.specs.Prelude.{◌≡◌, ◌<◌, ◌-◌, ◌||◌, length, min, Some, IfOk, [], is_err, nat_le};
 ghost use Rattle.replay_base.specs.Bytes.{TakesSome, Takes};
 ghost use Rattle.replay_base.specs.Faults.{HasCause, raised};
 ghost use Rattle.replay_base.specs.Memory.{SinkState, is_listed};
@@ -64,6 +64,7 @@ impl Sink for MemSink {
         ensures bytes { Takes (Some self.old.held) (Some self.new.held) result piece.now }
         ensures cause { HasCause self.old.faults self.new.faults result }
         ensures fails { is_err result ≡ (is_listed self.old.fails self.old.calls || nat_le self.old.room (length self.old.held)) }
+        ensures whole { IfOk result (λ n. n ≡ min (length piece.now) (self.old.room - length self.old.held)) }
         ensures calls { self.new.calls ≡ raised self.old.calls }
         ensures list { self.new.fails ≡ self.old.fails }
         ensures room { self.new.room ≡ self.old.room }

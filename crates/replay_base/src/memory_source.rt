@@ -1,5 +1,5 @@
 // Sources in memory.
-ghost use Rattle.std.specs.Prelude.{◌≡◌, ◌≤◌, ◌<◌, min, ◌+◌, ◌++◌, length, take, drop, Some, None, IsOk, is_err, []};
+ghost use Rattle.std.specs.Prelude.{◌≡◌, ◌≤◌, ◌<◌, ◌-◌, min, ◌+◌, ◌++◌, length, take, drop, Some, None, IfOk, IsOk, is_err, []};
 ghost use Rattle.std.specs.Io.{ReadsAtMost};
 ghost use Rattle.replay_base.specs.Bytes.{Gives};
 ghost use Rattle.replay_base.specs.Faults.{HasCause, raised};
@@ -24,6 +24,7 @@ fn copy_some(bytes: &[u8], buf: &mut [u8]) -> usize
 fn give(bytes: &[u8], at: usize, buf: &mut [u8]) -> usize
     requires { at ≤ length bytes.now }
     ensures within { at + result ≤ length bytes.now }
+    ensures whole { result ≡ min (length bytes.now - at) (length buf.old) }
     ensures count { result ≤ length buf.new }
     ensures given { drop at bytes.now ≡ take result buf.new ++ drop (at + result) bytes.now }
     ensures end { 0 < length buf.old → result ≡ 0 → drop (at + result) bytes.now ≡ [] }
@@ -76,6 +77,7 @@ impl Source for PlainSource {
         ensures bytes { Gives (Some self.old) (Some self.new) result buf.new }
         ensures cause { HasCause 0 0 result }
         ensures never { IsOk result }
+        ensures whole { IfOk result (λ n. n ≡ min (length self.old) (length buf.old)) }
     {
         let count = give(&self.bytes, self.at, buf);
         self.at += count;
@@ -133,6 +135,7 @@ impl Source for MemSource {
         ensures bytes { Gives (Some self.old.left) (Some self.new.left) result buf.new }
         ensures cause { HasCause self.old.faults self.new.faults result }
         ensures fails { is_err result ≡ is_listed self.old.fails self.old.calls }
+        ensures whole { IfOk result (λ n. n ≡ min (length self.old.left) (length buf.old)) }
         ensures calls { self.new.calls ≡ raised self.old.calls }
         ensures list { self.new.fails ≡ self.old.fails }
     {
