@@ -1,6 +1,4 @@
-pub mod Copies
 pub mod Given
-pub mod Handles
 pub mod Stops
 pub mod Lists
 pub mod Shown

@@ -10,7 +10,7 @@ use Rattle.trace_format.specs.Content.{TraceEvent}
 use Rattle.trace_format.specs.Plain.{plain_event}
 use Rattle.trace_format.specs.PlainForm.{PlainState, at_start, after, fault_at}
 use Rattle.replay_core.specs.Kept.{Kept}
-use Rattle.replay_core.specs.Logs.{Log, logged}
+use Rattle.model_driver.specs.Logs.{Log, logged}
 use Rattle.replay_core.specs.Played.{text_of, Told, Played, CutInLines, CutBefore, IsFront, BrokeInLines, Broke, RanOut}
 use Rattle.replay_core.specs.Stands.{Stands}
 use Rattle.replay_core.proofs.Runs.{played_none, front_behind}

@@ -13,7 +13,7 @@ use Rattle.replay_model.specs.Direct.{exchanges_at, sends_in, sends_at}
 use Rattle.replay_model.proofs.Exchanges.{lines-judge, exchanges-judge}
 use Rattle.replay_core.specs.Setups.{one_driver}
 use Rattle.replay_core.specs.Kept.{Kept}
-use Rattle.replay_core.specs.Logs.{Log, logged}
+use Rattle.model_driver.specs.Logs.{Log, logged}
 use Rattle.replay_core.specs.Stands.{Stands, Advances, MayTell}
 use Rattle.replay_core.specs.Played.{text_of, Told, Played, CutInLines, CutBefore}
 

@@ -11,11 +11,11 @@ use Rattle.command_tables.specs.Table.{ParamSpec, row_of}
 use Rattle.command_tables.specs.Tests.{same_command}
 use Rattle.trace_format.specs.declared.event.Name.{Name}
 use Rattle.trace_format.specs.Content.{Arg, BeginEvent}
-use Rattle.trace_format.specs.Grammar.{HasForm, FitParams as FitArgs, IsBegin, takes}
+use Rattle.trace_format.specs.Grammar.{HasForm, FitParams, IsBegin, takes}
 use Rattle.object_model.specs.declared.Argument.{Argument}
 use Rattle.replay_model.specs.Past.{Opened, argument_in}
 use Rattle.replay_model.specs.Direct.{value_in}
-use Rattle.replay_core.specs.Driver.{FitsParam, FitParams, FitsAsked}
+use Rattle.model_driver.specs.Driver.{FitsParam, FitsRow, FitsAsked}
 use Rattle.replay_core.specs.Kept.{Kept, begun_at}
 use Rattle.replay_core.specs.Beginning.{CanBeTold}
 
@@ -28,7 +28,7 @@ unfolding row_of
 few_there cmd.CreateInstance = refl
 few_there c = refl
 
-few_args : (ps : List ParamSpec) (args : List Arg) → FitArgs ps args → length args ≡ length ps
+few_args : (ps : List ParamSpec) (args : List Arg) → FitParams ps args → length args ≡ length ps
 few_args [] [] fit = refl
 few_args [] (a ∷ args) fit = absurd fit
 few_args (p ∷ ps) [] fit = absurd fit
@@ -53,7 +53,7 @@ fits_param f g p a form = record {
   most = subst (λ n. n ≤ 1024) (sym (twice_mapped f g a.names)) (most_places p.many a form);
 }
 
-fit_params : (f : Argument → ℕ) (g : Option Name → Argument) (ps : List ParamSpec) (args : List Arg) → FitArgs ps args → FitParams ps (map (map f) (map (λ (a : Arg). map g a.names) args))
+fit_params : (f : Argument → ℕ) (g : Option Name → Argument) (ps : List ParamSpec) (args : List Arg) → FitParams ps args → FitsRow ps (map (map f) (map (λ (a : Arg). map g a.names) args))
 fit_params f g [] [] fit = tt
 fit_params f g [] (a ∷ args) fit = absurd fit
 fit_params f g (p ∷ ps) [] fit = absurd fit

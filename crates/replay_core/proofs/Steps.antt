@@ -27,7 +27,7 @@ use Rattle.replay_core.specs.Setups.{one_driver}
 use Rattle.replay_core.specs.Kept.{Kept, stop_where, sent_to, answered_by, begun_from, begun_at, after_call, after_begin, after_return, made_at, given_at, LivesOn, LivesToo}
 use Rattle.replay_core.specs.Population.{Population}
 use Rattle.replay_core.specs.Lines.{first_of, first_name, loader_report, loader_line}
-use Rattle.replay_core.specs.Logs.{Log, logged}
+use Rattle.model_driver.specs.Logs.{Log, logged}
 use Rattle.replay_core.specs.Stands.{Stands, Advances, Tells, Asked}
 use Rattle.replay_core.proofs.Openings.{skipped_so}
 use Rattle.replay_core.proofs.Reports.{failures_are}

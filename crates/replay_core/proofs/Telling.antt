@@ -4,10 +4,10 @@ use Rattle.std.proofs.lemmas.List.{length-map}
 use Rattle.command_tables.specs.Calls.{DriverCallContent, ReplyContent}
 use Rattle.replay_model.specs.Past.{Opened}
 use Rattle.replay_model.specs.Direct.{Valued, driver_call}
-use Rattle.replay_core.specs.Logs.{Log, logged}
+use Rattle.model_driver.specs.Logs.{Log, logged}
 use Rattle.replay_core.specs.Stands.{Asked}
 use Rattle.replay_core.specs.Beginning.{CanBeTold}
-use Rattle.replay_core.specs.Driver.{HasShape}
+use Rattle.model_driver.specs.Driver.{HasShape}
 use Rattle.replay_core.specs.declared.call.OpenCall.{OpenCall}
 use Rattle.replay_core.specs.Shown.{opened_of}
 

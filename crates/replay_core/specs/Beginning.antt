@@ -5,7 +5,7 @@ use Rattle.trace_format.specs.Grammar.{IsBegin}
 use Rattle.replay_model.specs.Past.{Opened}
 use Rattle.replay_model.specs.Direct.{Valued, driver_call}
 use Rattle.replay_core.specs.declared.begin.Beginning.{Beginning}
-use Rattle.replay_core.specs.Driver.{HasShape}
+use Rattle.model_driver.specs.Driver.{HasShape}
 use Rattle.replay_core.specs.Kept.{Kept, has_open}
 
 -- a begin as its content

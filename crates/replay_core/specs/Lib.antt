@@ -1,6 +1,3 @@
-pub mod Driver
-pub mod Logs
-pub mod Policies
 pub mod Errors
 pub mod Gave
 pub mod Replayed

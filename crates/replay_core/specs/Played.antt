@@ -8,7 +8,7 @@ use Rattle.replay_model.specs.Text.{text, end_of}
 use Rattle.replay_model.specs.Direct.{exchanges, sends_in}
 use Rattle.replay_core.specs.Setups.{one_driver}
 use Rattle.replay_core.specs.Kept.{Kept}
-use Rattle.replay_core.specs.Logs.{Log, logged}
+use Rattle.model_driver.specs.Logs.{Log, logged}
 use Rattle.replay_core.specs.Stands.{Stands}
 
 -- the text of the events

@@ -11,7 +11,7 @@ use Rattle.replay_model.specs.Direct.{valued, sent, sends_in, sends_at, exchange
 use Rattle.replay_model.specs.Text.{skipped_in, reports_in, lines_at}
 use Rattle.replay_core.specs.Setups.{one_driver}
 use Rattle.replay_core.specs.Kept.{Kept}
-use Rattle.replay_core.specs.Logs.{Log, logged}
+use Rattle.model_driver.specs.Logs.{Log, logged}
 
 -- what is kept is what later events read of a judged past, where the driver answered these replies, one for each of its calls
 pub record StandsFor (k : Kept) (past : Past) (replies : List ReplyContent) : Type 0 where

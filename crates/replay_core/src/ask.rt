@@ -2,17 +2,17 @@
 ghost use Rattle.std.specs.Prelude.{◌≡◌, ◌≤◌, length, if◌then◌else◌, IfOk, OnErr};
 ghost use Rattle.command_tables.specs.Tests.{same_command};
 ghost use Rattle.command_tables.specs.declared.types.CommandId.TheVariants as cmd;
+ghost use Rattle.model_driver.specs.Driver.{call_shown};
 ghost use Rattle.replay_model.specs.Direct.{driver_call};
 ghost use Rattle.replay_core.specs.Beginning.{CanBeTold};
-ghost use Rattle.replay_core.specs.Driver.{told};
 ghost use Rattle.replay_core.specs.Shown.{opened_of};
 ghost use Rattle.replay_core.specs.Stands.{Asked};
 
 use crate::call::OpenCall;
-use crate::driver::{Driver, DriverCall, DriverReply};
 use crate::told::values_of;
 use crate::value_table::ValueTable;
 use command_tables::{CommandId, LayerCall, NoMemory};
+use model_driver::{Driver, DriverCall, DriverReply};
 use std::alloc::Global;
 
 // How many handles the driver is asked for: it has one physical device.
@@ -32,7 +32,7 @@ fn asked_of(call: &OpenCall) -> u32
 fn call_for(alloc: Global, values: &ValueTable, call: &OpenCall) -> Result<DriverCall, NoMemory>
     requires params { length call.now.args.items ≤ 6 }
     requires results { length call.now.results.items ≤ 1024 }
-    ensures { IfOk result (λ c. told c ≡ driver_call values.now (opened_of call.now) 0) }
+    ensures { IfOk result (λ c. call_shown c ≡ driver_call values.now (opened_of call.now) 0) }
 {
     let args = values_of(alloc, values, &call.args)?;
     let payload = Vec::from_slice(alloc, &call.payload)?;

@@ -3,26 +3,21 @@
 //! What the program's words mean and what is said of a failure is left to the program.
 #![tactic(auto)]
 
-mod adverse_driver;
 mod ask;
 mod begin;
 mod birth_table;
 mod call;
-mod driver;
-mod due;
 mod error;
 mod index;
 mod laws;
 mod lines;
 mod made;
-mod model_driver;
 mod name_table;
 mod names;
 mod object_table;
 mod owners;
 mod play;
 mod read;
-mod recording_driver;
 mod retrieved_table;
 mod run;
 mod session;
@@ -33,11 +28,7 @@ mod tests;
 mod told;
 mod value_table;
 
-pub use adverse_driver::AdverseDriver;
-pub use driver::{Driver, DriverCall, DriverReply, Policy};
 pub use error::{ReplayError, SessionError};
-pub use model_driver::ModelDriver;
-pub use recording_driver::RecordingDriver;
 pub use run::replay;
 pub use session::Session;
 pub use status::Status;

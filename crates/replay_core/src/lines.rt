@@ -10,7 +10,7 @@ ghost use Rattle.replay_core.specs.Setups.{one_driver};
 ghost use Rattle.replay_core.specs.Shown.{opened_of};
 
 use crate::call::OpenCall;
-use crate::made::{has_succeeded, type_made};
+use crate::made::effect_of;
 use crate::tally::Tally;
 use command_tables::{Code, CommandId, Param, row};
 use itoa::Buffer;
@@ -155,9 +155,7 @@ fn answer(call: &OpenCall) -> Option<Code>
         } else {
             None
         }
-    } else if call.cmd == CommandId::EnumeratePhysicalDevices
-        && has_succeeded(call.cmd, call.code)
-    {
+    } else if call.cmd == CommandId::EnumeratePhysicalDevices && call.cmd.succeeds(call.code) {
         Some(Code::Success)
     } else {
         call.code
@@ -169,7 +167,7 @@ fn answer(call: &OpenCall) -> Option<Code>
 fn put_born(cmd: CommandId, born: usize, lines: &mut Vec<u8>) -> Result<(), AllocError>
     ensures { OnOk result (lines.new.items ≡ lines.old.items ++ born_text cmd born) }
 {
-    match type_made(cmd) {
+    match effect_of(cmd).type_made() {
         None => Ok(()),
         Some(_) => {
             put(" born=", lines)?;

@@ -2,7 +2,6 @@
 ghost use Rattle.std.specs.Prelude.{◌≡◌, ◌++◌, Some, map, filter, IfOk, OnOk, ℕ};
 ghost use Rattle.std.specs.List.{find, enumerate_from};
 ghost use Rattle.std.specs.Option.{option_map};
-ghost use Rattle.command_tables.specs.Effects.{lists_objects, succeeds, type_made as type_of};
 ghost use Rattle.command_tables.specs.Table.{row_of, seen, seen_param};
 ghost use Rattle.object_model.specs.Objects.{is_in};
 ghost use Rattle.replay_model.specs.Past.{is_new, key_payload, named_of, retrieval, retrieved_by, retrieves};
@@ -16,7 +15,7 @@ use crate::object_table::ObjectTable;
 use crate::owners::owner;
 use crate::retrieved_table::{RetrievedEntry, RetrievedKey, RetrievedTable};
 use crate::value_table::{ValueEntry, ValueTable};
-use command_tables::{Code, CommandId, Effect, ObjectType, row};
+use command_tables::{CommandId, Effect, ObjectType, row};
 use object_model::Object;
 use replay_model::{Born, Named};
 use std::alloc::{AllocError, Global};
@@ -27,42 +26,6 @@ pub fn effect_of(cmd: CommandId) -> Effect
     ensures { result ≡ (row_of cmd).effect }
 {
     row(cmd).effect
-}
-
-/// The type of what a command makes or gives.
-pub fn type_made(cmd: CommandId) -> Option<ObjectType>
-    ensures { result ≡ type_of (row_of cmd).effect }
-{
-    match effect_of(cmd) {
-        Effect::Create { ty, .. } | Effect::Retrieve { ty, .. } => Some(ty),
-        Effect::None | Effect::Destroy(_) | Effect::Free(_) | Effect::Reset(_) => None,
-    }
-}
-
-fn is_listing(effect: Effect) -> bool
-    ensures { result ≡ lists_objects effect }
-{
-    match effect {
-        Effect::Retrieve { many, .. } => many,
-        Effect::None
-        | Effect::Create { .. }
-        | Effect::Destroy(_)
-        | Effect::Free(_)
-        | Effect::Reset(_) => false,
-    }
-}
-
-/// Whether a call that answers this code succeeds.
-#[tactic(auto, unfolding(command_tables::specs::Tests::same_code))]
-pub fn has_succeeded(cmd: CommandId, code: Option<Code>) -> bool
-    ensures { result ≡ succeeds cmd code }
-{
-    match code {
-        None => true,
-        Some(code) => {
-            code == Code::Success || (code == Code::Incomplete && is_listing(effect_of(cmd)))
-        }
-    }
 }
 
 #[tactic(auto, unfolding(command_tables::specs::Tests::same_command))]
@@ -81,7 +44,7 @@ fn is_bearing(objects: &ObjectTable, call: &OpenCall) -> bool
     ensures { result ≡ bears objects.now.births (is_in objects.now.living) (opened_of call.now) }
 {
     !call.skipped
-        && has_succeeded(call.cmd, call.code)
+        && call.cmd.succeeds(call.code)
         && has_living_owner(
             objects,
             call.cmd,

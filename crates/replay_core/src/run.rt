@@ -13,12 +13,12 @@ ghost use Rattle.replay_core.specs.Played.{Played, BrokeInLines, Broke, RanOut};
 ghost use Rattle.replay_core.specs.Stands.{Stands};
 ghost use Rattle.replay_model.specs.Stop.{stop, stop_at, stop_in, stop_from, events_from, events_in, events_of};
 
-use crate::driver::Driver;
 use crate::error::ReplayError;
 use crate::lines::end_line;
 use crate::play::play;
 use crate::read::{MOST_BYTES, Unread, read_all};
 use crate::session::Session;
+use model_driver::Driver;
 use replay_base::{Sink, Source, put_all, split_line};
 use std::alloc::{AllocError, Global};
 use trace_format::TraceFault;

@@ -1,6 +1,7 @@
 // A session: what is kept of the events so far.
 ghost use Rattle.std.specs.Prelude.{◌≡◌, ◌+◌, ◌++◌, [], true, false, map, OnOk, OnErr, IfErr};
 ghost use Rattle.command_tables.specs.Table.{row_of};
+ghost use Rattle.model_driver.specs.Logs.{Log};
 ghost use Rattle.object_model.specs.History.{births_given};
 ghost use Rattle.trace_format.specs.Content.{Begin, Return, content};
 ghost use Rattle.trace_format.specs.Grammar.{IsBegin};
@@ -8,14 +9,12 @@ ghost use Rattle.replay_model.specs.Past.{named_of, objects_of, retrieved_by};
 ghost use Rattle.replay_core.specs.Beginning.{begin_content, thread_of, BeginsCall};
 ghost use Rattle.replay_core.specs.Kept.{after_call, has_open, LivesOn, LivesToo};
 ghost use Rattle.replay_core.specs.Lines.{loader_line};
-ghost use Rattle.replay_core.specs.Logs.{Log};
 ghost use Rattle.replay_core.specs.Shown.{args_shown, opened_of, valued_with};
 ghost use Rattle.replay_core.specs.Stands.{Advances, MayTell, Stands};
 
 use crate::ask::ask;
 use crate::begin::{Beginning, name_at_first, open_call};
 use crate::call::{OpenCall, close, find_open, has_open};
-use crate::driver::Driver;
 use crate::error::SessionError;
 use crate::lines::{report, return_line};
 use crate::made::{effect_of, keep_names, keep_retrieved, keep_values, made};
@@ -25,6 +24,7 @@ use crate::retrieved_table::RetrievedTable;
 use crate::tally::Tally;
 use crate::value_table::ValueTable;
 use command_tables::NoMemory;
+use model_driver::Driver;
 use replay_model::Born;
 use std::alloc::{AllocError, Global};
 use std::marker::Model;

@@ -1,15 +1,12 @@
 // Small traces, call by call: what each prints and what the driver is told.
 ghost use Rattle.std.specs.Prelude.{IsTrue};
-ghost use Rattle.replay_core.specs.Driver.{are_handles};
+ghost use Rattle.model_driver.specs.Driver.{are_handles};
 ghost use Rattle.trace_format.specs.Content.{content};
 ghost use Rattle.trace_format.specs.Grammar.{IsEvent};
 
-use crate::adverse_driver::AdverseDriver;
-use crate::driver::{Driver, DriverCall};
-use crate::model_driver::ModelDriver;
-use crate::recording_driver::RecordingDriver;
 use crate::session::Session;
 use command_tables::row;
+use model_driver::{AdverseDriver, Driver, DriverCall, ModelDriver, RecordingDriver};
 use std::alloc::Global;
 use std::process::Abort;
 use std::test::Fail;

@@ -3,7 +3,7 @@ use Rattle.std.proofs.Common.{◌≡◌, ◌∙◌, ℕ, List, Option, refl, ap,
 use Rattle.std.specs.Prelude.{Some, None}
 use Rattle.replay_base.proofs.Written.{grown_nil}
 use Rattle.replay_core.specs.Kept.{Kept}
-use Rattle.replay_core.specs.Logs.{Log}
+use Rattle.model_driver.specs.Logs.{Log}
 use Rattle.replay_core.specs.Replayed.{Ended}
 use Rattle.replay_model.specs.Stop.{Stop, stop, events_of}
 use Rattle.replay_core.specs.declared.status.Status.{Status}

@@ -7,7 +7,7 @@ use Rattle.replay_base.proofs.Written.{grown_nil}
 use Rattle.trace_format.specs.declared.fault.TraceFault.{TraceFault}
 use Rattle.trace_format.specs.declared.fault.TraceFault.TheVariants as fault
 use Rattle.replay_core.specs.Causes.{IsNoLimit}
-use Rattle.replay_core.specs.Logs.{Log}
+use Rattle.model_driver.specs.Logs.{Log}
 use Rattle.replay_core.specs.Played.{text_of}
 use Rattle.replay_core.specs.Replayed.{StoppedAt}
 use Rattle.replay_model.specs.Stop.{Stop, stop, stop_at, stop_in, events_in, events_of}

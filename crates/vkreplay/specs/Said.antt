@@ -4,7 +4,7 @@ use Rattle.replay_base.specs.Bytes.{grown, GrownByFront}
 use Rattle.replay_base.specs.Faults.{Rose}
 use Rattle.trace_format.specs.declared.fault.TraceFault.{TraceFault}
 use Rattle.trace_format.specs.FaultNames.{fault_name}
-use Rattle.replay_core.specs.Logs.{Log}
+use Rattle.model_driver.specs.Logs.{Log}
 use Rattle.replay_core.specs.Replayed.{StoppedAt}
 
 -- the sink has this line, or it failed behind a front of it

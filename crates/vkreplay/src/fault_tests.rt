@@ -3,8 +3,9 @@ ghost use Rattle.std.specs.Prelude.{None};
 
 use crate::tests::{TWICE, TWICE_TEXT, sink, words_of};
 use crate::top::{Finished, replay_main};
+use model_driver::{ModelDriver, RecordingDriver};
 use replay_base::{Failed, Sink, Source};
-use replay_core::{ModelDriver, RecordingDriver, Status};
+use replay_core::Status;
 use std::alloc::Global;
 use std::process::Abort;
 use std::test::Fail;

@@ -13,8 +13,9 @@ mod tests;
 mod top;
 mod words;
 
+use model_driver::ModelDriver;
 use replay_base::{ReadSource, Sink, WriteSink};
-use replay_core::{ModelDriver, Status};
+use replay_core::Status;
 use say::say;
 use std::alloc::Global;
 use std::env;

@@ -1,8 +1,9 @@
 // Whole runs over memory: what each prints, says and asks the driver.
 use crate::top::{Finished, replay_main};
 use command_tables::CommandId;
+use model_driver::{AdverseDriver, Driver, DriverCall, ModelDriver, RecordingDriver};
 use replay_base::{MemSink, MemSource};
-use replay_core::{AdverseDriver, Driver, DriverCall, ModelDriver, RecordingDriver, Status};
+use replay_core::Status;
 use std::alloc::Global;
 use std::process::Abort;
 use std::test::Fail;

@@ -9,8 +9,9 @@ ghost use Rattle.vkreplay.specs.Statuses.{IsEnd, status_of, line_of, words_line,
 
 use crate::say::{say, say_fault, say_limit};
 use crate::words::is_run;
+use model_driver::Driver;
 use replay_base::{Sink, Source};
-use replay_core::{Driver, ReplayError, Session, Status, Tally, replay};
+use replay_core::{ReplayError, Session, Status, Tally, replay};
 use std::alloc::Global;
 
 /// How a run ended, and its session where it came to its end.

@@ -1,7 +1,7 @@
 // The driver at the end of a chain.
 ghost use Rattle.std.specs.Prelude.{◌≡◌, ◌∷◌, [], OnOk, OnErr};
-ghost use Rattle.replay_core.specs.Driver.{told, answered, HasShape, Answers};
-ghost use Rattle.replay_core.specs.Logs.{Log, logged};
+ghost use Rattle.model_driver.specs.Driver.{call_shown, reply_shown, HasShape, IsAnsweredBy};
+ghost use Rattle.model_driver.specs.Logs.{Log, logged};
 
 use command_tables::{Code, LayerCall, NoMemory};
 
@@ -43,8 +43,8 @@ pub trait Driver {
     /// Answers a call: with the call's code and, where the call succeeds, as many handles as it asks for. What stood in
     /// `reply` before is gone. After `NoMemory` anything stands there, and the call isn't in the log.
     fn call(&mut self, call: &DriverCall, reply: &mut DriverReply) -> Result<(), NoMemory>
-        requires { HasShape (told call.now) }
-        ensures answers { OnOk result (Answers (told call.now) (answered reply.new)) }
-        ensures ok { OnOk result (log self.new ≡ logged (log self.old) ((told call.now, answered reply.new) ∷ [])) }
+        requires { HasShape (call_shown call.now) }
+        ensures answers { OnOk result (IsAnsweredBy (call_shown call.now) (reply_shown reply.new)) }
+        ensures ok { OnOk result (log self.new ≡ logged (log self.old) ((call_shown call.now, reply_shown reply.new) ∷ [])) }
         ensures err { OnErr result (log self.new ≡ log self.old) };
 }

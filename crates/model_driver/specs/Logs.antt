@@ -1,9 +1,9 @@
 -- The calls that a driver was told, each with its reply, where the driver tells them. Source: this project.
 use Rattle.std.specs.Prelude.{List, ◌++◌, map, Option, Some, None}
 use Rattle.command_tables.specs.Calls.{DriverCallContent, ReplyContent}
-use Rattle.replay_core.specs.declared.driver.DriverCall.{DriverCall}
-use Rattle.replay_core.specs.declared.driver.DriverReply.{DriverReply}
-use Rattle.replay_core.specs.Driver.{told, answered}
+use Rattle.model_driver.specs.declared.driver.DriverCall.{DriverCall}
+use Rattle.model_driver.specs.declared.driver.DriverReply.{DriverReply}
+use Rattle.model_driver.specs.Driver.{call_shown, reply_shown}
 
 -- none says nothing
 abbrev pub Log : Type 0
@@ -15,5 +15,5 @@ logged None more = None
 logged (Some log) more = Some (log ++ more)
 
 -- calls and replies as their contents
-abbrev pub shown : List (DriverCall × DriverReply) → List (DriverCallContent × ReplyContent)
-shown calls = map (λ (x : DriverCall × DriverReply). (told x.0, answered x.1)) calls
+abbrev pub exchanges_shown : List (DriverCall × DriverReply) → List (DriverCallContent × ReplyContent)
+exchanges_shown calls = map (λ (x : DriverCall × DriverReply). (call_shown x.0, reply_shown x.1)) calls

@@ -3,9 +3,8 @@ use Rattle.std.proofs.Common.{◌≡◌, ℕ, zero, suc, ◌+◌, ◌-◌, ◌�
 use Rattle.std.specs.Prelude.{replicate, ◌&&◌, nat_le}
 use Rattle.std.proofs.lemmas.List.{length-replicate, length-take}
 use Rattle.std.proofs.lemmas.List.Folds.{list_all-append}
-use Rattle.replay_base.specs.Faults.{raised}
-use Rattle.replay_core.specs.Driver.{are_handles}
-use Rattle.replay_core.specs.Policies.{given_from, counted_on, last_counted}
+use Rattle.model_driver.specs.Driver.{are_handles}
+use Rattle.model_driver.specs.Policies.{given_from, counted_on, last_counted, next_value}
 
 pub given_count : (values : List ℕ) (n : ℕ) → length (given_from values n) ≡ n
 given_count values n = simp (length-append, length-replicate, length-take) (omega arith)
@@ -55,16 +54,16 @@ handles_given out values at n positive given =
 
 -- ---- counted handles
 
-raised_positive : (n : ℕ) → nat_le 1 (raised n) ≡ true
-raised_positive n = grind arith
+next_positive : (n : ℕ) → nat_le 1 (next_value n) ≡ true
+next_positive n = grind arith
 
 counted_count : (last n : ℕ) → length (counted_on last n) ≡ n
 counted_count last zero = refl
-counted_count last (suc n) = ap suc (counted_count (raised last) n)
+counted_count last (suc n) = ap suc (counted_count (next_value last) n)
 
 counted_positive : (last n : ℕ) → are_handles (counted_on last n) ≡ true
 counted_positive last zero = refl
-counted_positive last (suc n) = both _ _ (raised_positive last) (counted_positive (raised last) n)
+counted_positive last (suc n) = both _ _ (next_positive last) (counted_positive (next_value last) n)
 
 pub count_counted : (out : List ℕ) (last n : ℕ) → out ≡ counted_on last n → length out ≡ n
 count_counted out last n given = ap length given ∙ counted_count last n
@@ -73,17 +72,17 @@ pub handles_counted : (out : List ℕ) (last n : ℕ) → out ≡ counted_on las
 handles_counted out last n given = ap are_handles given ∙ counted_positive last n
 
 -- one more of the handles that are left to count
-pub counted_one : (last n m : ℕ) → n ≡ m + 1 → counted_on last n ≡ raised last ∷ counted_on (raised last) m
+pub counted_one : (last n m : ℕ) → n ≡ m + 1 → counted_on last n ≡ next_value last ∷ counted_on (next_value last) m
 counted_one last n m is = ap (counted_on last) (is ∙ add-one m)
 
-pub last_one : (last n m : ℕ) → n ≡ m + 1 → last_counted last n ≡ last_counted (raised last) m
+pub last_one : (last n m : ℕ) → n ≡ m + 1 → last_counted last n ≡ last_counted (next_value last) m
 last_one last n m is = ap (last_counted last) (is ∙ add-one m)
 
-pub counted_more : (out done total : List ℕ) (now next n m : ℕ) → done ++ counted_on now n ≡ total → n ≡ m + 1 → next ≡ raised now → out ≡ done ++ next ∷ [] → out ++ counted_on next m ≡ total
+pub counted_more : (out done total : List ℕ) (now next n m : ℕ) → done ++ counted_on now n ≡ total → n ≡ m + 1 → next ≡ next_value now → out ≡ done ++ next ∷ [] → out ++ counted_on next m ≡ total
 counted_more out done total now next n m so_far is up pushed =
-    ap (λ xs. xs ++ counted_on next m) (pushed ∙ ap (λ x. done ++ x ∷ []) up) ∙ (append_assoc done (raised now ∷ []) (counted_on next m) ∙ (ap (λ x. done ++ raised now ∷ counted_on x m) up ∙ (ap (λ xs. done ++ xs) (sym (counted_one now n m is)) ∙ so_far)))
+    ap (λ xs. xs ++ counted_on next m) (pushed ∙ ap (λ x. done ++ x ∷ []) up) ∙ (append_assoc done (next_value now ∷ []) (counted_on next m) ∙ (ap (λ x. done ++ next_value now ∷ counted_on x m) up ∙ (ap (λ xs. done ++ xs) (sym (counted_one now n m is)) ∙ so_far)))
 
-pub last_more : (now next n m total : ℕ) → last_counted now n ≡ total → n ≡ m + 1 → next ≡ raised now → last_counted next m ≡ total
+pub last_more : (now next n m total : ℕ) → last_counted now n ≡ total → n ≡ m + 1 → next ≡ next_value now → last_counted next m ≡ total
 last_more now next n m total so_far is up = ap (λ x. last_counted x m) up ∙ (sym (last_one now n m is) ∙ so_far)
 
 -- when none is left

@@ -1,7 +1,7 @@
 // The driver of the program.
 ghost use Rattle.std.specs.Prelude.{◌≡◌, length, None, OnOk, IsTrue, IfOk};
-ghost use Rattle.replay_core.specs.Driver.{told, answered, due, are_handles, HasShape, Answers};
-ghost use Rattle.replay_core.specs.Policies.{counted_on, last_counted};
+ghost use Rattle.model_driver.specs.Driver.{call_shown, reply_shown, handles_due, are_handles, HasShape, IsAnsweredBy};
+ghost use Rattle.model_driver.specs.Policies.{counted_on, last_counted};
 
 use crate::driver::{Driver, DriverCall, DriverReply, Policy};
 use crate::due::handles_due;
@@ -53,10 +53,10 @@ impl Driver for ModelDriver {
     fn prepare(&mut self, _policy: Policy) {}
 
     fn call(&mut self, call: &DriverCall, reply: &mut DriverReply) -> Result<(), NoMemory>
-        requires { HasShape (told call.now) }
-        ensures answers { OnOk result (Answers (told call.now) (answered reply.new)) }
-        ensures handles { OnOk result (reply.new.handles.items ≡ counted_on self.old (due (told call.now))) }
-        ensures last { OnOk result (self.new ≡ last_counted self.old (due (told call.now))) }
+        requires { HasShape (call_shown call.now) }
+        ensures answers { OnOk result (IsAnsweredBy (call_shown call.now) (reply_shown reply.new)) }
+        ensures handles { OnOk result (reply.new.handles.items ≡ counted_on self.old (handles_due (call_shown call.now))) }
+        ensures last { OnOk result (self.new ≡ last_counted self.old (handles_due (call_shown call.now))) }
     {
         let count = handles_due(call);
         self.last = count_on(self.last, count, &mut reply.handles)?;

@@ -1,6 +1,6 @@
 use Rattle.std.proofs.Common.{◌≡◌, ◌-◌, ◌++◌}
-use Rattle.replay_core.specs.Policies.{counted_on, last_counted}
-use Rattle.replay_core.proofs.model_driver.count_on.Given as goal
+use Rattle.model_driver.specs.Policies.{counted_on, last_counted}
+use Rattle.model_driver.proofs.model_driver.count_on.Given as goal
 
 abbrev pub invariant-loop-turn : goal.invariant-loop-turn
 invariant-loop-turn l = record {

@@ -1,6 +1,6 @@
 use Rattle.std.proofs.Common.{◌≡◌, ◌+◌, ◌-◌, arith}
-use Rattle.replay_core.proofs.Handles.{counted_more, last_more, counted_all, count_counted, handles_counted}
-use Rattle.replay_core.proofs.model_driver.count_on.Goals as goal
+use Rattle.model_driver.proofs.Handles.{counted_more, last_more, counted_all, count_counted, handles_counted}
+use Rattle.model_driver.proofs.model_driver.count_on.Goals as goal
 
 pub loop-turn-preserved : goal.loop-turn-preserved
 loop-turn-preserved c =

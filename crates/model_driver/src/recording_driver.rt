@@ -1,8 +1,8 @@
 // A driver that keeps its log.
 ghost use Rattle.std.specs.Prelude.{◌≡◌, ◌∷◌, ◌++◌, [], map, Some, IfOk, OnOk, OnErr, take, length};
 ghost use Rattle.command_tables.specs.Calls.{call_content, DriverCallContent, ReplyContent};
-ghost use Rattle.replay_core.specs.Driver.{told, answered, HasShape, Answers};
-ghost use Rattle.replay_core.specs.Logs.{Log, logged, shown};
+ghost use Rattle.model_driver.specs.Driver.{call_shown, reply_shown, HasShape, IsAnsweredBy};
+ghost use Rattle.model_driver.specs.Logs.{Log, logged, exchanges_shown};
 
 use crate::driver::{Driver, DriverCall, DriverReply, Policy};
 use crate::due::handles_due;
@@ -28,7 +28,7 @@ impl<D: Driver> RecordingDriver<D> {
 
     /// The calls so far, each with its reply.
     pub fn log(&self) -> &[(DriverCall, DriverReply)]
-        ensures { ⟦<RecordingDriver<D> as Driver>⟧.log self.now ≡ Some (shown result.now) }
+        ensures { ⟦<RecordingDriver<D> as Driver>⟧.log self.now ≡ Some (exchanges_shown result.now) }
     {
         &self.calls
     }
@@ -53,7 +53,7 @@ fn copy_bytes(alloc: Global, bytes: &[u8]) -> Result<Vec<u8>, NoMemory>
 }
 
 fn copy_call(alloc: Global, call: &DriverCall) -> Result<DriverCall, NoMemory>
-    ensures { IfOk result (λ copy. told copy ≡ told call.now) }
+    ensures { IfOk result (λ copy. call_shown copy ≡ call_shown call.now) }
 {
     let args = copy_lists(alloc, &call.body.args)?;
     let payload = copy_bytes(alloc, &call.body.payload)?;
@@ -70,7 +70,7 @@ fn copy_call(alloc: Global, call: &DriverCall) -> Result<DriverCall, NoMemory>
 }
 
 impl<D: Driver> Driver for RecordingDriver<D> {
-    ghost log = { λ s. Some (shown s.calls.items) };
+    ghost log = { λ s. Some (exchanges_shown s.calls.items) };
 
     fn prepare(&mut self, policy: Policy) {
         self.inner.prepare(policy);

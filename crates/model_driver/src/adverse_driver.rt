@@ -1,8 +1,8 @@
 // A driver that answers what a test gives it.
 ghost use Rattle.std.specs.Prelude.{◌≡◌, ◌∷◌, [], ◌≤◌, drop, length, IsTrue, OnOk, None};
-ghost use Rattle.replay_core.specs.Driver.{told, answered, due, are_handles, HasShape, Answers};
-ghost use Rattle.replay_core.specs.Logs.{Log, logged};
-ghost use Rattle.replay_core.specs.Policies.{given_from};
+ghost use Rattle.model_driver.specs.Driver.{call_shown, reply_shown, handles_due, are_handles, HasShape, IsAnsweredBy};
+ghost use Rattle.model_driver.specs.Logs.{Log, logged};
+ghost use Rattle.model_driver.specs.Policies.{given_from};
 
 use crate::driver::{Driver, DriverCall, DriverReply, Policy};
 use crate::due::handles_due;
@@ -18,7 +18,7 @@ pub struct AdverseDriver {
 
 impl Model for AdverseDriver {
     ghost use Rattle.std.specs.Prelude.{◌≤◌, ℕ, List, IsTrue, drop, length};
-    ghost use Rattle.replay_core.specs.Driver.{are_handles};
+    ghost use Rattle.model_driver.specs.Driver.{are_handles};
 
     ghost Value = { List ℕ };
 
@@ -65,10 +65,10 @@ impl Driver for AdverseDriver {
     fn prepare(&mut self, _policy: Policy) {}
 
     fn call(&mut self, call: &DriverCall, reply: &mut DriverReply) -> Result<(), NoMemory>
-        requires { HasShape (told call.now) }
-        ensures answers { OnOk result (Answers (told call.now) (answered reply.new)) }
-        ensures handles { OnOk result (reply.new.handles.items ≡ given_from self.old (due (told call.now))) }
-        ensures rest { OnOk result (self.new ≡ drop (due (told call.now)) self.old) }
+        requires { HasShape (call_shown call.now) }
+        ensures answers { OnOk result (IsAnsweredBy (call_shown call.now) (reply_shown reply.new)) }
+        ensures handles { OnOk result (reply.new.handles.items ≡ given_from self.old (handles_due (call_shown call.now))) }
+        ensures rest { OnOk result (self.new ≡ drop (handles_due (call_shown call.now)) self.old) }
     {
         let count = handles_due(call) as usize;
         give(&self.values, self.at, count, &mut reply.handles)?;

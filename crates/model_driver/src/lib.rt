@@ -1,0 +1,15 @@
+//! Drivers: what a driver is told, and what it may answer; the drivers of the program and of tests.
+//! Promises that each answers the code that it is told, with as many handles as are due, and that a log holds each call.
+//! Leaves to others what a call means and which calls a driver is told.
+#![tactic(auto)]
+
+mod adverse_driver;
+mod driver;
+mod due;
+mod model_driver;
+mod recording_driver;
+
+pub use adverse_driver::AdverseDriver;
+pub use driver::{Driver, DriverCall, DriverReply, Policy};
+pub use model_driver::ModelDriver;
+pub use recording_driver::RecordingDriver;
