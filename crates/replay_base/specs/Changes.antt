@@ -10,6 +10,10 @@ pub record Change : Type 0 where
   pub faults_before : ℕ
   pub faults : ℕ
 
+-- such a change, by what was told and counted before and after
+abbrev pub changed : Option (List ℕ) → Option (List ℕ) → ℕ → ℕ → Change
+changed old new faults_before faults = record { old = old; new = new; faults_before = faults_before; faults = faults }
+
 -- it didn't fail
 abbrev pub Stood : Change → Type 0
 Stood c = c.faults ≡ c.faults_before

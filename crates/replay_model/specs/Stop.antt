@@ -1,77 +1,104 @@
--- Where a trace stops, and why: the first line that isn't of the plain form at its place. Source: this project.
-use Rattle.std.specs.Prelude.{ℕ, ◌+◌, Bool, if◌then◌else◌, nat_lt, Option, Some, None, List, [], ◌∷◌, length, codes}
-use Rattle.std.specs.Str.{bytes_eq}
+-- Where a trace stops, and why: the first line that has a fault or would bring too many names. Source: this project.
+use Rattle.std.specs.Prelude.{ℕ, ◌+◌, Bool, true, false, if◌then◌else◌, nat_lt, Option, Some, None, Result, Ok, Err, List, [], ◌∷◌, length, drop}
+use Rattle.std.specs.Option.{option_map}
 use Rattle.replay_base.specs.Lines.{lines_of}
 use Rattle.trace_format.specs.declared.fault.TraceFault.{TraceFault}
 use Rattle.trace_format.specs.declared.fault.TraceFault.TheVariants as fault
+use Rattle.trace_format.specs.Accepting.{exceeds_names, fault_after, fault_at_end, header_fault}
 use Rattle.trace_format.specs.Content.{TraceEvent}
-use Rattle.trace_format.specs.Plain.{plain_event}
-use Rattle.trace_format.specs.PlainForm.{PlainState, at_start, after, fault_at}
+use Rattle.trace_format.specs.Reading.{read_line}
+use Rattle.replay_model.specs.declared.TheConstants.{MOST_BYTES}
 
--- a line, from 1, and its fault
+-- why a trace stops at a line: its fault, or the limit on names
+pub data Cause : Type 0 where
+  Fault : (fault : TraceFault) → Cause
+  Names : Cause
+
+-- a line, from 1, and why the trace stops there
 pub record Stop : Type 0 where
   pub line : ℕ
-  pub fault : TraceFault
+  pub cause : Cause
 
-abbrev pub at_line : ℕ → TraceFault → Stop
-at_line n f = record { line = n; fault = f }
+-- a line with a fault
+abbrev pub at_fault : ℕ → TraceFault → Stop
+at_fault n f = record { line = n; cause = Fault f }
 
-abbrev pub stop_at : ℕ → TraceFault → Option Stop
-stop_at n f = Some (at_line n f)
+-- ---- one line
 
--- the line stops if its event is out of place, and else the rest decides
-abbrev pub unless_out_of_place : ℕ → Option TraceFault → Option Stop → Option Stop
-unless_out_of_place n None rest = rest
-unless_out_of_place n (Some f) rest = stop_at n f
+-- the fault, and where there is none, the limit where it is passed
+abbrev pub first_cause : Option TraceFault → Bool → Option Cause
+first_cause (Some f) exceeds = Some (Fault f)
+first_cause None true = Some Names
+first_cause None false = None
 
--- the line stops if it is no plain event, or one that is out of place
-abbrev pub stop_or : ℕ → PlainState → Option TraceEvent → (PlainState → Option Stop) → Option Stop
-stop_or n s None rest = stop_at n fault.NotBuilt
-stop_or n s (Some e) rest = unless_out_of_place n (fault_at s e) (rest (after s e))
+-- why an event can't follow those before it
+abbrev pub cause_after : List TraceEvent → TraceEvent → Option Cause
+cause_after before e = first_cause (fault_after before e) (exceeds_names before e)
 
--- a trace may not end where a return is due
-abbrev pub stop_at_end : ℕ → PlainState → Option Stop
-stop_at_end n s = if s.due then stop_at n fault.NotBuilt else None
+-- the event, where nothing stops it
+abbrev pub unless_stopped : TraceEvent → Option Cause → Result TraceEvent Cause
+unless_stopped e None = Ok e
+unless_stopped e (Some c) = Err c
 
--- the lines from number n on, behind the events of a state
-abbrev pub stop_from : ℕ → PlainState → List (List ℕ) → Option Stop
-stop_from n s [] = stop_at_end n s
-stop_from n s (line ∷ lines) = stop_or n s (plain_event line) (λ t. stop_from (n + 1) t lines)
+-- the event that was read, where it may follow those before it
+abbrev pub placed : List TraceEvent → Result TraceEvent TraceFault → Result TraceEvent Cause
+placed before (Ok e) = unless_stopped e (cause_after before e)
+placed before (Err f) = Err (Fault f)
 
-abbrev pub is_header : List ℕ → Bool
-is_header line = bytes_eq line (codes "vktrace 1")
+-- the event of a line behind these events, or why the trace stops there: what the line itself has comes before its place
+abbrev pub line_after : List TraceEvent → List ℕ → Result TraceEvent Cause
+line_after before line = placed before (read_line line)
 
--- the header, and then the events
+-- ---- where a trace stops
+
+-- the line stops, or the rest behind its event decides
+abbrev pub stop_or : ℕ → Result TraceEvent Cause → (TraceEvent → Option Stop) → Option Stop
+stop_or n (Ok e) rest = rest e
+stop_or n (Err c) rest = Some (record { line = n; cause = c })
+
+-- the lines from number n on, behind these events; a call that is open at the end stops one line behind the last
+abbrev pub stop_from : ℕ → List TraceEvent → List (List ℕ) → Option Stop
+stop_from n before [] = option_map (at_fault n) (fault_at_end before)
+stop_from n before (line ∷ lines) = stop_or n (line_after before line) (λ e. stop_from (n + 1) (e ∷ before) lines)
+
+-- the first line is the header, and then come the events
+abbrev pub stop_behind : Option TraceFault → List (List ℕ) → Option Stop
+stop_behind (Some f) lines = Some (at_fault 1 f)
+stop_behind None lines = stop_from 2 [] (drop 1 lines)
+
+-- the stop of these lines
 abbrev pub stop_in : List (List ℕ) → Option Stop
-stop_in [] = stop_at 1 fault.Header
-stop_in (line ∷ lines) = if is_header line then stop_from 2 at_start lines else stop_at 1 fault.Header
+stop_in lines = stop_behind (header_fault lines) lines
 
 -- a trace of more than 1,048,576 bytes isn't replayed yet
+abbrev pub too_large : Stop
+too_large = at_fault 1 fault.NotBuilt
+
+-- the first line at which a trace stops
 abbrev pub stop : List ℕ → Option Stop
-stop bytes = if nat_lt 1048576 (length bytes) then stop_at 1 fault.NotBuilt else stop_in (lines_of bytes)
+stop bytes = if nat_lt MOST_BYTES (length bytes) then Some too_large else stop_in (lines_of bytes)
 
 -- ---- the events before the stop, the newest first
 
--- the events so far, and where the next one is in its place, those that follow
-abbrev pub unless_refused : Option TraceFault → List TraceEvent → List TraceEvent → List TraceEvent
-unless_refused None before more = more
-unless_refused (Some f) before more = before
+-- the events so far, and where the line has its event, those that follow
+abbrev pub events_or : List TraceEvent → Result TraceEvent Cause → (TraceEvent → List TraceEvent) → List TraceEvent
+events_or before (Ok e) more = more e
+events_or before (Err c) more = before
 
--- the events so far, and where the line has one that is in its place, those that follow
-abbrev pub events_or : PlainState → List TraceEvent → Option TraceEvent → (PlainState → TraceEvent → List TraceEvent) → List TraceEvent
-events_or s before None more = before
-events_or s before (Some e) more = unless_refused (fault_at s e) before (more (after s e) e)
+-- the events of the lines, behind these
+abbrev pub events_from : List TraceEvent → List (List ℕ) → List TraceEvent
+events_from before [] = before
+events_from before (line ∷ lines) = events_or before (line_after before line) (λ e. events_from (e ∷ before) lines)
 
--- the events of the lines, behind those of a state
-abbrev pub events_from : PlainState → List TraceEvent → List (List ℕ) → List TraceEvent
-events_from s before [] = before
-events_from s before (line ∷ lines) = events_or s before (plain_event line) (λ t e. events_from t (e ∷ before) lines)
+-- the events behind the header
+abbrev pub events_behind : Option TraceFault → List (List ℕ) → List TraceEvent
+events_behind (Some f) lines = []
+events_behind None lines = events_from [] (drop 1 lines)
 
--- the events of the lines behind the header
+-- the events of these lines, up to their stop
 abbrev pub events_in : List (List ℕ) → List TraceEvent
-events_in [] = []
-events_in (line ∷ lines) = if is_header line then events_from at_start [] lines else []
+events_in lines = events_behind (header_fault lines) lines
 
 -- the events of a trace, up to its stop
 abbrev pub events_of : List ℕ → List TraceEvent
-events_of bytes = if nat_lt 1048576 (length bytes) then [] else events_in (lines_of bytes)
+events_of bytes = if nat_lt MOST_BYTES (length bytes) then [] else events_in (lines_of bytes)

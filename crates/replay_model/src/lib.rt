@@ -24,6 +24,9 @@ ghost use Rattle.replay_model.specs.Stop.{events_of};
 use object_model::Object;
 use trace_format::Name;
 
+/// How many bytes of a trace are replayed so far. A longer one stops at its first line.
+pub const MOST_BYTES: usize = 1_048_576;
+
 /// A checking or wrapping part of a layer. The parts of a chain are numbered from 1, from the application down.
 #[derive(Clone, Copy, Debug, PartialEq, Eq)]
 pub enum PartKind {
@@ -68,13 +71,13 @@ pub fn skipped_calls_are_not_sent()
         skipped_in (judged (no_layers s) (less (judged s events))) ≡ 0 }
 {}
 
-/// The events of a plain trace, up to its stop, may each follow those before it, so that what is said of accepted events holds of them.
-pub fn plain_traces_are_accepted()
+/// The events of a trace, up to its stop, may each follow those before it, so that what is said of accepted events holds of them.
+pub fn traces_are_accepted()
     ensures { (bytes : List ℕ) → are_accepted (events_of bytes) ≡ true }
 {}
 
-/// So the drivers of a plain trace are told just what the trace less its skipped calls tells them with no layers.
-pub fn skipped_calls_of_a_plain_trace_are_not_sent()
+/// So the drivers are told just what the trace, up to its stop and less its skipped calls, tells them with no layers.
+pub fn skipped_calls_of_a_trace_are_not_sent()
     ensures calls { (s : Setup) (bytes : List ℕ) (replies : List ReplyContent) →
         direct (judged (no_layers s) (less (judged s (events_of bytes)))) replies ≡ direct (judged s (events_of bytes)) replies }
     ensures exchanges { (s : Setup) (bytes : List ℕ) (replies : List ReplyContent) →
