@@ -11,4 +11,4 @@ pub mod AnswerLemmas
 pub mod LineLemmas
 pub mod CommandLemmas
 pub mod CodeLemmas
-pub mod PlainLemmas
+pub mod StateLemmas

@@ -10,6 +10,7 @@ use Rattle.command_tables.specs.Effects.{type_made}
 use Rattle.command_tables.specs.Table.{ParamSpec, row_of}
 use Rattle.command_tables.specs.Tests.{same_code, same_command, same_type}
 use Rattle.trace_format.specs.declared.event.Name.{Name}
+use Rattle.trace_format.specs.declared.limits.TheConstants.{MAX_NAMES}
 use Rattle.trace_format.specs.declared.fault.TraceFault.{TraceFault}
 use Rattle.trace_format.specs.declared.fault.TraceFault.TheVariants as fault
 use Rattle.trace_format.specs.Content.{Arg, TraceEvent, Begin, Return}
@@ -98,7 +99,7 @@ names_in (Return thread ∷ before) = names_in before
 
 -- an event would bring the number of names above 4,194,304
 abbrev pub exceeds_names : List TraceEvent → TraceEvent → Bool
-exceeds_names before e = nat_lt 4194304 (names_in (e ∷ before))
+exceeds_names before e = nat_lt MAX_NAMES (names_in (e ∷ before))
 
 -- these names are a thread's, numbered from a number on
 abbrev pub count_on : ℕ → ℕ → List Name → Bool

@@ -7,6 +7,7 @@ use Rattle.command_tables.specs.declared.types.Effect.TheVariants as eff
 use Rattle.command_tables.specs.CodeNames.{code_name}
 use Rattle.command_tables.specs.Table.{ParamSpec, row_of}
 use Rattle.trace_format.specs.declared.event.Name.{Name}
+use Rattle.trace_format.specs.declared.limits.TheConstants.{MAX_NAMES, MAX_PLACES, MAX_THREADS}
 use Rattle.trace_format.specs.Content.{Arg, BeginEvent, TraceEvent, Begin, Return}
 
 -- a name: `%`, its thread, `.`, its number
@@ -56,11 +57,11 @@ IsUpTo limit n = (1 ≤ n) × (n ≤ limit)
 
 -- threads are 1 to 1,024
 abbrev pub IsThread : ℕ → Type 0
-IsThread n = IsUpTo 1024 n
+IsThread n = IsUpTo MAX_THREADS n
 
 -- a name has a thread, and a number from 1 to 4,194,304
 abbrev pub IsName : Name → Type 0
-IsName n = IsThread n.thread × IsUpTo 4194304 n.number
+IsName n = IsThread n.thread × IsUpTo MAX_NAMES n.number
 
 -- one place is null or a name
 abbrev pub IsOne : Option Name → Type 0
@@ -69,7 +70,7 @@ IsOne (Some n) = IsName n
 
 -- an argument in the form of a list, of at most 1,024 places, or in the form of one place
 abbrev pub HasForm : Bool → Arg → Type 0
-HasForm true a = (a.many ≡ true) × (nat_le (length a.names) 1024 ≡ true) × AllByRecursion IsOne a.names
+HasForm true a = (a.many ≡ true) × (nat_le (length a.names) MAX_PLACES ≡ true) × AllByRecursion IsOne a.names
 HasForm false a = (a.many ≡ false) × ((length a.names == 1) ≡ true) × AllByRecursion IsOne a.names
 
 -- there is one argument for each parameter, a list where it takes one
@@ -86,9 +87,9 @@ HasFirst (a ∷ args) = AllByRecursion (λ n. IsSome n) a.names
 -- how many results a command with this effect has: one, up to 1,024 or none
 abbrev pub takes : Effect → ℕ → Bool
 takes (eff.Create t owner false) n = n == 1
-takes (eff.Create t owner true) n = nat_le n 1024
+takes (eff.Create t owner true) n = nat_le n MAX_PLACES
 takes (eff.Retrieve t owner false) n = n == 1
-takes (eff.Retrieve t owner true) n = nat_le n 1024
+takes (eff.Retrieve t owner true) n = nat_le n MAX_PLACES
 takes _ n = n == 0
 
 -- the bytes 0x20 to 0x7E

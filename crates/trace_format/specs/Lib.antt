@@ -6,6 +6,5 @@ pub mod Reading
 pub mod Accepting
 pub mod Samples
 pub mod Steps
-pub mod Plain
-pub mod PlainForm
-pub mod PlainSamples
+pub mod Gains
+pub mod State

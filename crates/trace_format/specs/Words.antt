@@ -10,6 +10,7 @@ use Rattle.command_tables.specs.declared.lookup.TheConstants.{COMMANDS}
 use Rattle.command_tables.specs.CodeNames.{code_name}
 use Rattle.command_tables.specs.Table.{ParamSpec, row_of}
 use Rattle.trace_format.specs.declared.event.Name.{Name}
+use Rattle.trace_format.specs.declared.limits.TheConstants.{MAX_NAMES, MAX_PLACES, MAX_THREADS}
 use Rattle.trace_format.specs.Content.{Arg}
 
 -- what is read, where something is, goes on to a further reading
@@ -71,7 +72,7 @@ number_up_to limit word = only_if (all_ascii_digits word && has_no_leading_zero 
 
 -- a thread
 abbrev pub thread_of : List ℕ → Option ℕ
-thread_of word = number_up_to 1024 word
+thread_of word = number_up_to MAX_THREADS word
 
 -- a thread and a number, where both are there
 abbrev pub name_with : Option ℕ → Option ℕ → Option Name
@@ -80,7 +81,7 @@ name_with _ _ = None
 
 -- a thread, `.` and a number
 abbrev pub numbers_of : List ℕ → Option Name
-numbers_of rest = name_with (thread_of (until 46 rest)) (and_then (after (codes ".") (from 46 rest)) (number_up_to 4194304))
+numbers_of rest = name_with (thread_of (until 46 rest)) (and_then (after (codes ".") (from 46 rest)) (number_up_to MAX_NAMES))
 
 -- a name: `%`, a thread, `.` and a number
 unfoldable pub name_of : List ℕ → Option Name
@@ -97,7 +98,7 @@ places_of (b ∷ bytes) = all_of one_of (pieces (b ∷ bytes))
 
 -- a list of at most 1,024 places, where nothing but `]` stands behind them
 abbrev pub closed : List ℕ → List (Option Name) → Option Arg
-closed rest names = only_if (bytes_eq rest (codes "]") && nat_le (length names) 1024) (record { many = true; names = names })
+closed rest names = only_if (bytes_eq rest (codes "]") && nat_le (length names) MAX_PLACES) (record { many = true; names = names })
 
 -- the places up to `]`
 abbrev pub list_in : List ℕ → Option Arg

@@ -6,18 +6,19 @@
 mod event;
 mod fault;
 mod laws;
+mod limits;
 mod parse;
 mod samples;
-mod state;
 #[cfg(test)]
 mod tests;
+mod state;
+mod thread;
 
 pub use event::{Event, Name, TraceArg};
 pub use fault::TraceFault;
 pub use laws::{a_line_spells_one_event, reading_agrees_with_spelling};
-pub use parse::{
-    ParseError, facts_of_plain_events, lines_not_plain, parse_line, plain_lines, read_event,
-};
+pub use limits::{MAX_NAMES, MAX_PLACES, MAX_THREADS};
+pub use parse::{ParseError, parse_line};
 pub use samples::{
     events_after_events, lines_with_one_fault, lines_with_two_faults, longest_list, spelled_lines,
 };

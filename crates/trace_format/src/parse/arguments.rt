@@ -11,14 +11,12 @@ ghost use Rattle.trace_format.specs.Steps.{Answers, words_in};
 
 use crate::event::{Name, TraceArg};
 use crate::fault::TraceFault;
+use crate::limits::MAX_PLACES;
 use crate::parse::error::ParseError;
 use crate::parse::names::one;
 use crate::parse::words::{next_word, skip_one, split_before, split_piece};
 use command_tables::Param;
 use std::alloc::Global;
-
-/// The most places of a list.
-const PLACES: usize = 1024;
 
 /// The names between commas, where null is none.
 fn names_between(alloc: Global, inside: &[u8]) -> Result<Vec<Option<Name>>, ParseError>
@@ -58,7 +56,7 @@ fn list(alloc: Global, word: &[u8]) -> Result<TraceArg, ParseError>
     };
     let (inside, end) = split_before(b']', rest);
     let names = places(alloc, inside)?;
-    if end != b"]".as_slice() || names.len() > PLACES {
+    if end != b"]".as_slice() || names.len() > MAX_PLACES as usize {
         return Err(ParseError::Fault(TraceFault::Argument));
     }
     Ok(TraceArg { many: true, names })

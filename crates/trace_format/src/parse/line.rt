@@ -119,7 +119,7 @@ fn by_letter(alloc: Global, line: &[u8]) -> Result<Event, ParseError>
 /// The event that a line spells, without its line feed, or the first of its faults `NotAscii` to `Code`. `NoMemory` says
 /// nothing of the line.
 #[tactic(auto, unfolding(crate::specs::Reading::read_line))]
-pub fn read_event(alloc: Global, line: &[u8]) -> Result<Event, ParseError>
+pub fn parse_line(alloc: Global, line: &[u8]) -> Result<Event, ParseError>
     ensures answer { Answers content result (read_line line.now) }
     ensures grammar { IfOk result (λ event. IsEvent (content event)) }
 {

@@ -4,12 +4,8 @@ ghost use Rattle.std.specs.Str.{all_ascii_digits};
 ghost use Rattle.trace_format.specs.Words.{name_of, number_up_to, one_of, only_if, thread_of, value_after};
 
 use crate::event::Name;
+use crate::limits::{MAX_NAMES, MAX_THREADS};
 use crate::parse::words::split_before;
-
-/// The greatest number of a thread.
-const THREADS: u32 = 1024;
-/// The greatest number of a result.
-const NUMBERS: u32 = 4_194_304;
 
 /// The number that at most seven digits spell.
 fn value(word: &[u8]) -> Option<u32>
@@ -47,7 +43,7 @@ fn number(limit: u32, word: &[u8]) -> Option<u32>
 pub fn thread(word: &[u8]) -> Option<u32>
     ensures { result ≡ thread_of word.now }
 {
-    number(THREADS, word)
+    number(MAX_THREADS, word)
 }
 
 /// A name, as `%` thread `.` number.
@@ -59,7 +55,7 @@ pub fn name(word: &[u8]) -> Option<Name>
     let (before, after) = split_before(b'.', rest);
     let thread = thread(before)?;
     let digits = after.strip_prefix(b".")?;
-    let number = number(NUMBERS, digits)?;
+    let number = number(MAX_NAMES, digits)?;
     Some(Name { thread, number })
 }
 

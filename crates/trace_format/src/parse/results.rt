@@ -8,14 +8,12 @@ ghost use Rattle.trace_format.specs.Steps.{Answers, after_results, names_of_word
 
 use crate::event::Name;
 use crate::fault::TraceFault;
+use crate::limits::MAX_PLACES;
 use crate::parse::error::ParseError;
 use crate::parse::names::name;
 use crate::parse::words::{split_before, split_piece};
 use command_tables::Effect;
 use std::alloc::Global;
-
-/// The most results of a call.
-const RESULTS: usize = 1024;
 
 /// Whether a command of this effect has so many results.
 fn takes(effect: Effect, count: usize) -> bool
@@ -23,7 +21,7 @@ fn takes(effect: Effect, count: usize) -> bool
 {
     match effect {
         Effect::Create { many, .. } | Effect::Retrieve { many, .. } => {
-            if many { count <= RESULTS } else { count == 1 }
+            if many { count <= MAX_PLACES as usize } else { count == 1 }
         }
         _ => count == 0,
     }

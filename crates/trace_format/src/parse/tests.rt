@@ -2,15 +2,14 @@
 use crate::event::{Event, Name, TraceArg};
 use crate::fault::TraceFault;
 use crate::parse::error::ParseError;
-use crate::parse::line::read_event;
-use crate::parse::plain::parse_line;
+use crate::parse::line::parse_line;
 use command_tables::{Code, CommandId};
 use std::alloc::{AllocError, Global};
 use std::test::Fail;
 
 // The fault that is read, if any.
 fn fault_of(alloc: Global, line: &str) -> Option<TraceFault> {
-    match read_event(alloc, line.as_bytes()) {
+    match parse_line(alloc, line.as_bytes()) {
         Err(ParseError::Fault(fault)) => Some(fault),
         _ => None,
     }
@@ -101,34 +100,6 @@ fn a_begin_with_lists_and_a_payload_is_read(rt: HostRuntime) -> Result<(), Fail>
         code: Some(Code::ErrorDeviceLost),
         payload: Vec::from_slice(rt.alloc(), b"a b")?,
     };
-    assert_eq!(rt; read_event(rt.alloc(), line)?, event);
-    Ok(())
-}
-
-#[test]
-fn a_plain_line_is_parsed(rt: HostRuntime) -> Result<(), Fail> {
-    let event = Event::Begin {
-        thread: 1,
-        cmd: CommandId::CreateDevice,
-        args: vec![in rt.alloc(); argument(rt.alloc(), false, &[own(2)])?]?,
-        results: vec![in rt.alloc();
-            Name {
-                thread: 1,
-                number: 3
-            },
-        ]?,
-        code: Some(Code::Success),
-        payload: Vec::new(rt.alloc()),
-    };
-    assert_eq!(rt;
-        parse_line(rt.alloc(), b"b 1 vkCreateDevice %1.2 = %1.3 VK_SUCCESS")?,
-        event
-    );
-    assert_eq!(rt;
-        parse_line(rt.alloc(), b"r 1")?,
-        Event::Return { thread: 1 }
-    );
-    let other = parse_line(rt.alloc(), b"r 2");
-    assert!(rt; matches!(&other, Err(ParseError::Fault(TraceFault::NotBuilt))));
+    assert_eq!(rt; parse_line(rt.alloc(), line)?, event);
     Ok(())
 }
