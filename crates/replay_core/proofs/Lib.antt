@@ -1,5 +1,4 @@
 pub mod Given
-pub mod Stops
 pub mod Lists
 pub mod Shown
 pub mod Reports
@@ -17,5 +16,5 @@ pub mod Shapes
 pub mod Valuing
 pub mod Opens
 pub mod Retrieving
-pub mod Runs
+pub mod Playing
 pub mod Progress

@@ -1,7 +1,5 @@
 pub mod Errors
-pub mod Gave
 pub mod Replayed
-pub mod Causes
 pub mod Statuses
 pub mod Setups
 pub mod Places
@@ -11,4 +9,6 @@ pub mod Shown
 pub mod Beginning
 pub mod Stands
 pub mod Lines
-pub mod Played
+pub mod Traffic
+pub mod Plays
+pub mod Ending

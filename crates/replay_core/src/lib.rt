@@ -17,6 +17,7 @@ mod names;
 mod object_table;
 mod owners;
 mod play;
+mod player;
 mod read;
 mod retrieved_table;
 mod run;

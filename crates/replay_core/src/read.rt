@@ -2,13 +2,12 @@
 ghost use Rattle.std.specs.Prelude.{◌≡◌, ◌≢◌, ◌<◌, ◌≤◌, ℕ, List, length, IfOk, Err};
 ghost use Rattle.replay_base.specs.Bytes.{before};
 ghost use Rattle.replay_base.specs.Faults.{Rose};
-ghost use Rattle.replay_core.specs.Gave.{Gave, GaveTooMuch};
+ghost use Rattle.replay_base.specs.Changes.{Gave, changed};
+ghost use Rattle.replay_core.specs.Ending.{GaveTooMuch, Reads};
 
 use replay_base::Source;
+use replay_model::MOST_BYTES;
 use std::alloc::{AllocError, Global};
-
-/// How many bytes of a trace are replayed so far.
-pub const MOST_BYTES: usize = 1_048_576;
 
 /// Why a source wasn't read.
 #[derive(Clone, Copy)]
@@ -32,11 +31,7 @@ impl From<AllocError> for Unread {
 /// All that a source has, if it isn't more than `MOST_BYTES`.
 #[tactic(auto, using(crate::proofs::Given::before_before, crate::proofs::Given::before_nil))]
 pub fn read_all<S: Source>(alloc: Global, source: &mut S) -> Result<Vec<u8>, Unread>
-    ensures ok { IfOk result (λ bytes. Gave (S.left source.old) (S.left source.new) bytes.items) }
-    ensures most { IfOk result (λ bytes. length bytes.items ≤ MOST_BYTES) }
-    ensures large { result ≡ Err Unread.TooLarge → GaveTooMuch (S.left source.old) (S.left source.new) }
-    ensures rose { result ≡ Err Unread.Failed → Rose (S.faults source.old) (S.faults source.new) }
-    ensures stood { result ≢ Err Unread.Failed → S.faults source.new ≡ S.faults source.old }
+    ensures { Reads (changed (S.left source.old) (S.left source.new) (S.faults source.old) (S.faults source.new)) result }
 {
     let mut bytes = Vec::new(alloc);
     let mut buf = [0u8; 4096];
