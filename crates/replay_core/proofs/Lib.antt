@@ -2,16 +2,13 @@ pub mod Copies
 pub mod Given
 pub mod Handles
 pub mod Stops
-pub mod Lists
 pub mod Shown
 pub mod Reports
 pub mod Openings
 pub mod Telling
 pub mod Joined
 pub mod Objects
-pub mod Found
 pub mod Same
-pub mod Living
 pub mod OneDriver
 pub mod Simulation
 pub mod Steps

@@ -7,8 +7,6 @@ pub mod Replayed
 pub mod Causes
 pub mod Statuses
 pub mod Setups
-pub mod Places
-pub mod Population
 pub mod Kept
 pub mod Shown
 pub mod Beginning

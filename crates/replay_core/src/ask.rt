@@ -11,8 +11,8 @@ ghost use Rattle.replay_core.specs.Stands.{Asked};
 use crate::call::OpenCall;
 use crate::driver::{Driver, DriverCall, DriverReply};
 use crate::told::values_of;
-use crate::value_table::ValueTable;
 use command_tables::{CommandId, LayerCall, NoMemory};
+use session_tables::ValueTable;
 use std::alloc::Global;
 
 // How many handles the driver is asked for: it has one physical device.

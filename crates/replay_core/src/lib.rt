@@ -6,24 +6,18 @@
 mod adverse_driver;
 mod ask;
 mod begin;
-mod birth_table;
 mod call;
 mod driver;
 mod due;
 mod error;
-mod index;
 mod laws;
 mod lines;
 mod made;
 mod model_driver;
-mod name_table;
 mod names;
-mod object_table;
-mod owners;
 mod play;
 mod read;
 mod recording_driver;
-mod retrieved_table;
 mod run;
 mod session;
 mod status;
@@ -31,7 +25,6 @@ mod tally;
 #[cfg(test)]
 mod tests;
 mod told;
-mod value_table;
 
 pub use adverse_driver::AdverseDriver;
 pub use driver::{Driver, DriverCall, DriverReply, Policy};
