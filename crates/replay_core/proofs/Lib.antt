@@ -1,14 +1,11 @@
 pub mod Given
-pub mod Lists
 pub mod Shown
 pub mod Reports
 pub mod Openings
 pub mod Telling
 pub mod Joined
 pub mod Objects
-pub mod Found
 pub mod Same
-pub mod Living
 pub mod OneDriver
 pub mod Simulation
 pub mod Steps

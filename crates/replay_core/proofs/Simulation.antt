@@ -17,7 +17,8 @@ use Rattle.replay_model.specs.Births.{made_by}
 use Rattle.replay_model.specs.Judged.{Begun, returned_by, judged, begun_of, made_of}
 use Rattle.replay_model.specs.Direct.{Answered, Sent, sent, valued, before_call, own_replies, answers_to, answers_of}
 use Rattle.replay_core.specs.Setups.{one_driver}
-use Rattle.replay_core.specs.Kept.{Kept, after_begin, after_return, begun_from, begun_at, made_at, given_at, answered_by, LivesOn, LivesToo}
+use Rattle.session_tables.specs.Population.{LivesToo}
+use Rattle.replay_core.specs.Kept.{Kept, after_begin, after_return, begun_from, begun_at, made_at, given_at, answered_by, LivesOn}
 use Rattle.replay_core.specs.Stands.{StandsFor, Stands}
 use Rattle.replay_core.proofs.Objects.{born_more}
 use Rattle.replay_core.proofs.OneDriver.{begun_judged}

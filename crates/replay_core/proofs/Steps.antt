@@ -24,8 +24,9 @@ use Rattle.replay_model.specs.Judged.{Begun, judged, begun_of, made_of}
 use Rattle.replay_model.specs.Direct.{Answered, Sent, Valued, valued, valued_of, driver_call, before_call, own_replies, answers_to, begin_exchanges, exchanges_at, sends_at}
 use Rattle.replay_model.specs.Text.{chain_text, report_text, written_at, return_text, lines_of}
 use Rattle.replay_core.specs.Setups.{one_driver}
-use Rattle.replay_core.specs.Kept.{Kept, stop_where, sent_to, answered_by, begun_from, begun_at, after_call, after_begin, after_return, made_at, given_at, LivesOn, LivesToo}
-use Rattle.replay_core.specs.Population.{Population}
+use Rattle.session_tables.specs.Population.{LivesToo}
+use Rattle.replay_core.specs.Kept.{Kept, stop_where, sent_to, answered_by, begun_from, begun_at, after_call, after_begin, after_return, made_at, given_at, LivesOn}
+use Rattle.session_tables.specs.Population.{Population}
 use Rattle.replay_core.specs.Lines.{first_of, first_name, loader_report, loader_line}
 use Rattle.model_driver.specs.Logs.{Log, logged}
 use Rattle.replay_core.specs.Stands.{Stands, Advances, Tells, Asked}

@@ -5,7 +5,7 @@ use Rattle.trace_format.specs.Content.{BeginEvent}
 use Rattle.object_model.specs.declared.Object.{Object}
 use Rattle.object_model.specs.declared.Argument.{Argument}
 use Rattle.object_model.specs.Objects.{is_in}
-use Rattle.object_model.specs.History.{Birth, born_in, ends_by, births_given}
+use Rattle.object_model.specs.History.{Birth, ends_by, births_given}
 use Rattle.object_model.specs.Rules.{Failure, loader_failures}
 use Rattle.replay_model.specs.declared.Named.{Named}
 use Rattle.replay_model.specs.declared.Born.{Born}
@@ -98,10 +98,6 @@ made_at k o = made_by 1 k.births (is_in k.living) k.retrieved o
 -- what a return makes is born, as far as it isn't yet
 abbrev pub given_at : Kept → Opened → List Born → List Birth
 given_at k o made = births_given k.births o.args (row_of o.cmd).effect (objects_of made)
-
--- the objects that live after these births
-abbrev pub LivesToo : List Object → List Birth → List Object → Type 0
-LivesToo before given living = (x : Object) → is_in living x ≡ (is_in before x || born_in given x)
 
 -- what is kept after a return with these results and these answers, and these objects that live
 abbrev pub after_return : Kept → Opened → List Born → List Answered → List Object → Kept

@@ -2,8 +2,6 @@ pub mod Errors
 pub mod Replayed
 pub mod Statuses
 pub mod Setups
-pub mod Places
-pub mod Population
 pub mod Kept
 pub mod Shown
 pub mod Beginning

@@ -10,9 +10,9 @@ ghost use Rattle.replay_core.specs.Stands.{Asked};
 
 use crate::call::OpenCall;
 use crate::told::values_of;
-use crate::value_table::ValueTable;
 use command_tables::{CommandId, LayerCall, NoMemory};
 use model_driver::{Driver, DriverCall, DriverReply};
+use session_tables::ValueTable;
 use std::alloc::Global;
 
 // How many handles the driver is asked for: it has one physical device.

@@ -7,15 +7,15 @@ ghost use Rattle.trace_format.specs.Content.{arg_content};
 ghost use Rattle.replay_model.specs.Places.{is_failing};
 ghost use Rattle.replay_core.specs.Kept.{begun_from};
 ghost use Rattle.replay_core.specs.Lines.{first_name};
-ghost use Rattle.replay_core.specs.Shown.{args_shown, opened_of};
+ghost use Rattle.session_tables.specs.Shown.{args_shown};
+ghost use Rattle.replay_core.specs.Shown.{opened_of};
 ghost use Rattle.replay_core.specs.Beginning.{begin_content};
 
 use crate::call::OpenCall;
-use crate::name_table::NameTable;
 use crate::names::arguments;
-use crate::object_table::ObjectTable;
 use command_tables::{Code, CommandId, Param, row};
 use object_model::Argument;
+use session_tables::{NameTable, ObjectTable};
 use std::alloc::{AllocError, Global};
 use trace_format::{Name, TraceArg};
 

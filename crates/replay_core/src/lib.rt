@@ -5,21 +5,15 @@
 
 mod ask;
 mod begin;
-mod birth_table;
 mod call;
 mod error;
-mod index;
 mod laws;
 mod lines;
 mod made;
-mod name_table;
 mod names;
-mod object_table;
-mod owners;
 mod play;
 mod player;
 mod read;
-mod retrieved_table;
 mod run;
 mod session;
 mod status;
@@ -27,7 +21,6 @@ mod tally;
 #[cfg(test)]
 mod tests;
 mod told;
-mod value_table;
 
 pub use error::{ReplayError, SessionError};
 pub use run::replay;

@@ -6,18 +6,17 @@ ghost use Rattle.command_tables.specs.Table.{row_of, seen, seen_param};
 ghost use Rattle.object_model.specs.Objects.{is_in};
 ghost use Rattle.replay_model.specs.Past.{is_new, key_payload, named_of, retrieval, retrieved_by, retrieves};
 ghost use Rattle.replay_model.specs.Births.{owner_lives, bears, bearable, own_object, own_number, is_kept, retrieved_object, result_object, born_with, made_by};
-ghost use Rattle.replay_core.specs.Shown.{opened_of, value_of, valued_with};
+ghost use Rattle.session_tables.specs.Shown.{value_of};
+ghost use Rattle.replay_core.specs.Shown.{opened_of, valued_with};
 
-use crate::birth_table::BirthTable;
 use crate::call::OpenCall;
-use crate::name_table::NameTable;
-use crate::object_table::ObjectTable;
-use crate::owners::owner;
-use crate::retrieved_table::{RetrievedEntry, RetrievedKey, RetrievedTable};
-use crate::value_table::{ValueEntry, ValueTable};
 use command_tables::{CommandId, Effect, ObjectType, row};
 use object_model::Object;
 use replay_model::{Born, Named};
+use session_tables::{
+    BirthTable, NameTable, ObjectTable, RetrievedEntry, RetrievedKey, RetrievedTable, ValueEntry,
+    ValueTable, owner,
+};
 use std::alloc::{AllocError, Global};
 use trace_format::Name;
 

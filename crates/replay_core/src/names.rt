@@ -2,10 +2,10 @@
 ghost use Rattle.std.specs.Prelude.{◌≡◌, map, IfOk};
 ghost use Rattle.trace_format.specs.Content.{arg_content};
 ghost use Rattle.replay_model.specs.Past.{argument_in, arguments_in};
-ghost use Rattle.replay_core.specs.Shown.{args_shown};
+ghost use Rattle.session_tables.specs.Shown.{args_shown};
 
-use crate::name_table::NameTable;
 use object_model::Argument;
+use session_tables::NameTable;
 use std::alloc::{AllocError, Global};
 use trace_format::{Name, TraceArg};
 

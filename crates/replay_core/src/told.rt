@@ -1,11 +1,11 @@
 // What the driver is told for the arguments of a call.
 ghost use Rattle.std.specs.Prelude.{◌≡◌, ◌≤◌, map, length, IfOk};
 ghost use Rattle.replay_model.specs.Direct.{value_in};
-ghost use Rattle.replay_core.specs.Shown.{args_shown};
+ghost use Rattle.session_tables.specs.Shown.{args_shown};
 
-use crate::value_table::ValueTable;
 use command_tables::{HandleArgs, NoMemory};
 use object_model::Argument;
+use session_tables::ValueTable;
 use std::alloc::{AllocError, Global};
 
 fn value_of(values: &ValueTable, argument: Argument) -> u64

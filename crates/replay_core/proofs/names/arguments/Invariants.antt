@@ -1,7 +1,7 @@
 use Rattle.std.proofs.Common.{◌≡◌, map, take}
 use Rattle.trace_format.specs.Content.{arg_content}
 use Rattle.replay_model.specs.Past.{arguments_in}
-use Rattle.replay_core.specs.Shown.{args_shown}
+use Rattle.session_tables.specs.Shown.{args_shown}
 use Rattle.replay_core.proofs.names.arguments.Given as goal
 
 abbrev pub invariant-loop-arg : goal.invariant-loop-arg

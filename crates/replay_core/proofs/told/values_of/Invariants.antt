@@ -1,6 +1,6 @@
 use Rattle.std.proofs.Common.{◌≡◌, map, take}
 use Rattle.replay_model.specs.Direct.{value_in}
-use Rattle.replay_core.specs.Shown.{args_shown}
+use Rattle.session_tables.specs.Shown.{args_shown}
 use Rattle.replay_core.proofs.told.values_of.Given as goal
 
 abbrev pub invariant-loop-arg : goal.invariant-loop-arg

@@ -1,0 +1,20 @@
+//! The tables of a session: the names with their objects, what the driver answered for objects, the births with their owners and what
+//! lives of them, and the retrieved objects by their keys. Promises that each table holds the lists of the definitions, and that each
+//! look-up answers what the definitions say of those lists.
+//! Leaves to others what a call makes and ends, and in which order.
+#![tactic(auto)]
+
+mod birth_table;
+mod index;
+mod name_table;
+mod object_table;
+mod owners;
+mod retrieved_table;
+mod value_table;
+
+pub use birth_table::{BirthTable, ObjectEntry};
+pub use name_table::NameTable;
+pub use object_table::ObjectTable;
+pub use owners::owner;
+pub use retrieved_table::{RetrievedEntry, RetrievedKey, RetrievedTable};
+pub use value_table::{ValueEntry, ValueTable};

@@ -1,0 +1,93 @@
+// The owners of what a call makes.
+ghost use Rattle.std.specs.Prelude.{◌≡◌, [], slice_get, unwrap_or, IfOk};
+ghost use Rattle.object_model.specs.Objects.{first_in, object_of};
+ghost use Rattle.object_model.specs.History.{owners_given};
+ghost use Rattle.replay_model.specs.Past.{owner_by};
+ghost use Rattle.session_tables.specs.Shown.{args_shown};
+
+use crate::birth_table::BirthTable;
+use command_tables::{Effect, OwnerOf};
+use object_model::{Argument, Object};
+use std::alloc::{AllocError, Global};
+
+/// The object for which an argument stands.
+pub fn object_in_place(argument: Argument) -> Option<Object>
+    ensures { result ≡ object_of argument }
+{
+    match argument {
+        Argument::Null | Argument::Unborn => None,
+        Argument::The(object) => Some(object),
+    }
+}
+
+/// The arguments of a parameter.
+#[tactic(auto, using(crate::proofs::Lists::slice_get_map))]
+pub fn arguments_at(args: &[Vec<Argument>], p: u8) -> &[Argument]
+    ensures { result.now ≡ unwrap_or (slice_get (args_shown args.now) p) [] }
+{
+    match args.get(p as usize) {
+        None => &[],
+        Some(at) => at,
+    }
+}
+
+fn first_object(args: &[Vec<Argument>], p: u8) -> Option<Object>
+    ensures { result ≡ first_in (args_shown args.now) p }
+{
+    match arguments_at(args, p).first() {
+        None => None,
+        Some(argument) => object_in_place(*argument),
+    }
+}
+
+/// The owner of what a call makes, its owner, and so on.
+pub fn owners_for(
+    alloc: Global,
+    births: &BirthTable,
+    args: &[Vec<Argument>],
+    owner: OwnerOf,
+) -> Result<Vec<Object>, AllocError>
+    ensures { IfOk result (λ v. v.items ≡ owners_given births.now (args_shown args.now) owner) }
+{
+    let mut owners = Vec::new(alloc);
+    match owner {
+        OwnerOf::Nobody => {}
+        OwnerOf::Param(p) => {
+            if let Some(object) = first_object(args, p) {
+                owners.push(object)?;
+                owners.extend_from_slice(births.owners_of(object))?;
+            }
+        }
+        OwnerOf::OwnerOfParam(p) => {
+            if let Some(object) = first_object(args, p) {
+                owners.extend_from_slice(births.owners_of(object))?;
+            }
+        }
+    }
+    Ok(owners)
+}
+
+fn owner_for(births: &BirthTable, args: &[Vec<Argument>], owner: OwnerOf) -> Option<Object>
+    ensures { result ≡ slice_get (owners_given births.now (args_shown args.now) owner) 0 }
+{
+    match owner {
+        OwnerOf::Nobody => None,
+        OwnerOf::Param(p) => first_object(args, p),
+        OwnerOf::OwnerOfParam(p) => match first_object(args, p) {
+            None => None,
+            Some(object) => births.owners_of(object).first().copied(),
+        },
+    }
+}
+
+/// The owner of what a call makes.
+pub fn owner(births: &BirthTable, args: &[Vec<Argument>], effect: Effect) -> Option<Object>
+    ensures { result ≡ owner_by births.now (args_shown args.now) effect }
+{
+    match effect {
+        Effect::Create { owner, .. } | Effect::Retrieve { owner, .. } => {
+            owner_for(births, args, owner)
+        }
+        Effect::None | Effect::Destroy(_) | Effect::Free(_) | Effect::Reset(_) => None,
+    }
+}
