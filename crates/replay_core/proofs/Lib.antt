@@ -13,5 +13,7 @@ pub mod Shapes
 pub mod Valuing
 pub mod Opens
 pub mod Retrieving
+pub mod Header
 pub mod Playing
 pub mod Progress
+pub mod Runs

@@ -14,7 +14,7 @@ use replay_base::{Sink, split_line};
 use replay_model::MOST_BYTES;
 
 /// The events behind the header, up to the first line that stops the replay.
-#[tactic(auto, using(crate::proofs::Progress::far_start, crate::proofs::Progress::far_next, crate::proofs::Progress::in_step, crate::proofs::Progress::far_ends, crate::proofs::Progress::at_end_whole, crate::proofs::Progress::at_end_open))]
+#[tactic(auto, using(crate::proofs::Progress::far_start, crate::proofs::Progress::in_step))]
 pub fn play<K: Sink, D: Driver>(
     player: &mut Player,
     bytes: &[u8],
