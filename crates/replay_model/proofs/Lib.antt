@@ -4,4 +4,5 @@ pub mod Alike
 pub mod LessLemmas
 pub mod Exchanges
 pub mod OneDriver
-pub mod PlainTraces
+pub mod Traces
+pub mod Loop

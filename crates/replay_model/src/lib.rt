@@ -5,13 +5,15 @@
 
 mod samples;
 
-ghost use Rattle.std.specs.Prelude.{◌≡◌, ◌++◌, List, [], length, reverse, true, ℕ, find, is_some};
+ghost use Rattle.std.specs.Prelude.{◌≡◌, ◌++◌, List, [], length, reverse, true, ℕ, find, is_some, map, None, Ok};
 ghost use Rattle.std.specs.List.{zip};
+ghost use Rattle.replay_base.specs.Lines.{lines_of};
 ghost use Rattle.command_tables.specs.Calls.{ReplyContent};
 ghost use Rattle.object_model.specs.declared.Object.{Object};
 ghost use Rattle.trace_format.specs.Accepting.{are_accepted, is_open};
 ghost use Rattle.trace_format.specs.Accepting.{calls_in as calls_begun};
 ghost use Rattle.trace_format.specs.Content.{TraceEvent};
+ghost use Rattle.trace_format.specs.Reading.{read_line};
 ghost use Rattle.replay_model.specs.Setup.{Setup};
 ghost use Rattle.replay_model.specs.Past.{Past, calls_in, is_of, open_calls, routed};
 ghost use Rattle.replay_model.specs.Judged.{driver_in, judge, judged};
@@ -19,7 +21,7 @@ ghost use Rattle.replay_model.specs.Places.{parts_in_force};
 ghost use Rattle.replay_model.specs.Direct.{direct, exchanges, exchanges_at, sends_at, sends_in};
 ghost use Rattle.replay_model.specs.Text.{lines, lines_at, skipped_in};
 ghost use Rattle.replay_model.specs.Less.{less, no_layers};
-ghost use Rattle.replay_model.specs.Stop.{events_of};
+ghost use Rattle.replay_model.specs.Stop.{behind_first, events_of, stop};
 
 use object_model::Object;
 use trace_format::Name;
@@ -68,13 +70,18 @@ pub fn skipped_calls_are_not_sent()
         skipped_in (judged (no_layers s) (less (judged s events))) ≡ 0 }
 {}
 
-/// The events of a plain trace, up to its stop, may each follow those before it, so that what is said of accepted events holds of them.
-pub fn plain_traces_are_accepted()
+/// The events of a trace, up to its stop, may each follow those before it, so that what is said of accepted events holds of them.
+pub fn traces_are_accepted()
     ensures { (bytes : List ℕ) → are_accepted (events_of bytes) ≡ true }
 {}
 
-/// So the drivers of a plain trace are told just what the trace less its skipped calls tells them with no layers.
-pub fn skipped_calls_of_a_plain_trace_are_not_sent()
+/// Where nothing stops a trace, its events, the oldest first, are those that the lines behind its header spell.
+pub fn a_trace_without_a_stop_spells_its_events()
+    ensures { (bytes : List ℕ) → stop bytes ≡ None → map (λ e. Ok e) (reverse (events_of bytes)) ≡ map read_line (behind_first (lines_of bytes)) }
+{}
+
+/// So the drivers of a trace are told just what the trace less its skipped calls tells them with no layers.
+pub fn skipped_calls_of_a_trace_are_not_sent()
     ensures calls { (s : Setup) (bytes : List ℕ) (replies : List ReplyContent) →
         direct (judged (no_layers s) (less (judged s (events_of bytes)))) replies ≡ direct (judged s (events_of bytes)) replies }
     ensures exchanges { (s : Setup) (bytes : List ℕ) (replies : List ReplyContent) →
