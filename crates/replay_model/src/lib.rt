@@ -5,7 +5,7 @@
 
 mod samples;
 
-ghost use Rattle.std.specs.Prelude.{◌≡◌, ◌++◌, List, [], length, reverse, true, ℕ, find, is_some};
+ghost use Rattle.std.specs.Prelude.{◌≡◌, ◌++◌, List, [], drop, length, map, reverse, true, ℕ, find, is_some, None, Ok};
 ghost use Rattle.std.specs.List.{zip};
 ghost use Rattle.command_tables.specs.Calls.{ReplyContent};
 ghost use Rattle.object_model.specs.declared.Object.{Object};
@@ -19,7 +19,9 @@ ghost use Rattle.replay_model.specs.Places.{parts_in_force};
 ghost use Rattle.replay_model.specs.Direct.{direct, exchanges, exchanges_at, sends_at, sends_in};
 ghost use Rattle.replay_model.specs.Text.{lines, lines_at, skipped_in};
 ghost use Rattle.replay_model.specs.Less.{less, no_layers};
-ghost use Rattle.replay_model.specs.Stop.{events_of};
+ghost use Rattle.replay_base.specs.Lines.{lines_of};
+ghost use Rattle.trace_format.specs.Reading.{read_line};
+ghost use Rattle.replay_model.specs.Stop.{events_of, stop};
 
 use object_model::Object;
 use trace_format::Name;
@@ -74,6 +76,11 @@ pub fn skipped_calls_are_not_sent()
 /// The events of a trace, up to its stop, may each follow those before it, so that what is said of accepted events holds of them.
 pub fn traces_are_accepted()
     ensures { (bytes : List ℕ) → are_accepted (events_of bytes) ≡ true }
+{}
+
+/// Where nothing stops a trace, its events, the oldest first, are those that the lines behind its header spell.
+pub fn a_trace_without_a_stop_spells_its_events()
+    ensures { (bytes : List ℕ) → stop bytes ≡ None → map (λ e. Ok e) (reverse (events_of bytes)) ≡ map read_line (drop 1 (lines_of bytes)) }
 {}
 
 /// So the drivers are told just what the trace, up to its stop and less its skipped calls, tells them with no layers.

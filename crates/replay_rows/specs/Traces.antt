@@ -96,3 +96,12 @@ buffer_destroyed_twice = buffer_destroyed ++ calls (codes "b 1 vkDestroyBuffer %
 -- an instance and one name for a physical device
 abbrev pub instance_and_device : List TraceEvent
 instance_and_device = calls (codes "b 1 vkCreateInstance = %1.1 VK_SUCCESS" ∷ codes "b 1 vkEnumeratePhysicalDevices %1.1 = %1.2 VK_SUCCESS" ∷ [])
+
+-- a trace of these lines, behind its header
+abbrev pub headed : List (List ℕ) → List ℕ
+headed lines = said (codes "vktrace 1" ∷ lines)
+
+-- an instance, its physical device and a device, up to the begin of the device's creation
+abbrev pub started_lines : List (List ℕ)
+started_lines =
+    codes "b 1 vkCreateInstance = %1.1 VK_SUCCESS" ∷ codes "r 1" ∷ codes "b 1 vkEnumeratePhysicalDevices %1.1 = %1.2 VK_SUCCESS" ∷ codes "r 1" ∷ codes "b 1 vkCreateDevice %1.2 = %1.3 VK_SUCCESS" ∷ []

@@ -6,4 +6,5 @@
 mod chains;
 mod drivers;
 mod objects;
+mod stops;
 mod threads;

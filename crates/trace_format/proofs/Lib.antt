@@ -12,3 +12,4 @@ pub mod LineLemmas
 pub mod CommandLemmas
 pub mod CodeLemmas
 pub mod StateLemmas
+pub mod PrintLemmas

@@ -1,5 +1,6 @@
 -- A line is read just as its event is spelled.
-use Rattle.std.proofs.Common.{◌≡◌, ◌<◌, ◌↔◌, ℕ, zero, suc, Bool, true, false, cond, Option, Some, None, Result, Ok, Err, IsErr, is_some, Contains, get_or, arith, List, [], ◌∷◌, ◌++◌, map, length, refl, sym, ap, ◌∙◌, subst, codes, decimal, lit<}
+use Rattle.std.proofs.Common.{◌≡◌, ◌<◌, ◌↔◌, ℕ, nat_le, not, zero, suc, Bool, true, false, cond, Option, Some, None, Result, Ok, Err, IsErr, is_some, Contains, get_or, arith, List, [], ◌∷◌, ◌++◌, map, length, refl, sym, ap, ◌∙◌, subst, codes, decimal, lit<}
+use Rattle.std.proofs.lemmas.Bool.{and_parts, leb-true, ne_eqb}
 use Rattle.std.specs.Option.{ok_or}
 use Rattle.std.specs.List.{AllByRecursion, list_all}
 use Rattle.command_tables.specs.declared.types.CommandId.{CommandId}
@@ -12,7 +13,7 @@ use Rattle.trace_format.specs.Content.{Arg, BeginEvent, TraceEvent, Begin, Retur
 use Rattle.trace_format.specs.Grammar.{FitParams, IsBegin, IsEvent, IsName, IsOne, Spells, arg_text, args_text, code_text, is_printable, name_text, one_text, payload_text, results_text, spelling, tail_text, takes}
 use Rattle.trace_format.specs.Words.{after, command_of, from, thread_of, until}
 use Rattle.trace_format.specs.Reading.{◌>>=◌, args_in, begin_at, by_letter, code_at, ending_at, payload_at, read_line, results_at, return_at, tail_at, words_at}
-use Rattle.trace_format.proofs.Texts.{AtEnd, Each, after_is, each, each_all, each_append, each_right, from_append, is_not, until_append, until_from}
+use Rattle.trace_format.proofs.Texts.{AtEnd, Each, after_is, each, each_all, each_append, each_right, each_weaker, from_append, is_not, until_append, until_from}
 use Rattle.trace_format.proofs.Names.{digit_no_space, digit_prints, name_each, number_each, number_reader, one_each}
 use Rattle.trace_format.proofs.Lists.{all_texts, arg_each, each_join}
 use Rattle.trace_format.proofs.Parts.{args_in_complete, args_read, code_at_complete, code_is_no_result, code_prints, code_read, command_complete, command_lacks_space, command_prints, command_sound, payload_at_end, payload_complete, payload_sound, results_complete, results_read, words_complete}
@@ -305,3 +306,23 @@ no_line_feed line e s has =
     let at : is_printable (get_or line has.0 10) ≡ true = each_at is_printable line has.0 10 prints has.1 in
     let ten : is_printable 10 ≡ true = rw has.2 at at in
     cc
+
+-- a printable byte is no line feed
+prints_on : (b : ℕ) → is_printable b ≡ true → is_not 10 b ≡ true
+prints_on b h = let low = leb-true 32 b (and_parts (nat_le 32 b) (nat_le b 126) h).0 in ap not (ne_eqb b 10 (λ e. omega arith))
+
+-- a spelling ends before the line feed behind it
+lacks_feed : (e : TraceEvent) → IsEvent e → Each (is_not 10) (spelling e)
+lacks_feed e event = each_weaker is_printable (is_not 10) prints_on (spelling e) (spelling_prints e event)
+
+-- so it is the line up to there
+pub printed_line : (e : TraceEvent) (rest : List ℕ) → IsEvent e → until 10 (spelling e ++ 10 ∷ rest) ≡ spelling e
+printed_line e rest event = until_append 10 (spelling e) (10 ∷ rest) (lacks_feed e event) refl
+
+-- behind which the line feed and the rest stand
+pub printed_rest : (e : TraceEvent) (rest : List ℕ) → IsEvent e → from 10 (spelling e ++ 10 ∷ rest) ≡ 10 ∷ rest
+printed_rest e rest event = from_append 10 (spelling e) (10 ∷ rest) (lacks_feed e event) refl
+
+-- and it is read again
+pub printed_event : (e : TraceEvent) → IsEvent e → read_line (spelling e) ≡ Ok e
+printed_event e event = read_spelled (spelling e) e (record { event = event; text = refl })

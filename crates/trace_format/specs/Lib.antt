@@ -7,4 +7,5 @@ pub mod Accepting
 pub mod Samples
 pub mod Steps
 pub mod Gains
+pub mod Printing
 pub mod State

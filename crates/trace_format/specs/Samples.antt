@@ -72,3 +72,11 @@ devices = begins 1 cmd.EnumeratePhysicalDevices (one (Some (name 1 1)) ∷ []) (
 -- then the begin and the return of the enumeration of its physical device
 abbrev pub with_device : List TraceEvent
 with_device = Return 1 ∷ devices ∷ with_instance
+
+-- one result, which may be used from the next line on
+abbrev pub fence : TraceEvent
+fence = begins 1 cmd.CreateFence (one (Some (name 1 3)) ∷ []) (name 1 4 ∷ []) (Some code.Success) []
+
+-- then the begin and the return of a device, and the begin of a fence
+abbrev pub with_fence : List TraceEvent
+with_fence = fence ∷ Return 1 ∷ device ∷ with_device

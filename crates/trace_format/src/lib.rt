@@ -8,6 +8,7 @@ mod fault;
 mod laws;
 mod limits;
 mod parse;
+mod print;
 mod samples;
 #[cfg(test)]
 mod tests;
@@ -16,10 +17,12 @@ mod thread;
 
 pub use event::{Event, Name, TraceArg};
 pub use fault::TraceFault;
-pub use laws::{a_line_spells_one_event, reading_agrees_with_spelling};
+pub use laws::{a_line_spells_one_event, a_printed_line_is_read_again, reading_agrees_with_spelling};
 pub use limits::{MAX_NAMES, MAX_PLACES, MAX_THREADS};
 pub use parse::{ParseError, parse_line};
+pub use print::print_line;
 pub use samples::{
-    events_after_events, lines_with_one_fault, lines_with_two_faults, longest_list, spelled_lines,
+    events_after_events, events_with_two_faults, lines_with_one_fault, lines_with_two_faults,
+    longest_list, spelled_lines,
 };
 pub use state::{AcceptError, TraceState};

@@ -4,7 +4,7 @@ ghost use Rattle.trace_format.specs.Accepting.{call_number, fault_after, fault_a
 ghost use Rattle.trace_format.specs.Content.{Return};
 ghost use Rattle.trace_format.specs.Grammar.{Spells};
 ghost use Rattle.trace_format.specs.Reading.{read_line};
-ghost use Rattle.trace_format.specs.Samples.{begins, buffers, device, devices, draw, instance, name, no_devices, one, queue, submit, waits, waits_line, with_device, with_instance};
+ghost use Rattle.trace_format.specs.Samples.{begins, buffers, device, devices, draw, instance, list, name, no_devices, one, queue, submit, waits, waits_line, with_device, with_fence, with_instance};
 
 use crate::fault::TraceFault;
 use command_tables::{Code, CommandId};
@@ -48,6 +48,10 @@ pub fn lines_with_one_fault()
     ensures unasked { read_line (codes "b 1 vkDestroyDevice %1.3 = %1.4 void") ≡ Err TraceFault.Results }
     ensures code { read_line (codes "b 1 vkCreateInstance = %1.1 VK_SUCCES") ≡ Err TraceFault.Code }
     ensures void { read_line (codes "b 1 vkCreateInstance = %1.1 void") ≡ Err TraceFault.Code }
+    ensures thread_of_name { read_line (codes "b 1 vkDestroyDevice %1025.1 void") ≡ Err TraceFault.Argument }
+    ensures number_of_name { read_line (codes "b 1 vkDestroyDevice %1.4194305 void") ≡ Err TraceFault.Argument }
+    ensures null_byte { read_line (codes "r 1" ++ 0 ∷ []) ≡ Err TraceFault.NotAscii }
+    ensures carriage_return { read_line (codes "r 1" ++ 13 ∷ []) ≡ Err TraceFault.NotAscii }
     ensures no_payload { read_line (codes "b 1 vkCreateInstance = %1.1 VK_SUCCESS : ") ≡ Err TraceFault.Code }
 {}
 
@@ -61,6 +65,15 @@ pub fn lines_with_two_faults()
     ensures argument { read_line (codes "b 1 vkDestroyBuffer %1.3 %1.04 = %1.5 void") ≡ Err TraceFault.Argument }
     ensures results { read_line (codes "b 1 vkCreateInstance = %1.4194305 void") ≡ Err TraceFault.Results }
     ensures code { read_line (codes "b 1 vkCreateInstance = %1.1 void :") ≡ Err TraceFault.Code }
+{}
+
+/// Events with two faults, of which the one with the lower number counts.
+pub fn events_with_two_faults()
+    ensures busy_and_unknown { fault_after (devices ∷ with_instance) (begins 1 CommandId.DestroyDevice (one (Some (name 1 9)) ∷ []) [] None []) ≡ Some TraceFault.Busy }
+    ensures idle_and_instance { fault_after (begins 2 CommandId.CreateInstance [] (name 2 1 ∷ []) (Some Code.ErrorUnknown) [] ∷ with_device) (Return 1) ≡ Some TraceFault.Idle }
+    ensures unknown_and_type { fault_after with_device (begins 1 CommandId.DestroyBuffer (one (Some (name 1 1)) ∷ one (Some (name 2 1)) ∷ []) [] None []) ≡ Some TraceFault.Unknown }
+    ensures type_and_sequence { fault_after with_device (begins 1 CommandId.CreateDevice (one (Some (name 1 1)) ∷ []) (name 1 4 ∷ []) (Some Code.Success) []) ≡ Some TraceFault.WrongType }
+    ensures sequence_and_instance { fault_after with_device (begins 1 CommandId.CreateInstance [] (name 1 4 ∷ []) (Some Code.Success) []) ≡ Some TraceFault.Sequence }
 {}
 
 /// Events after others, with each fault that they can have, and the numbers of their calls.
@@ -79,6 +92,9 @@ pub fn events_after_events()
     ensures unknown { fault_after with_instance device ≡ Some TraceFault.Unknown }
     ensures wrong_type { fault_after with_device (begins 1 CommandId.CreateDevice (one (Some (name 1 1)) ∷ []) (name 1 3 ∷ []) (Some Code.Success) []) ≡ Some TraceFault.WrongType }
     ensures unknown_later { fault_after with_device (begins 1 CommandId.DestroyBuffer (one (Some (name 1 1)) ∷ one (Some (name 1 9)) ∷ []) [] None []) ≡ Some TraceFault.Unknown }
+    ensures own_result { fault_after with_device (begins 1 CommandId.CreateDevice (one (Some (name 1 3)) ∷ []) (name 1 3 ∷ []) (Some Code.Success) []) ≡ Some TraceFault.Unknown }
+    ensures own_result_later { fault_after (device ∷ with_device) (begins 2 CommandId.DestroyDevice (one (Some (name 1 3)) ∷ []) [] None []) ≡ None }
+    ensures name_twice { fault_after with_fence (begins 2 CommandId.WaitForFences (one (Some (name 1 3)) ∷ list (Some (name 1 4) ∷ Some (name 1 4) ∷ []) ∷ []) [] (Some Code.Success) []) ≡ None }
     ensures sequence { fault_after with_device (begins 1 CommandId.CreateDevice (one (Some (name 1 2)) ∷ []) (name 1 4 ∷ []) (Some Code.Success) []) ≡ Some TraceFault.Sequence }
     ensures other_sequence { fault_after with_device (begins 2 CommandId.CreateDevice (one (Some (name 1 2)) ∷ []) (name 1 3 ∷ []) (Some Code.Success) []) ≡ Some TraceFault.Sequence }
     ensures second_instance { fault_after with_instance (begins 1 CommandId.CreateInstance [] (name 1 2 ∷ []) (Some Code.Success) []) ≡ Some TraceFault.Instance }

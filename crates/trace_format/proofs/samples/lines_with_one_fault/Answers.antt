@@ -27,5 +27,9 @@ returns c = record {
   unasked = refl;
   code = refl;
   void = refl;
+  thread_of_name = refl;
+  number_of_name = refl;
+  null_byte = refl;
+  carriage_return = refl;
   no_payload = refl;
 }

@@ -1,0 +1,28 @@
+//! Where small traces stop.
+ghost use Rattle.std.specs.Prelude.{◌≡◌, None, Some, [], ◌∷◌, ◌++◌, codes};
+ghost use Rattle.trace_format.specs.declared.fault.TraceFault.TheVariants as fault;
+ghost use Rattle.replay_model.specs.Stop.{at_fault, stop};
+ghost use Rattle.replay_rows.specs.Traces.{headed, said, started_lines};
+
+/// The first line behind the header is at fault.
+pub fn a_second_line_at_fault()
+    ensures thread { stop (headed (codes "b 01 vkCreateInstance = %1.1 VK_SUCCESS" ∷ [])) ≡ Some (at_fault 2 fault.Thread) }
+    ensures two_spaces { stop (headed (codes "b 1  vkCreateInstance = %1.1 VK_SUCCESS" ∷ [])) ≡ Some (at_fault 2 fault.Command) }
+    ensures leading_zero { stop (headed (codes "b 1 vkCreateInstance = %01.1 VK_SUCCESS" ∷ [])) ≡ Some (at_fault 2 fault.Results) }
+    ensures not_the_next { stop (headed (codes "b 1 vkCreateInstance = %1.2 VK_SUCCESS" ∷ [])) ≡ Some (at_fault 2 fault.Sequence) }
+    ensures no_open_call { stop (headed (codes "r 1" ∷ [])) ≡ Some (at_fault 2 fault.Idle) }
+{}
+
+/// A trace without a header stops at its first line.
+pub fn an_empty_trace()
+    ensures empty { stop [] ≡ Some (at_fault 1 fault.Header) }
+    ensures other_header { stop (said (codes "vktrace 2" ∷ [])) ≡ Some (at_fault 1 fault.Header) }
+{}
+
+/// A trace that is cut in the middle of a line stops there, and one that is cut between a call's begin and its return stops behind
+/// its last line.
+pub fn traces_that_are_cut()
+    ensures whole { stop (headed (started_lines ++ codes "r 1" ∷ [])) ≡ None }
+    ensures in_a_line { stop (headed (started_lines ++ codes "r 1" ∷ []) ++ codes "b 1 vkDestroyDe") ≡ Some (at_fault 8 fault.Command) }
+    ensures in_a_call { stop (headed started_lines) ≡ Some (at_fault 7 fault.OpenAtEnd) }
+{}
