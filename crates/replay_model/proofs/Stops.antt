@@ -92,7 +92,9 @@ read_so : (before : List TraceEvent) (line : List ℕ) (e : TraceEvent) → line
 read_so before line e here = go (read_line line) refl here
   where
     put : (x : TraceEvent) → read_line line ≡ Ok x → (c : Option Cause) → unless_stopped x c ≡ Ok e → read_line line ≡ Ok e
-    put x is None p = is ∙ p
+    put x is None p =
+        let same : x ≡ e = cc in
+        is ∙ ap (λ y. Ok y) same
     put x is (Some c) p = cc
 
     go : (r : Result TraceEvent TraceFault) → read_line line ≡ r → placed before r ≡ Ok e → read_line line ≡ Ok e
