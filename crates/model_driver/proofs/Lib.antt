@@ -1,2 +1,4 @@
+pub mod Backs
 pub mod Copies
 pub mod Handles
+pub mod Seating

@@ -1,3 +1,5 @@
 pub mod Driver
 pub mod Logs
 pub mod Policies
+pub mod Seats
+pub mod Books

@@ -8,6 +8,7 @@ mod driver;
 mod due;
 mod model_driver;
 mod recording_driver;
+mod seat;
 
 pub use adverse_driver::AdverseDriver;
 pub use driver::{Driver, DriverCall, DriverReply, Policy};
