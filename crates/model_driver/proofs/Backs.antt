@@ -97,32 +97,32 @@ top_least back items rest n x book moved bound = least_is back x (top_back back 
         go false e = let some : 0 + times u rest ≡ 1 = ap (λ t. cond t 1 0 + times u rest) (sym e) ∙ all in above x u rest bound (omega (arith, some))
 
 -- one value is set
-set_here : (back : List Bool) (i : ℕ) (b : Bool) → i < length back → is_back (set back i b) (suc i) ≡ b
+pub set_here : (back : List Bool) (i : ℕ) (b : Bool) → i < length back → is_back (set back i b) (suc i) ≡ b
 set_here back i b within = get_or-set_same back i b false within
 
-set_other : (back : List Bool) (i : ℕ) (b : Bool) (v : ℕ) → nat_eq (suc i) v ≡ false → is_back (set back i b) v ≡ is_back back v
+pub set_other : (back : List Bool) (i : ℕ) (b : Bool) (v : ℕ) → nat_eq (suc i) v ≡ false → is_back (set back i b) v ≡ is_back back v
 set_other back i b zero ne = refl
 set_other back i b (suc k) ne =
     let apart : k ≢ i = λ (e : k ≡ i). let h : nat_eq (suc i) (suc k) ≡ true = eq-eqb (suc i) (suc k) (ap suc (sym e)) in cc in
     get_or-set_other back i k b false apart
 
+more_false : (back : List Bool) (k : ℕ) → get_or (back ++ false ∷ []) k false ≡ get_or back k false
+more_false [] zero = refl
+more_false [] (suc k) = refl
+more_false (b ∷ back) zero = refl
+more_false (b ∷ back) (suc k) = more_false back k
+
+pub more_out : (back : List Bool) (v : ℕ) → is_back (back ++ false ∷ []) v ≡ is_back back v
+more_out back zero = refl
+more_out back (suc k) = more_false back k
+
 -- one value more, which is out
 pub book_more : (back : List Bool) (items : List (Reverse ℕ)) (n : ℕ) → IsBook back items n → IsBook (back ++ false ∷ []) items n
 book_more back items n book = record {
   heap = book.heap;
-  each = λ v. book.each v ∙ ap (λ t. cond t 1 0) (sym (more v));
+  each = λ v. book.each v ∙ ap (λ t. cond t 1 0) (sym (more_out back v));
   size = book.size ∙ sym (sum_by_push (λ c. cond c 1 0) back false ∙ omega arith);
 }
-  where
-    out : (back : List Bool) (k : ℕ) → get_or (back ++ false ∷ []) k false ≡ get_or back k false
-    out [] zero = refl
-    out [] (suc k) = refl
-    out (b ∷ back) zero = refl
-    out (b ∷ back) (suc k) = out back k
-
-    more : (v : ℕ) → is_back (back ++ false ∷ []) v ≡ is_back back v
-    more zero = refl
-    more (suc k) = out back k
 
 less_at : (back : List Bool) (items rest : List (Reverse ℕ)) (n m i : ℕ) → IsBook back items n → IsPermutation items (record { 0 = suc i } ∷ rest) → IsHeap by_least rest → m + 1 ≡ n
     → IsBook (set back i false) rest m

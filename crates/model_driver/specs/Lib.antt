@@ -3,3 +3,4 @@ pub mod Logs
 pub mod Policies
 pub mod Seats
 pub mod Books
+pub mod Laws

@@ -1,9 +1,10 @@
 // The driver at the end of a chain.
-ghost use Rattle.std.specs.Prelude.{◌≡◌, ◌≤◌, [], None, IfOk, vec_capacity};
+ghost use Rattle.std.specs.Prelude.{◌≡◌, ◌≤◌, ◌↔◌, [], None, IfOk, IsTrue, vec_capacity};
 ghost use Rattle.command_tables.specs.Calls.{call_content, no_call};
 ghost use Rattle.command_tables.specs.Handles.{HasRoom};
 
-use command_tables::{Code, LayerCall, NoMemory};
+use crate::shape::{fits_asked, fits_row};
+use command_tables::{Code, LayerCall, NoMemory, row};
 use std::alloc::Global;
 
 /// Which handles a model driver answers.
@@ -27,6 +28,8 @@ pub struct DriverCall {
 }
 
 impl DriverCall {
+    ghost use Rattle.model_driver.specs.Driver.{call_shown, HasShape};
+
     /// A call without arguments to the first driver, of the one command that has none, that can hold so many handles and
     /// payload bytes with no further memory.
     pub fn with_room(alloc: Global, handles: usize, bytes: usize) -> Result<DriverCall, NoMemory>
@@ -37,6 +40,14 @@ impl DriverCall {
     {
         let body = LayerCall::with_room(alloc, handles, bytes)?;
         Ok(DriverCall { driver: 0, body })
+    }
+
+    /// Whether the call has the shape of its command's row.
+    pub fn has_shape(&self) -> bool
+        ensures { IsTrue result ↔ HasShape (call_shown self.now) }
+    {
+        let row = row(self.body.cmd);
+        fits_row(row.params, &self.body.args) && fits_asked(row.effect, self.body.asked)
     }
 }
 
