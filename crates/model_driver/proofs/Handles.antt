@@ -3,8 +3,12 @@ use Rattle.std.proofs.Common.{◌≡◌, ℕ, zero, suc, ◌+◌, ◌-◌, ◌�
 use Rattle.std.specs.Prelude.{replicate, ◌&&◌, nat_le}
 use Rattle.std.proofs.lemmas.List.{length-replicate, length-take}
 use Rattle.std.proofs.lemmas.List.Folds.{list_all-append}
-use Rattle.model_driver.specs.Driver.{are_handles}
-use Rattle.model_driver.specs.Policies.{given_from, counted_on, last_counted, next_value}
+use Rattle.model_driver.specs.Driver.{IsAnsweredBy, are_handles, handles_due}
+use Rattle.command_tables.specs.Calls.{DriverCallContent, ReplyContent}
+use Rattle.model_driver.specs.declared.driver.Policy.{Policy}
+use Rattle.model_driver.specs.declared.driver.Policy.TheVariants as policy
+use Rattle.model_driver.specs.Policies.{given_from, least_not_out, next_value, values_ended, values_given, with_all_back, with_given}
+use Rattle.model_driver.specs.Seats.{ModelState, back_of, handles_for}
 
 pub given_count : (values : List ℕ) (n : ℕ) → length (given_from values n) ≡ n
 given_count values n = simp (length-append, length-replicate, length-take) (omega arith)
@@ -52,39 +56,30 @@ pub handles_given : (out values : List ℕ) (at n : ℕ) → are_handles values 
 handles_given out values at n positive given =
     ap are_handles given ∙ given_handles (take (length values - at) (drop at values)) n (handles_take (length values - at) (drop at values) (handles_drop at values positive))
 
--- ---- counted handles
+-- ---- values by a policy
 
-next_positive : (n : ℕ) → nat_le 1 (next_value n) ≡ true
-next_positive n = grind arith
+least_positive : (back : List Bool) → nat_le 1 (least_not_out back) ≡ true
+least_positive [] = refl
+least_positive (true ∷ back) = refl
+least_positive (false ∷ back) = grind arith
 
-counted_count : (last n : ℕ) → length (counted_on last n) ≡ n
-counted_count last zero = refl
-counted_count last (suc n) = ap suc (counted_count (next_value last) n)
+next_positive : (p : Policy) (back : List Bool) → nat_le 1 (next_value p back) ≡ true
+next_positive policy.Fresh back = grind arith
+next_positive policy.Reuse back = least_positive back
+next_positive policy.Share back = refl
 
-counted_positive : (last n : ℕ) → are_handles (counted_on last n) ≡ true
-counted_positive last zero = refl
-counted_positive last (suc n) = both _ _ (next_positive last) (counted_positive (next_value last) n)
+pub values_count : (p : Policy) (back : List Bool) (n : ℕ) → length (values_given p back n) ≡ n
+values_count p back zero = refl
+values_count p back (suc n) = ap suc (values_count p (with_given back (next_value p back)) n)
 
-pub count_counted : (out : List ℕ) (last n : ℕ) → out ≡ counted_on last n → length out ≡ n
-count_counted out last n given = ap length given ∙ counted_count last n
+pub values_positive : (p : Policy) (back : List Bool) (n : ℕ) → are_handles (values_given p back n) ≡ true
+values_positive p back zero = refl
+values_positive p back (suc n) = both _ _ (next_positive p back) (values_positive p (with_given back (next_value p back)) n)
 
-pub handles_counted : (out : List ℕ) (last n : ℕ) → out ≡ counted_on last n → are_handles out ≡ true
-handles_counted out last n given = ap are_handles given ∙ counted_positive last n
-
--- one more of the handles that are left to count
-pub counted_one : (last n m : ℕ) → n ≡ m + 1 → counted_on last n ≡ next_value last ∷ counted_on (next_value last) m
-counted_one last n m is = ap (counted_on last) (is ∙ add-one m)
-
-pub last_one : (last n m : ℕ) → n ≡ m + 1 → last_counted last n ≡ last_counted (next_value last) m
-last_one last n m is = ap (last_counted last) (is ∙ add-one m)
-
-pub counted_more : (out done total : List ℕ) (now next n m : ℕ) → done ++ counted_on now n ≡ total → n ≡ m + 1 → next ≡ next_value now → out ≡ done ++ next ∷ [] → out ++ counted_on next m ≡ total
-counted_more out done total now next n m so_far is up pushed =
-    ap (λ xs. xs ++ counted_on next m) (pushed ∙ ap (λ x. done ++ x ∷ []) up) ∙ (append_assoc done (next_value now ∷ []) (counted_on next m) ∙ (ap (λ x. done ++ next_value now ∷ counted_on x m) up ∙ (ap (λ xs. done ++ xs) (sym (counted_one now n m is)) ∙ so_far)))
-
-pub last_more : (now next n m total : ℕ) → last_counted now n ≡ total → n ≡ m + 1 → next ≡ next_value now → last_counted next m ≡ total
-last_more now next n m total so_far is up = ap (λ x. last_counted x m) up ∙ (sym (last_one now n m is) ∙ so_far)
-
--- when none is left
-pub counted_all : (done : List ℕ) (now n last count : ℕ) → done ++ counted_on now n ≡ counted_on last count → n ≡ 0 → done ≡ counted_on last count
-counted_all done now n last count so_far none = sym (append-nil done) ∙ (ap (λ k. done ++ counted_on now k) (sym none) ∙ so_far)
+-- the handles that a model driver answers are an answer
+pub answers_so : (m : ModelState) (c : DriverCallContent) (r : ReplyContent) → r.code ≡ c.code → r.handles ≡ handles_for m c → IsAnsweredBy c r
+answers_so m c r code handles = record {
+  code = code;
+  count = ap length handles ∙ values_count m.policy (with_all_back (back_of m.seats c.driver) (values_ended c)) (handles_due c);
+  handles = ap are_handles handles ∙ values_positive m.policy (with_all_back (back_of m.seats c.driver) (values_ended c)) (handles_due c);
+}

@@ -1,2 +1,6 @@
+pub mod Backs
 pub mod Copies
 pub mod Handles
+pub mod Outs
+pub mod Rows
+pub mod Seating

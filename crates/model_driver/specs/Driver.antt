@@ -1,6 +1,6 @@
 -- What a driver is asked, and what it may answer.
 -- Source: Vulkan 1.3 specification, the chapters of the commands that create, allocate, get or enumerate; this project.
-use Rattle.std.specs.Prelude.{ℕ, ◌≡◌, ◌≤◌, Bool, true, false, if◌then◌else◌, nat_le, IsTrue, List, [], ◌∷◌, length}
+use Rattle.std.specs.Prelude.{ℕ, ◌≡◌, ◌≤◌, Bool, true, false, if◌then◌else◌, nat_le, IsTrue, Option, Some, None, List, [], ◌∷◌, length}
 use Rattle.std.specs.List.{list_all}
 use Rattle.command_tables.specs.declared.types.Effect.{Effect}
 use Rattle.command_tables.specs.declared.types.Effect.TheVariants as eff
@@ -9,6 +9,7 @@ use Rattle.command_tables.specs.Effects.{succeeds}
 use Rattle.command_tables.specs.Calls.{DriverCallContent, ReplyContent, driver_call_content}
 use Rattle.model_driver.specs.declared.driver.DriverCall.{DriverCall}
 use Rattle.model_driver.specs.declared.driver.DriverReply.{DriverReply}
+use Rattle.model_driver.specs.declared.driver.Policy.{Policy}
 
 -- the content of a call
 abbrev pub call_shown : DriverCall → DriverCallContent
@@ -55,3 +56,8 @@ FitsAsked _ n = n ≡ 0
 pub record HasShape (c : DriverCallContent) : Type 0 where
   pub params : FitsRow (row_of c.cmd).params c.args
   pub asked : FitsAsked (row_of c.cmd).effect c.asked
+
+-- the policy by which a driver answers once it is told one: that one, where it tells its policy
+abbrev pub prepared : Option Policy → Policy → Option Policy
+prepared None policy = None
+prepared (Some before) policy = Some policy

@@ -17,3 +17,8 @@ logged (Some log) more = Some (log ++ more)
 -- calls and replies as their contents
 abbrev pub exchanges_shown : List (DriverCall × DriverReply) → List (DriverCallContent × ReplyContent)
 exchanges_shown calls = map (λ (x : DriverCall × DriverReply). (call_shown x.0, reply_shown x.1)) calls
+
+-- a driver with the list of its calls, each with its reply
+pub record Recorded (D : Type 0) : Type 0 where
+  pub inner : D
+  pub calls : List (DriverCallContent × ReplyContent)

@@ -1,7 +1,6 @@
 // A driver that answers what a test gives it.
-ghost use Rattle.std.specs.Prelude.{◌≡◌, ◌∷◌, [], ◌≤◌, drop, length, IsTrue, OnOk, None};
+ghost use Rattle.std.specs.Prelude.{◌≡◌, ◌∷◌, [], ◌≤◌, drop, length, IsTrue, OnOk, OnErr};
 ghost use Rattle.model_driver.specs.Driver.{call_shown, reply_shown, handles_due, are_handles, HasShape, IsAnsweredBy};
-ghost use Rattle.model_driver.specs.Logs.{Log, logged};
 ghost use Rattle.model_driver.specs.Policies.{given_from};
 
 use crate::driver::{Driver, DriverCall, DriverReply, Policy};
@@ -60,15 +59,28 @@ fn give(values: &[u64], at: usize, count: usize, handles: &mut Vec<u64>) -> Resu
 }
 
 impl Driver for AdverseDriver {
+    ghost use Rattle.std.specs.Prelude.{◌≡◌, Option, None, drop};
+    ghost use Rattle.model_driver.specs.Driver.{handles_due};
+    ghost use Rattle.model_driver.specs.Policies.{given_from};
+
     ghost log = { λ _. None };
 
-    fn prepare(&mut self, _policy: Policy) {}
+    ghost answers_by = { λ _. None };
+
+    ghost prepare_gives = { λ before _ behind. behind ≡ before };
+
+    ghost call_gives = { λ before call reply behind. (reply.handles ≡ given_from before (handles_due call)) × (behind ≡ drop (handles_due call) before) };
+
+    fn prepare(&mut self, _policy: Policy)
+        ensures { self.new ≡ self.old }
+    {}
 
     fn call(&mut self, call: &DriverCall, reply: &mut DriverReply) -> Result<(), NoMemory>
         requires { HasShape (call_shown call.now) }
         ensures answers { OnOk result (IsAnsweredBy (call_shown call.now) (reply_shown reply.new)) }
         ensures handles { OnOk result (reply.new.handles.items ≡ given_from self.old (handles_due (call_shown call.now))) }
         ensures rest { OnOk result (self.new ≡ drop (handles_due (call_shown call.now)) self.old) }
+        ensures err { OnErr result (self.new ≡ self.old) }
     {
         let count = handles_due(call) as usize;
         give(&self.values, self.at, count, &mut reply.handles)?;

@@ -6,10 +6,16 @@
 mod adverse_driver;
 mod driver;
 mod due;
+mod laws;
 mod model_driver;
 mod recording_driver;
+mod seat;
+mod shape;
+#[cfg(test)]
+mod tests;
 
 pub use adverse_driver::AdverseDriver;
 pub use driver::{Driver, DriverCall, DriverReply, Policy};
+pub use laws::values_by_policy;
 pub use model_driver::ModelDriver;
 pub use recording_driver::RecordingDriver;

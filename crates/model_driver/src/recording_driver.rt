@@ -8,6 +8,7 @@ use crate::driver::{Driver, DriverCall, DriverReply, Policy};
 use crate::due::handles_due;
 use command_tables::{HandleArgs, LayerCall, NoMemory};
 use std::alloc::Global;
+use std::marker::Model;
 
 /// A driver with the list of its calls, each with its reply.
 #[derive(Drop)]
@@ -16,9 +17,17 @@ pub struct RecordingDriver<D> {
     calls: Vec<(DriverCall, DriverReply)>,
 }
 
+impl<D> Model for RecordingDriver<D> {
+    ghost use Rattle.model_driver.specs.Logs.{Recorded, exchanges_shown};
+
+    ghost Value = { Recorded D };
+
+    ghost view = { λ d. record { inner = d.inner; calls = exchanges_shown d.calls.items } };
+}
+
 impl<D: Driver> RecordingDriver<D> {
     pub fn new(alloc: Global, inner: D) -> RecordingDriver<D>
-        ensures { ⟦<RecordingDriver<D> as Driver>⟧.log result ≡ Some [] }
+        ensures { result ≡ record { inner = inner; calls = [] } }
     {
         RecordingDriver {
             inner,
@@ -28,7 +37,7 @@ impl<D: Driver> RecordingDriver<D> {
 
     /// The calls so far, each with its reply.
     pub fn log(&self) -> &[(DriverCall, DriverReply)]
-        ensures { ⟦<RecordingDriver<D> as Driver>⟧.log self.now ≡ Some (exchanges_shown result.now) }
+        ensures { exchanges_shown result.now ≡ self.now.calls }
     {
         &self.calls
     }
@@ -70,7 +79,15 @@ fn copy_call(alloc: Global, call: &DriverCall) -> Result<DriverCall, NoMemory>
 }
 
 impl<D: Driver> Driver for RecordingDriver<D> {
-    ghost log = { λ s. Some (exchanges_shown s.calls.items) };
+    ghost use Rattle.std.specs.Prelude.{◌≡◌, ◌∷◌, [], ◌++◌, Some};
+
+    ghost log = { λ d. Some d.calls };
+
+    ghost answers_by = { λ d. D.answers_by d.inner };
+
+    ghost prepare_gives = { λ before policy behind. D.prepare_gives before.inner policy behind.inner × (behind.calls ≡ before.calls) };
+
+    ghost call_gives = { λ before call reply behind. D.call_gives before.inner call reply behind.inner × (behind.calls ≡ before.calls ++ (call, reply) ∷ []) };
 
     fn prepare(&mut self, policy: Policy) {
         self.inner.prepare(policy);

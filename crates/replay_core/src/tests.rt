@@ -312,7 +312,7 @@ fn told(alloc: Global, call: &DriverCall) -> Result<String, Fail> {
 
 fn check(rt: &impl Abort, alloc: Global, case: Case) -> Result<(), Fail> {
     let mut session = Session::new(alloc);
-    let mut driver = RecordingDriver::new(alloc, ModelDriver::new());
+    let mut driver = RecordingDriver::new(alloc, ModelDriver::new(alloc));
     play(&mut session, alloc, &START, true, &mut driver)?;
     let lines = play(
         &mut session,

@@ -149,7 +149,7 @@ fn runs_as_stored(rt: &impl Abort, alloc: Global, case: &Case) -> Result<(), Fai
     let mut trace = MemSource::new(bytes, Vec::new(alloc));
     let mut out = sink(alloc, 0)?;
     let mut errs = sink(alloc, 0)?;
-    let mut driver = RecordingDriver::new(alloc, ModelDriver::new());
+    let mut driver = RecordingDriver::new(alloc, ModelDriver::new(alloc));
     let finished = replay_main(alloc, &words, &mut trace, &mut out, &mut errs, &mut driver);
     let mut calls = Vec::new(alloc);
     for (call, reply) in driver.log() {

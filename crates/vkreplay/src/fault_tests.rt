@@ -84,7 +84,7 @@ fn cut_run(alloc: Global, read: usize, written: usize) -> Result<Cut, Fail> {
         faults: 0,
     };
     let mut errs = sink(alloc, 0)?;
-    let mut driver = RecordingDriver::new(alloc, ModelDriver::new());
+    let mut driver = RecordingDriver::new(alloc, ModelDriver::new(alloc));
     let Finished { status, .. } = replay_main(
         alloc,
         &words,

@@ -52,7 +52,7 @@ fn main(rt: HostRuntime) -> ExitCode {
     };
     let mut trace = ReadSource::new(rt.stdin());
     let mut out = WriteSink::new(rt.stdout());
-    let mut driver = ModelDriver::new();
+    let mut driver = ModelDriver::new(alloc);
     let finished = replay_main(alloc, &words, &mut trace, &mut out, &mut errs, &mut driver);
     ExitCode::from(finished.status.code())
 }

@@ -202,7 +202,7 @@ fn ends_as_it_must(rt: &impl Abort, alloc: Global, run: &Run) -> Result<(), Fail
     let mut trace = MemSource::new(bytes_of(alloc, run)?, vec![in alloc; run.read_fails]?);
     let mut out = sink(alloc, run.write_fails)?;
     let mut errs = sink(alloc, 0)?;
-    let mut driver = ModelDriver::new();
+    let mut driver = ModelDriver::new(alloc);
     let Finished { status, session } = replay_main(
         alloc,
         &words,
@@ -263,7 +263,7 @@ fn told_by<D: Driver + Drop>(
 #[test]
 fn the_driver_is_told_what_it_answered(rt: HostRuntime) -> Result<(), Fail> {
     let alloc = rt.alloc();
-    let calls = told_by(&rt, alloc, FIRST, ModelDriver::new(), FIRST_TEXT)?;
+    let calls = told_by(&rt, alloc, FIRST, ModelDriver::new(alloc), FIRST_TEXT)?;
     let wanted = [
         (CommandId::CreateInstance, 0),
         (CommandId::EnumeratePhysicalDevices, 1),

@@ -1,0 +1,16 @@
+use Rattle.std.proofs.Common.{◌≡◌, ◌+◌, ◌-◌, ◌∷◌, [], length, ap, arith, length-append}
+use Rattle.model_driver.proofs.Backs.{behind_more, values_more}
+use Rattle.model_driver.proofs.seat.give.Goals as goal
+
+pub loop-turn-preserved : goal.loop-turn-preserved
+loop-turn-preserved c =
+    let one : c.args.count - c.loop-turn._turn ≡ (c.args.count - (c.loop-turn._turn + 1)) + 1 = omega arith in
+    let pushed = rw c.unwrap.ensures at c.push.ensures.items in
+    record {
+      values = values_more c.args.policy c.push.new.self.items c.loop-turn.handles.items _ c.loop-turn.back.items c.give_one-value.new.back.items c.give_one-value.result _ _ c.loop-turn.invariant.values one c.give_one-value.ensures.value c.give_one-value.ensures.back pushed;
+      behind = behind_more c.args.policy _ c.loop-turn.back.items c.give_one-value.new.back.items c.give_one-value.result _ _ c.loop-turn.invariant.behind one c.give_one-value.ensures.value c.give_one-value.ensures.back;
+      book = c.give_one-value.ensures.book;
+      room = omega (arith, c.loop-turn.invariant.room, c.give_one-value.ensures.length, c.give_one-value.ensures.capacity);
+      free = omega (arith, c.loop-turn.invariant.free, c.give_one-value.ensures.length, c.give_one-value.ensures.free);
+      handles = omega (arith, c.loop-turn.invariant.handles, c.push.ensures.capacity, ap length pushed, length-append c.loop-turn.handles.items (c.give_one-value.result ∷ []));
+    }

@@ -1,0 +1,15 @@
+use Rattle.std.proofs.Common.{◌≡◌, ◌≤◌, ◌+◌, ◌-◌, ◌++◌, length, vec_capacity}
+use Rattle.std.specs.BinaryHeap.{heap_capacity, heap_items, heap_len}
+use Rattle.model_driver.specs.Books.{IsBook}
+use Rattle.model_driver.specs.Policies.{after_giving, values_given}
+use Rattle.model_driver.proofs.seat.give.Given as goal
+
+abbrev pub invariant-loop-turn : goal.invariant-loop-turn
+invariant-loop-turn l = record {
+  values : l.handles.items ++ values_given l.policy l.back.items (l.count - l._turn) ≡ l.initial.handles.items ++ values_given l.policy l.initial.back.items l.count;
+  behind : after_giving l.policy l.back.items (l.count - l._turn) ≡ after_giving l.policy l.initial.back.items l.count;
+  book : IsBook l.back.items (heap_items l.free) (heap_len l.free);
+  room : length l.back.items + (l.count - l._turn) ≤ vec_capacity l.back;
+  free : length l.back.items + (l.count - l._turn) ≤ heap_capacity l.free;
+  handles : length l.handles.items + (l.count - l._turn) ≤ vec_capacity l.handles;
+}

@@ -1,0 +1,38 @@
+-- What a model driver keeps, for each driver of the chain by itself. Source: this project.
+use Rattle.std.specs.Prelude.{ℕ, Bool, if◌then◌else◌, ◌==◌, List, [], ◌∷◌}
+use Rattle.command_tables.specs.Calls.{DriverCallContent}
+use Rattle.model_driver.specs.declared.driver.Policy.{Policy}
+use Rattle.model_driver.specs.Driver.{handles_due}
+use Rattle.model_driver.specs.Policies.{after_giving, values_ended, values_given, with_all_back}
+
+-- a driver by its number in the chain, and which of the values that it gave have come back
+pub record SeatState : Type 0 where
+  pub driver : ℕ
+  pub back : List Bool
+
+-- the policy by which handles are answered, and the drivers that were called, in the order of their first calls
+pub record ModelState : Type 0 where
+  pub policy : Policy
+  pub seats : List SeatState
+
+-- what a driver has given: nothing before its first call
+abbrev pub back_of : List SeatState → ℕ → List Bool
+back_of [] driver = []
+back_of (s ∷ seats) driver = if s.driver == driver then s.back else back_of seats driver
+
+-- the driver has given this now
+abbrev pub with_seat : List SeatState → ℕ → List Bool → List SeatState
+with_seat [] driver back = record { driver = driver; back = back } ∷ []
+with_seat (s ∷ seats) driver back = if s.driver == driver then record { driver = driver; back = back } ∷ seats else s ∷ with_seat seats driver back
+
+-- what a call leaves of what its driver has given: what it destroys or frees has come back, and then what it asks for is given
+abbrev pub back_after : Policy → List Bool → DriverCallContent → List Bool
+back_after policy back c = after_giving policy (with_all_back back (values_ended c)) (handles_due c)
+
+-- the handles that a call is answered
+abbrev pub handles_for : ModelState → DriverCallContent → List ℕ
+handles_for m c = values_given m.policy (with_all_back (back_of m.seats c.driver) (values_ended c)) (handles_due c)
+
+-- what is kept behind a call: only the seat of its driver changes
+abbrev pub after_call : ModelState → DriverCallContent → ModelState
+after_call m c = record m { seats = with_seat m.seats c.driver (back_after m.policy (back_of m.seats c.driver) c) }
