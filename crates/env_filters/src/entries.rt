@@ -1,9 +1,16 @@
 // Lists in the value of a variable.
-ghost use Rattle.std.specs.Prelude.{◌≡◌, ◌<◌, IfOk, map, string_bytes};
+ghost use Rattle.std.specs.Prelude.{◌≡◌, ◌==◌, ◌<◌, length, not, IfOk, map, string_bytes};
 ghost use Rattle.env_filters.specs.Entries.{entries_of, paths_of};
 
 use crate::NoMemory;
 use std::alloc::Global;
+
+// Whether an entry counts.
+fn is_filled(entry: &str) -> bool
+    ensures { result ≡ not (length entry.now == 0) }
+{
+    !entry.is_empty()
+}
 
 /// The entries of a list between its separators, without empty ones.
 pub(crate) fn entries(alloc: Global, text: &str, separator: char) -> Result<Vec<&str>, NoMemory>
@@ -12,7 +19,7 @@ pub(crate) fn entries(alloc: Global, text: &str, separator: char) -> Result<Vec<
 {
     let entries = text
         .split(separator)
-        .filter(|entry| !entry.is_empty())
+        .filter(|entry| is_filled(entry))
         .collect(alloc)?;
     Ok(entries)
 }

@@ -1,6 +1,6 @@
 // Filters by name.
-ghost use Rattle.std.specs.Prelude.{◌≡◌, IfOk};
-ghost use Rattle.env_filters.specs.Filters.{LayerKindBit, filter_of, hits, hits_disable, covers, word_of, is_word};
+ghost use Rattle.std.specs.Prelude.{◌≡◌, ◌↔◌, IfOk, IsTrue};
+ghost use Rattle.env_filters.specs.Filters.{LayerKindBit, filter_of, hits, Hits, hits_disable, HitsDisable, covers, word_of, is_word};
 
 use crate::NoMemory;
 use crate::entries::entries;
@@ -47,7 +47,8 @@ impl FilterList {
 
     /// Whether a glob of the list matches the name. The three words of the disable list are globs like any other here.
     pub fn hits(&self, name: &str) -> bool
-        ensures { result ≡ hits self.now name.now }
+        ensures test { result ≡ hits self.now name.now }
+        ensures meaning { IsTrue result ↔ Hits self.now name.now }
     {
         self.globs.iter().any(|glob| glob.matches(name))
     }
@@ -55,7 +56,8 @@ impl FilterList {
     /// Whether the list disables a layer of the name and kind: by a glob, by `~all~`, or by its kind's word,
     /// `~implicit~` or `~explicit~`.
     pub fn hits_disable(&self, name: &str, kind: LayerKindBit) -> bool
-        ensures { result ≡ hits_disable self.now name.now kind }
+        ensures test { result ≡ hits_disable self.now name.now kind }
+        ensures meaning { IsTrue result ↔ HitsDisable self.now name.now kind }
     {
         self.globs
             .iter()

@@ -92,6 +92,7 @@ impl Glob {
     }
 
     /// Whether the glob matches the name, as this part of a filter does. It takes no memory.
+    #[tactic(auto, using(crate::proofs::GlobLemmas::match_decides))]
     pub fn matches(&self, name: &str) -> bool
         ensures test { result ≡ is_match self.now name.now }
         ensures meaning { IsTrue result ↔ Match self.now name.now }

@@ -7,7 +7,7 @@ use Rattle.std.specs.declared.string.String.{String}
 use Rattle.std.specs.Global.{Global}
 use Rattle.layer_search.specs.Contents.{LayerFound, NoteContent, found_layer, note_content}
 use Rattle.layer_search.specs.Order.{firsts}
-use Rattle.layer_search.specs.declared.layers.Gathered.{Gathered}
+use Rattle.layer_search.specs.declared.gathered.Gathered.{Gathered}
 use Rattle.layer_search.specs.declared.path_list.PathList.{PathList}
 
 -- a set holds just the texts of a list

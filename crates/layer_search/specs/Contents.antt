@@ -1,7 +1,9 @@
 -- What was found, as records of lists, which contracts compare. Source: this project.
-use Rattle.std.specs.Prelude.{ℕ, List, map, string_bytes}
+use Rattle.std.specs.Prelude.{ℕ, ◌≢◌, All, List, map, string_bytes}
 use Rattle.manifest_reader.specs.Contents.{DriverContent, LayerContent, driver_content, layer_content}
+use Rattle.manifest_reader.specs.declared.faults.ManifestFault.TheVariants.{NoMemory}
 use Rattle.layer_search.specs.declared.found.NoteKind.{NoteKind}
+use Rattle.layer_search.specs.declared.found.NoteKind.TheVariants.{Manifest}
 use Rattle.layer_search.specs.declared.found.Note.{Note}
 use Rattle.layer_search.specs.declared.found.FoundDriver.{FoundDriver}
 use Rattle.layer_search.specs.declared.found.FoundLayer.{FoundLayer}
@@ -12,6 +14,10 @@ use Rattle.layer_search.specs.declared.found.LayerList.{LayerList}
 pub record NoteContent : Type 0 where
   pub kind : NoteKind
   pub path : List ℕ
+
+-- a note's reason lies in its file: it is never want of memory
+abbrev pub IsOfFile : NoteKind → Type 0
+IsOfFile kind = kind ≢ Manifest NoMemory
 
 -- a driver and its manifest's path
 pub record DriverFound : Type 0 where
@@ -36,6 +42,10 @@ pub record LayersFound : Type 0 where
 -- what a `Note` holds
 abbrev pub note_content : Note → NoteContent
 note_content note = record { kind = note.kind; path = string_bytes note.path }
+
+-- no note holds want of memory
+abbrev pub AllOfFiles : List Note → Type 0
+AllOfFiles notes = All (λ note. IsOfFile note.kind) notes
 
 -- what a `FoundDriver` holds
 abbrev pub found_driver : FoundDriver → DriverFound

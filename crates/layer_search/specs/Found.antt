@@ -16,13 +16,14 @@ use Rattle.layer_search.specs.Kinds.{search_of}
 use Rattle.layer_search.specs.Order.{firsts}
 use Rattle.layer_search.specs.Paths.{rooted, paths_of}
 use Rattle.layer_search.specs.Places.{places_of}
+use Rattle.layer_search.specs.declared.files.TheConstants.{MOST_BYTES}
 use Rattle.layer_search.specs.declared.found.NoteKind.{NoteKind}
 use Rattle.layer_search.specs.declared.found.NoteKind.TheVariants.{Manifest, Absent, TooLarge, DeviceType}
 use Rattle.layer_search.specs.declared.kinds.SearchKind.TheVariants.{Driver}
 
 -- how many bytes a manifest file may have
 abbrev pub most_bytes : ℕ
-most_bytes = 1048576
+most_bytes = MOST_BYTES
 
 -- a file's bytes, or why it isn't read
 abbrev pub file_bytes : Option (List ℕ) → Result (List ℕ) NoteKind

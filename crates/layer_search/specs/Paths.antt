@@ -4,6 +4,7 @@ use Rattle.std.specs.Prelude.{ℕ, ◌==◌, if◌then◌else◌, List, [], ◌�
 use Rattle.std.specs.List.{flat_map}
 use Rattle.replay_base.specs.Files.{File, path_in, names_in}
 use Rattle.layer_search.specs.Order.{in_order, firsts}
+use Rattle.layer_search.specs.declared.path_list.TheConstants.{MOST_PATHS}
 use Rattle.layer_search.specs.Places.{PlaceContent, AllIn, Named, is_json}
 
 -- what the tree is asked for: a path that begins with `/` stands below the root, and any other is taken as written
@@ -25,4 +26,4 @@ paths_of files root places = firsts (λ path. path) (flat_map (paths_at files ro
 
 -- how many manifest files a search may meet
 abbrev pub most_paths : ℕ
-most_paths = 4096
+most_paths = MOST_PATHS

@@ -3,7 +3,7 @@
 ghost use Rattle.std.specs.Prelude.{◌≡◌, ◌+◌, ◌≤◌, ◌==◌, ◌++◌, IfOk, OnOk, IfErr, map, filter, length, not, string_bytes, vec_len};
 ghost use Rattle.env_filters.specs.Filters.{filter_of};
 ghost use Rattle.layer_search.specs.Causes.{WhereTold, HasSearchCause, IsNoLimit, MeetsLimit};
-ghost use Rattle.layer_search.specs.Contents.{drivers_content, found_driver, note_content};
+ghost use Rattle.layer_search.specs.Contents.{IsOfFile, AllOfFiles, drivers_content, found_driver, note_content};
 ghost use Rattle.layer_search.specs.Found.{content_by, noted, driver_at, path_drivers, driver_notes, drivers_at, file_name, selecting, is_selected, stays, is_kept, driver_paths, drivers_of};
 ghost use Rattle.layer_search.specs.Paths.{most_paths};
 ghost use Rattle.manifest_reader.specs.Contents.{driver_content};
@@ -21,7 +21,8 @@ use std::alloc::{AllocError, Global};
 
 // The driver that bytes give, or the reason of its note.
 fn read(alloc: Global, bytes: &[u8]) -> Result<Result<DriverEntry, NoteKind>, AllocError>
-    ensures { IfOk result (λ read. content_by driver_content read ≡ noted (driver_of bytes.now)) }
+    ensures driver { IfOk result (λ read. content_by driver_content read ≡ noted (driver_of bytes.now)) }
+    ensures reason { IfOk result (λ read. IfErr read IsOfFile) }
 {
     match read_driver(alloc, bytes) {
         Ok(entry) => Ok(Ok(entry)),
@@ -39,6 +40,7 @@ fn driver_at<T: Tree>(
     path: &str,
 ) -> Result<Result<DriverEntry, NoteKind>, SearchError>
     ensures driver { WhereTold (T.files tree.old) (λ files. IfOk result (λ read. content_by driver_content read ≡ driver_at files root.now path.now)) }
+    ensures reason { IfOk result (λ read. IfErr read IsOfFile) }
     ensures limit { IfErr result IsNoLimit }
     ensures same { T.files tree.new ≡ T.files tree.old }
     ensures cause { HasSearchCause (T.faults tree.old) (T.faults tree.new) result }
@@ -59,6 +61,7 @@ fn add(
     ensures list { OnOk result (map found_driver drivers.new.list.items ≡ map found_driver drivers.old.list.items ++ path_drivers path.now (content_by driver_content read)) }
     ensures notes { OnOk result (map note_content drivers.new.notes.items ≡ map note_content drivers.old.notes.items ++ driver_notes path.now (content_by driver_content read)) }
     ensures few { OnOk result (vec_len drivers.new.list ≤ vec_len drivers.old.list + 1) }
+    ensures reasons { OnOk result (IfErr read IsOfFile → AllOfFiles drivers.old.notes.items → AllOfFiles drivers.new.notes.items) }
 {
     let path = String::from_str(alloc, path)?;
     match read {
@@ -78,6 +81,7 @@ fn drivers_at<T: Tree>(
     ensures drivers { WhereTold (T.files tree.old) (λ files. IfOk result (λ drivers. drivers_content drivers ≡ drivers_at files root.now (map string_bytes paths.now))) }
     ensures limit { IfErr result IsNoLimit }
     ensures few { IfOk result (λ drivers. vec_len drivers.list ≤ length paths.now) }
+    ensures reasons { IfOk result (λ drivers. AllOfFiles drivers.notes.items) }
     ensures same { T.files tree.new ≡ T.files tree.old }
     ensures cause { HasSearchCause (T.faults tree.old) (T.faults tree.new) result }
 {
@@ -176,6 +180,7 @@ pub fn find_drivers<T: Tree>(
     ensures too_many { WhereTold (T.files tree.old) (λ files. IfErr result (MeetsLimit (driver_paths files env.now root.now))) }
     ensures within { WhereTold (T.files tree.old) (λ files. OnOk result (length (driver_paths files env.now root.now) ≤ most_paths)) }
     ensures few { IfOk result (λ drivers. vec_len drivers.list ≤ most_paths) }
+    ensures reasons { IfOk result (λ drivers. AllOfFiles drivers.notes.items) }
     ensures same { T.files tree.new ≡ T.files tree.old }
     ensures cause { HasSearchCause (T.faults tree.old) (T.faults tree.new) result }
 {

@@ -2,6 +2,7 @@
 //! Source: this project, for the limit on a file's bytes.
 ghost use Rattle.std.specs.Prelude.{◌≡◌, IfOk, IfErr};
 ghost use Rattle.layer_search.specs.Causes.{WhereTold, HasSearchCause, IsNoLimit};
+ghost use Rattle.layer_search.specs.Contents.{IsOfFile};
 ghost use Rattle.layer_search.specs.Found.{bytes_of, content_by};
 
 use crate::paths::rooted;
@@ -9,8 +10,8 @@ use crate::{NoteKind, SearchError};
 use replay_base::{Tree, TreeRead};
 use std::alloc::Global;
 
-// How many bytes a manifest file may have.
-const MOST_BYTES: usize = 1_048_576;
+/// How many bytes a manifest file may have.
+pub(crate) const MOST_BYTES: usize = 1_048_576;
 
 /// The bytes of a manifest file, or why it isn't read.
 pub(crate) fn bytes_of<T: Tree>(
@@ -20,6 +21,7 @@ pub(crate) fn bytes_of<T: Tree>(
     path: &str,
 ) -> Result<Result<Vec<u8>, NoteKind>, SearchError>
     ensures bytes { WhereTold (T.files tree.old) (λ files. IfOk result (λ read. content_by (λ bytes. bytes.items) read ≡ bytes_of files root.now path.now)) }
+    ensures reason { IfOk result (λ read. IfErr read IsOfFile) }
     ensures limit { IfErr result IsNoLimit }
     ensures same { T.files tree.new ≡ T.files tree.old }
     ensures cause { HasSearchCause (T.faults tree.old) (T.faults tree.new) result }

@@ -193,6 +193,56 @@ fn a_file_has_1048576_bytes_at_most(rt: HostRuntime) -> Result<(), Fail> {
     Ok(())
 }
 
+// A manifest of so many layers, with blanks behind it up to so many bytes.
+fn sized_layers(
+    alloc: Global,
+    tree: &mut MemTree,
+    count: u32,
+    size: usize,
+) -> Result<(), SearchError> {
+    let mut text = String::from_str(alloc, r#"{"file_format_version":"1.2.0","layers":["#)?;
+    for number in 0..count {
+        if number > 0 {
+            text.push(',')?;
+        }
+        let name = format!(in alloc; "VK_LAYER_{number}")?;
+        text.push_str(layer(alloc, name.as_str(), "GLOBAL")?.as_str())?;
+    }
+    text.push_str("]}")?;
+    for _ in text.len()..size {
+        text.push(' ')?;
+    }
+    put(tree, "/d/l.json", text.as_bytes())
+}
+
+#[test]
+fn manifests_of_every_size_are_found(rt: HostRuntime) -> Result<(), Fail> {
+    let alloc = rt.alloc();
+    let env = env_of(alloc, "VK_DRIVER_FILES=/e;VK_LAYER_PATH=/d")
+        .ok()
+        .ok_or("memory")?;
+    let only = vec![in alloc; String::from_str(alloc, "/d")?]?;
+    for (count, size) in [(1, 300), (30, 40_000), (30, 1_048_576)] {
+        let mut tree = MemTree::new(alloc);
+        sized_layers(alloc, &mut tree, count, size)?;
+        let mut driver = Vec::from_slice(alloc, DRIVER.as_bytes())?;
+        driver.resize(size, b' ')?;
+        put(&mut tree, "/e/a.json", &driver)?;
+        let mut wanted = String::new(alloc);
+        for number in 0..count {
+            write!(wanted, "/d/l.json VK_LAYER_{number} ")?;
+        }
+        wanted.push('|')?;
+        let named = find_layers(alloc, &mut tree, &env, "", LayerKind::Explicit, None);
+        assert_eq!(rt; shown_layers(alloc, &named)?.as_str(), wanted.as_str());
+        let given = find_layers(alloc, &mut tree, &env, "", LayerKind::Implicit, Some(&only));
+        assert_eq!(rt; shown_layers(alloc, &given)?.as_str(), wanted.as_str());
+        let drivers = find_drivers(alloc, &mut tree, &env, "");
+        assert_eq!(rt; shown(alloc, &drivers)?.as_str(), "/e/a.json |");
+    }
+    Ok(())
+}
+
 // Six folders are listed and three files read.
 #[test]
 fn a_tree_may_fail_at_each_call(rt: HostRuntime) -> Result<(), Fail> {

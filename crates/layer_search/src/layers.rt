@@ -5,7 +5,7 @@ ghost use Rattle.std.specs.Prelude.{◌≡◌, ◌≤◌, [], ◌∷◌, ◌++�
 ghost use Rattle.layer_search.specs.Causes.{WhereTold, HasSearchCause, IsNoLimit, MeetsLimit};
 ghost use Rattle.layer_search.specs.Collecting.{Gathers};
 ghost use Rattle.layer_search.specs.Contents as contents;
-ghost use Rattle.layer_search.specs.Contents.{LayerFound, NoteContent, note_content};
+ghost use Rattle.layer_search.specs.Contents.{IsOfFile, AllOfFiles, LayerFound, NoteContent, note_content};
 ghost use Rattle.layer_search.specs.Found.{content_by, noted, layers_at, layer_at, path_layers, layer_notes, layer_paths, layers_found, found_layers};
 ghost use Rattle.layer_search.specs.Kinds.{search_of};
 ghost use Rattle.layer_search.specs.Paths.{most_paths};
@@ -17,6 +17,7 @@ ghost use Rattle.manifest_reader.specs.Reading.{layers_of};
 
 use crate::files::bytes_of;
 use crate::firsts::is_new;
+use crate::gathered::Gathered;
 use crate::paths::paths_of;
 use crate::places::{Place, only_folders, places_of};
 use crate::{FoundLayer, LayerList, Note, NoteKind, SearchError, SearchKind};
@@ -32,7 +33,8 @@ fn read(
     bytes: &[u8],
     kind: LayerKind,
 ) -> Result<Result<Layers, NoteKind>, AllocError>
-    ensures { IfOk result (λ read. content_by layers_content read ≡ noted (layers_of kind bytes.now)) }
+    ensures layers { IfOk result (λ read. content_by layers_content read ≡ noted (layers_of kind bytes.now)) }
+    ensures reason { IfOk result (λ read. IfErr read IsOfFile) }
 {
     match read_layers(alloc, bytes, kind) {
         Ok(layers) => Ok(Ok(layers)),
@@ -51,6 +53,7 @@ fn layers_at<T: Tree>(
     path: &str,
 ) -> Result<Result<Layers, NoteKind>, SearchError>
     ensures layers { WhereTold (T.files tree.old) (λ files. IfOk result (λ read. content_by layers_content read ≡ layers_at kind files root.now path.now)) }
+    ensures reason { IfOk result (λ read. IfErr read IsOfFile) }
     ensures limit { IfErr result IsNoLimit }
     ensures same { T.files tree.new ≡ T.files tree.old }
     ensures cause { HasSearchCause (T.faults tree.old) (T.faults tree.new) result }
@@ -59,14 +62,6 @@ fn layers_at<T: Tree>(
         Ok(bytes) => Ok(read(alloc, &bytes, kind)?),
         Err(kind) => Ok(Err(kind)),
     }
-}
-
-/// Layers, of each name the first, all names that were met, and notes.
-#[derive(Drop)]
-pub(crate) struct Gathered {
-    seen: BTreeSet<String>,
-    list: Vec<FoundLayer>,
-    notes: Vec<Note>,
 }
 
 impl Gathered {
@@ -110,6 +105,7 @@ impl Gathered {
 
     // Adds a note.
     fn add_note(&mut self, alloc: Global, path: &str, kind: NoteKind) -> Result<(), AllocError>
+        requires { IsOfFile kind }
         ensures { OnOk result ((met : List LayerFound) → (notes : List NoteContent) → Gathers self.old met notes
             → Gathers self.new met (notes ++ record { kind = kind; path = path.now } ∷ [])) }
     {
@@ -136,6 +132,7 @@ impl Gathered {
         path: &str,
         read: Result<Layers, NoteKind>,
     ) -> Result<(), AllocError>
+        requires { IfErr read IsOfFile }
         ensures { OnOk result ((met : List LayerFound) → (notes : List NoteContent) → Gathers self.old met notes
             → Gathers self.new (met ++ path_layers path.now (content_by layers_content read)) (notes ++ layer_notes path.now (content_by layers_content read))) }
     {
@@ -159,6 +156,7 @@ fn found_layers<T: Tree>(
     paths: &[String],
 ) -> Result<LayerList, SearchError>
     ensures layers { WhereTold (T.files tree.old) (λ files. IfOk result (λ layers. contents.layers_content layers ≡ found_layers kind files root.now (map string_bytes paths.now))) }
+    ensures reasons { IfOk result (λ layers. AllOfFiles layers.notes.items) }
     ensures limit { IfErr result IsNoLimit }
     ensures same { T.files tree.new ≡ T.files tree.old }
     ensures cause { HasSearchCause (T.faults tree.old) (T.faults tree.new) result }
@@ -210,6 +208,7 @@ pub fn find_layers<T: Tree>(
         (layer_paths files env.now root.now kind (option_map (λ folders. map string_bytes folders.now) only.entry)))) }
     ensures within { WhereTold (T.files tree.old) (λ files. OnOk result
         (length (layer_paths files env.now root.now kind (option_map (λ folders. map string_bytes folders.now) only.entry)) ≤ most_paths)) }
+    ensures reasons { IfOk result (λ layers. AllOfFiles layers.notes.items) }
     ensures same { T.files tree.new ≡ T.files tree.old }
     ensures cause { HasSearchCause (T.faults tree.old) (T.faults tree.new) result }
 {

@@ -9,6 +9,7 @@ mod files;
 mod firsts;
 mod folder_list;
 mod found;
+mod gathered;
 mod kinds;
 #[cfg(test)]
 mod layer_tests;

@@ -13,14 +13,11 @@ ghost use Rattle.layer_search.specs.Places.{AllIn, place_content, is_json};
 use crate::SearchError;
 use crate::firsts::is_new;
 use crate::folder_list::joined;
-use crate::path_list::PathList;
+use crate::path_list::{MOST_PATHS, PathList};
 use crate::places::{Place, is_json};
 use replay_base::Tree;
 use std::alloc::{AllocError, Global};
 use std::collections::BTreeSet;
-
-// How many manifest files a search may meet.
-const MOST_PATHS: usize = 4_096;
 
 /// The path that a tree is asked for: below the root where it begins with `/`, and else as written.
 pub(crate) fn rooted(alloc: Global, root: &str, path: &str) -> Result<String, AllocError>
@@ -42,12 +39,27 @@ fn path_in(alloc: Global, folder: &str, name: &str) -> Result<String, AllocError
     Ok(path)
 }
 
+// Puts names in byte order.
+fn sort(names: &mut Vec<String>) -> Result<(), AllocError>
+    ensures { OnOk result (map string_bytes names.new.items ≡ in_order (map string_bytes names.old.items)) }
+{
+    names.sort()?;
+    Ok(())
+}
+
+// Leaves the names of manifest files.
+fn keep_manifests(names: &mut Vec<String>)
+    ensures { map string_bytes names.new.items ≡ filter is_json (map string_bytes names.old.items) }
+{
+    names.retain(|name| is_json(name.as_str()));
+}
+
 // Leaves the names of manifest files, in byte order.
 fn put_in_order(names: &mut Vec<String>) -> Result<(), AllocError>
     ensures { OnOk result (map string_bytes names.new.items ≡ filter is_json (in_order (map string_bytes names.old.items))) }
 {
-    names.sort()?;
-    names.retain(|name| is_json(name.as_str()));
+    sort(names)?;
+    keep_manifests(names);
     Ok(())
 }
 
@@ -90,7 +102,9 @@ impl PathList {
             return Ok(());
         }
         if self.list.len() >= MOST_PATHS {
-            return Err(SearchError::TooMany { count: 4_097 });
+            return Err(SearchError::TooMany {
+                count: MOST_PATHS as u32 + 1,
+            });
         }
         self.list.push(path)?;
         Ok(())

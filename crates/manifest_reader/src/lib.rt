@@ -12,6 +12,8 @@ mod keys;
 mod layer_manifest;
 mod rows;
 #[cfg(test)]
+mod size_tests;
+#[cfg(test)]
 mod tests;
 mod texts;
 mod values;

@@ -3,7 +3,7 @@ use Rattle.manifest_reader.specs.Contents.{layer_content}
 use Rattle.layer_search.specs.Collecting.{Gathers}
 use Rattle.layer_search.specs.Contents.{LayerFound, NoteContent}
 use Rattle.layer_search.specs.Found.{layer_at}
-use Rattle.layer_search.proofs.layers.Gathered.add_entries.Given as goal
+use Rattle.layer_search.proofs.gathered.Gathered.add_entries.Given as goal
 
 -- each layer so far
 abbrev pub invariant-loop-entry : goal.invariant-loop-entry

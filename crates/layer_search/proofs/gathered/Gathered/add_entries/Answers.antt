@@ -5,7 +5,7 @@ use Rattle.std.proofs.lemmas.List.{map-id}
 use Rattle.manifest_reader.specs.Contents.{layer_content}
 use Rattle.layer_search.specs.Found.{layer_at}
 use Rattle.layer_search.proofs.Joins.{read_pushed}
-use Rattle.layer_search.proofs.layers.Gathered.add_entries.Goals as goal
+use Rattle.layer_search.proofs.gathered.Gathered.add_entries.Goals as goal
 
 pub loop-entry-preserved : goal.loop-entry-preserved
 loop-entry-preserved c = λ met notes h. rw (read_pushed (layer_at c.args.path.now) layer_content met c.loop-entry.yielded c.in-Some.entry) (c.in_ok-add_entry.ensures _ notes (c.loop-entry.invariant met notes h))

@@ -4,7 +4,7 @@ use Rattle.layer_search.specs.Contents.{found_layer}
 use Rattle.layer_search.specs.Found.{layer_at}
 use Rattle.manifest_reader.specs.Contents.{layer_content}
 use Rattle.layer_search.proofs.FirstOnes.{layer_known, layer_new}
-use Rattle.layer_search.proofs.layers.Gathered.add_entry.Goals as goal
+use Rattle.layer_search.proofs.gathered.Gathered.add_entry.Goals as goal
 
 pub returns-in_ok-push : goal.returns-in_ok-push
 returns-in_ok-push c = λ met notes h.

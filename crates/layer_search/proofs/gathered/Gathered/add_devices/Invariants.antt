@@ -2,7 +2,7 @@ use Rattle.std.proofs.Common.{List, ◌++◌, replicate}
 use Rattle.layer_search.specs.Collecting.{Gathers}
 use Rattle.layer_search.specs.Contents.{LayerFound, NoteContent}
 use Rattle.layer_search.specs.declared.found.NoteKind.TheVariants.{DeviceType}
-use Rattle.layer_search.proofs.layers.Gathered.add_devices.Given as goal
+use Rattle.layer_search.proofs.gathered.Gathered.add_devices.Given as goal
 
 -- one note for each entry so far
 abbrev pub invariant-loop-device : goal.invariant-loop-device
