@@ -30,7 +30,7 @@ use Rattle.session_tables.specs.Population.{Population}
 use Rattle.replay_core.specs.Lines.{first_of, first_name, loader_report, loader_line}
 use Rattle.model_driver.specs.Logs.{Log, logged}
 use Rattle.replay_core.specs.Stands.{Stands, Advances, Tells, Asked}
-use Rattle.replay_core.proofs.Openings.{skipped_so}
+use Rattle.replay_core.proofs.Skipping.{skipped_so}
 use Rattle.replay_core.proofs.Reports.{failures_are}
 use Rattle.replay_core.proofs.Simulation.{began, begun-kept, made-kept, returned, found-open}
 

@@ -59,6 +59,7 @@ pub fn ask<D: Driver>(
     requires { CanBeTold (opened_of call.now) }
     ensures ok { IfOk result (λ handles. Asked (driver_call values.now (opened_of call.now) 0) handles.items (D.log driver.old) (D.log driver.new)) }
     ensures err { OnErr result (D.log driver.new ≡ D.log driver.old) }
+    ensures policy { D.answers_by driver.new ≡ D.answers_by driver.old }
 {
     let request = call_for(alloc, values, call)?;
     let mut reply = DriverReply {

@@ -4,16 +4,18 @@
 #![tactic(auto)]
 
 mod ask;
+mod bearing;
 mod begin;
 mod call;
 mod error;
+mod keeping;
 mod laws;
 mod lines;
-mod made;
 mod names;
 mod play;
 mod player;
 mod read;
+mod results;
 mod run;
 mod session;
 mod status;

@@ -10,7 +10,7 @@ ghost use Rattle.replay_core.specs.Setups.{one_driver};
 ghost use Rattle.replay_core.specs.Shown.{opened_of};
 
 use crate::call::OpenCall;
-use crate::made::effect_of;
+use crate::bearing::effect_of;
 use crate::tally::Tally;
 use command_tables::{Code, CommandId, Param, row};
 use itoa::Buffer;

@@ -50,6 +50,7 @@ impl Player {
         ensures err { OnErr result (MayTell self.old.session (content event.now) (D.log driver.old) (D.log driver.new)) }
         ensures state { self.new.state ≡ self.old.state }
         ensures only { IfErr result (λ e. e ≡ SessionError.NoMemory) }
+        ensures policy { D.answers_by driver.new ≡ D.answers_by driver.old }
     {
         self.lines.clear();
         match event {
@@ -79,6 +80,7 @@ impl Player {
             let traffic = traffic_of (D.log driver.old) (D.log driver.new) sink in
             Steps (record { old = self.old.session; new = self.new.session; event = content event.now; traffic = traffic }) result }
         ensures taken { OnOk result (HasTaken self.old.session self.new.session (content event.now) call) }
+        ensures policy { D.answers_by driver.new ≡ D.answers_by driver.old }
         ensures state { self.new.state ≡ self.old.state }
     {
         match self.take(call, event, driver) {
@@ -106,6 +108,7 @@ impl Player {
             let traffic = traffic_of (D.log driver.old) (D.log driver.new) sink in
             PlaysLine (record { text = text.now; number = number; old_state = self.old.state; state = self.new.state; old = self.old.session; new = self.new.session; traffic = traffic }) result }
         ensures calls { OnOk result (self.new.session.calls ≤ self.old.session.calls + 1) }
+        ensures policy { D.answers_by driver.new ≡ D.answers_by driver.old }
     {
         let event = match parse_line(self.alloc, text) {
             Ok(event) => event,

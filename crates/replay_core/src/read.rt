@@ -29,7 +29,7 @@ impl From<AllocError> for Unread {
 }
 
 /// All that a source has, if it isn't more than `MOST_BYTES`.
-#[tactic(auto, using(crate::proofs::Given::before_before, crate::proofs::Given::before_nil))]
+#[tactic(auto, using(crate::proofs::Reading::before_before, crate::proofs::Reading::before_nil))]
 pub fn read_all<S: Source>(alloc: Global, source: &mut S) -> Result<Vec<u8>, Unread>
     ensures { Reads (changed (S.left source.old) (S.left source.new) (S.faults source.old) (S.faults source.new)) result }
 {

@@ -51,9 +51,10 @@ fn play_trace<K: Sink, D: Driver>(
     requires session { Stands player.old.session [] [] }
     requires state { StandsFor player.old.state [] }
     requires size { length bytes.now ≤ MOST_BYTES }
-    ensures {
+    ensures plays {
         let sink = changed (K.held out.old) (K.held out.new) (K.faults out.old) (K.faults out.new) in
         Plays (script_of bytes.now) player.new.session (traffic_of (D.log driver.old) (D.log driver.new) sink) result }
+    ensures policy { D.answers_by driver.new ≡ D.answers_by driver.old }
 {
     match behind_header(bytes) {
         None => Err(ReplayError::Trace {
@@ -98,9 +99,10 @@ fn play_whole<K: Sink, D: Driver>(
     requires session { Stands player.old.session [] [] }
     requires state { StandsFor player.old.state [] }
     requires size { length bytes.now ≤ MOST_BYTES }
-    ensures {
+    ensures plays {
         let sink = changed (K.held out.old) (K.held out.new) (K.faults out.old) (K.faults out.new) in
         PlaysWhole (script_of bytes.now) player.new.session (traffic_of (D.log driver.old) (D.log driver.new) sink) result }
+    ensures policy { D.answers_by driver.new ≡ D.answers_by driver.old }
 {
     match play_trace(player, bytes, driver, out) {
         Ok(()) => put_end(&player.session, alloc, out),
@@ -117,10 +119,11 @@ pub fn replay<S: Source, K: Sink, D: Driver>(
     out: &mut K,
     driver: &mut D,
 ) -> Result<Session, ReplayError>
-    ensures {
+    ensures replays {
         let source = changed (S.left trace.old) (S.left trace.new) (S.faults trace.old) (S.faults trace.new) in
         let sink = changed (K.held out.old) (K.held out.new) (K.faults out.old) (K.faults out.new) in
         Replays (run_of source (D.log driver.old) (D.log driver.new) sink) result }
+    ensures policy { D.answers_by driver.new ≡ D.answers_by driver.old }
 {
     let bytes = match read_all(alloc, trace) {
         Ok(bytes) => bytes,

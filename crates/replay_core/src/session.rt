@@ -19,7 +19,9 @@ use crate::begin::{Beginning, name_at_first, open_call};
 use crate::call::{OpenCall, close, find_open, has_open};
 use crate::error::SessionError;
 use crate::lines::{report, return_line};
-use crate::made::{effect_of, keep_names, keep_retrieved, keep_values, made};
+use crate::bearing::effect_of;
+use crate::keeping::{keep_names, keep_retrieved, keep_values};
+use crate::results::made;
 use crate::tally::Tally;
 use command_tables::NoMemory;
 use model_driver::Driver;
@@ -104,7 +106,7 @@ impl Session {
         }
     }
 
-    // A call that the loader reports.
+    // Reports a call, which is kept as an open one and told to nobody.
     fn skip(
         &mut self,
         call: OpenCall,
@@ -125,8 +127,8 @@ impl Session {
         Ok(())
     }
 
-    // A call that was sent.
-    fn put(&mut self, call: OpenCall, handles: Vec<u64>) -> Result<(), AllocError>
+    // Keeps a call that the driver was told, with what it answered.
+    fn keep_sent(&mut self, call: OpenCall, handles: Vec<u64>) -> Result<(), AllocError>
         requires sent { call.skipped ≡ false }
         requires number { call.number ≡ self.old.calls + 1 }
         ensures kept { OnOk result (self.new ≡ after_call self.old (opened_of call) 0 handles.items self.new.living) }
@@ -140,7 +142,7 @@ impl Session {
         Ok(())
     }
 
-    // A begin.
+    // The loader judges the call first: only what it doesn't report reaches the driver.
     fn begin_call<D: Driver>(
         &mut self,
         alloc: Global,
@@ -155,6 +157,7 @@ impl Session {
         ensures err { OnErr result (MayTell self.old (Begin (begin_content begin.entry)) (D.log driver.old) (D.log driver.new)) }
         ensures calls { OnOk result (self.new.calls ≡ number) }
         ensures opens { OnOk result (has_open self.new begin.entry.thread ≡ true) }
+        ensures policy { D.answers_by driver.new ≡ D.answers_by driver.old }
     {
         let call = open_call(alloc, number, begin, &self.names, &self.objects)?;
         if call.skipped {
@@ -162,7 +165,7 @@ impl Session {
             Ok(())
         } else {
             let handles = ask(alloc, &self.values, &call, driver)?;
-            self.put(call, handles)?;
+            self.keep_sent(call, handles)?;
             Ok(())
         }
     }
@@ -184,6 +187,7 @@ impl Session {
         ensures only { IfErr result (λ e. e ≡ SessionError.NoMemory) }
         ensures calls { OnOk result (self.new.calls ≡ number) }
         ensures opens { OnOk result (has_open self.new (thread_of (content event.now)) ≡ true) }
+        ensures policy { D.answers_by driver.new ≡ D.answers_by driver.old }
     {
         match event {
             Event::Return { .. } => Ok(()),

@@ -1,4 +1,6 @@
-pub mod Said
-pub mod Statuses
 pub mod Words
+pub mod Said
 pub mod Output
+pub mod Outcome
+pub mod Statuses
+pub mod Exits

@@ -1,15 +1,18 @@
--- What `run` writes, how it ends and what it says, as a function of the trace's bytes. Source: this project.
-use Rattle.std.specs.Prelude.{◌≡◌, ℕ, if◌then◌else◌, ◌==◌, Option, Some, None, List, [], ◌++◌}
+-- What the program writes, how it ends and what it says, as a function of its words and the trace's bytes. Source: this project.
+use Rattle.std.specs.Prelude.{◌≡◌, ◌++◌, ◌==◌, ℕ, if◌then◌else◌, Option, Some, None, List, [], String}
+use Rattle.std.specs.declared.alloc.Global.{Global}
 use Rattle.trace_format.specs.Content.{TraceEvent}
-use Rattle.replay_base.specs.Bytes.{grown}
+use Rattle.replay_base.specs.Changes.{Change, Gained}
+use Rattle.replay_base.specs.declared.limit.Which.TheVariants as which
 use Rattle.replay_model.specs.Judged.{judged}
-use Rattle.replay_model.specs.Text.{reports_in, end_of}
+use Rattle.replay_model.specs.Text.{reports_in}
+use Rattle.replay_model.specs.Stop.{Stop, Cause, Fault, Names, stop, events_of}
 use Rattle.replay_core.specs.Setups.{one_driver}
-use Rattle.replay_core.specs.Played.{text_of}
-use Rattle.replay_model.specs.Stop.{Stop, stop, events_of}
+use Rattle.replay_core.specs.Traffic.{text_of, end_line_of}
 use Rattle.replay_core.specs.declared.status.Status.{Status}
 use Rattle.replay_core.specs.declared.status.Status.TheVariants as status
-use Rattle.vkreplay.specs.Said.{Said, fault_line}
+use Rattle.vkreplay.specs.Said.{Said, fault_line, limit_line, usage_line}
+use Rattle.vkreplay.specs.Words.{is_run}
 
 -- the bytes that are written, the status, and the line on the error sink, which is empty where nothing is said
 pub record Answer : Type 0 where
@@ -23,23 +26,28 @@ end_status reports = if reports == 0 then status.Clean else status.Reported
 
 -- a trace without a stop: its text and the end line
 abbrev pub whole_output : List TraceEvent → Answer
-whole_output events =
-    record { bytes = text_of events ++ end_of (judged one_driver events); status = end_status (reports_in (judged one_driver events)); said = [] }
+whole_output events = record { bytes = text_of events ++ end_line_of events; status = end_status (reports_in (judged one_driver events)); said = [] }
 
 -- a trace with a stop: the text of the lines before it, and no end line
-abbrev pub stopped_output : Stop → List TraceEvent → Answer
-stopped_output s events = record { bytes = text_of events; status = status.Malformed; said = fault_line s.line s.fault }
+abbrev pub stopped_output : ℕ → Cause → List TraceEvent → Answer
+stopped_output line (Fault f) events = record { bytes = text_of events; status = status.Malformed; said = fault_line line f }
+stopped_output line Names events = record { bytes = text_of events; status = status.Limit; said = limit_line which.Names }
 
+-- the answer to a trace that stops here, or nowhere, with these events up to there
 abbrev pub output_at : Option Stop → List TraceEvent → Answer
 output_at None events = whole_output events
-output_at (Some s) events = stopped_output s events
+output_at (Some s) events = stopped_output s.line s.cause events
 
--- the answer of `run` to a trace
-abbrev pub output : List ℕ → Answer
-output bytes = output_at (stop bytes) (events_of bytes)
+-- the answer to words that aren't understood
+abbrev pub usage_output : Answer
+usage_output = record { bytes = []; status = status.Usage; said = usage_line }
 
--- the run ended so: with this status, these bytes written, and this line said
-pub record Gives (a : Answer) (s : Status) (old_held held : Option (List ℕ)) (old new : Option (List ℕ)) (faults_before faults : ℕ) : Type 0 where
+-- the answer to these words and a trace of these bytes
+abbrev pub output : List (String Global) → List ℕ → Answer
+output words bytes = if is_run words then output_at (stop bytes) (events_of bytes) else usage_output
+
+-- the program ended so: with this status, these bytes written, and this line said
+pub record IsAnswer (a : Answer) (s : Status) (sink errs : Change) : Type 0 where
   pub status : s ≡ a.status
-  pub wrote : held ≡ grown old_held a.bytes
-  pub said : Said a.said old new faults_before faults
+  pub wrote : Gained sink a.bytes
+  pub said : Said a.said errs

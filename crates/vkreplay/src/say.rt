@@ -1,9 +1,9 @@
 // What is said on the error sink, whose failure changes nothing else.
 ghost use Rattle.std.specs.Prelude.{◌≡◌, ◌++◌, OnOk, OnErr};
 ghost use Rattle.replay_base.specs.Bytes.{grown, GrownByFront};
+ghost use Rattle.replay_base.specs.Changes.{Change, changed};
 ghost use Rattle.replay_base.specs.Faults.{HasCause};
-ghost use Rattle.vkreplay.specs.Said.{Said, number_text, kind_text, fault_line};
-ghost use Rattle.vkreplay.specs.Statuses.{limit_line};
+ghost use Rattle.vkreplay.specs.Said.{Said, fault_line, kind_text, limit_line, number_text};
 
 use itoa::Buffer;
 use replay_base::{Failed, Sink, Which, put_all};
@@ -11,7 +11,7 @@ use trace_format::TraceFault;
 
 /// One line.
 pub fn say<L: Sink>(errs: &mut L, line: &[u8])
-    ensures { Said line.now (L.held errs.old) (L.held errs.new) (L.faults errs.old) (L.faults errs.new) }
+    ensures { Said line.now (changed (L.held errs.old) (L.held errs.new) (L.faults errs.old) (L.faults errs.new)) }
 {
     let _ = put_all(errs, line);
 }
@@ -50,7 +50,7 @@ fn put_kind<L: Sink>(errs: &mut L, fault: TraceFault) -> Result<(), Failed>
 }
 
 fn put_fault<L: Sink>(errs: &mut L, line: u64, fault: TraceFault) -> Result<(), Failed>
-    ensures { Said (fault_line line fault) (L.held errs.old) (L.held errs.new) (L.faults errs.old) (L.faults errs.new) }
+    ensures { Said (fault_line line fault) (changed (L.held errs.old) (L.held errs.new) (L.faults errs.old) (L.faults errs.new)) }
 {
     put_number(errs, line)?;
     put_kind(errs, fault)?;
@@ -60,7 +60,7 @@ fn put_fault<L: Sink>(errs: &mut L, line: u64, fault: TraceFault) -> Result<(), 
 
 /// The line of a trace that stops.
 pub fn say_fault<L: Sink>(errs: &mut L, line: u64, fault: TraceFault)
-    ensures { Said (fault_line line fault) (L.held errs.old) (L.held errs.new) (L.faults errs.old) (L.faults errs.new) }
+    ensures { Said (fault_line line fault) (changed (L.held errs.old) (L.held errs.new) (L.faults errs.old) (L.faults errs.new)) }
 {
     let _ = put_fault(errs, line, fault);
 }
@@ -81,7 +81,7 @@ fn limit_text(which: Which) -> &'static str
 
 /// The line of a limit that was reached.
 pub fn say_limit<L: Sink>(errs: &mut L, which: Which)
-    ensures { Said (limit_line which) (L.held errs.old) (L.held errs.new) (L.faults errs.old) (L.faults errs.new) }
+    ensures { Said (limit_line which) (changed (L.held errs.old) (L.held errs.new) (L.faults errs.old) (L.faults errs.new)) }
 {
     say(errs, limit_text(which).as_bytes())
 }

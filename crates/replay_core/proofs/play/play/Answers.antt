@@ -5,8 +5,8 @@ use Rattle.replay_core.specs.Traffic.{traffic_of}
 use Rattle.replay_core.proofs.Progress.{far_ends, far_next}
 use Rattle.replay_core.proofs.play.play.Goals as goal
 
-pub returns-in-Err : goal.returns-in-Err
-returns-in-Err g c =
+pub returns-in-Err-clause-plays : goal.returns-in-Err-clause-plays
+returns-in-Err-clause-plays g c =
     far_ends (record {
         text = c.split_line-split.result.line.now;
         number = c.loop-rest.line;
@@ -24,6 +24,7 @@ pub loop-rest-preserved : goal.loop-rest-preserved
 loop-rest-preserved g c = record {
   fits = omega (arith, c.split_line-split.ensures.shorter, c.loop-rest.invariant.fits);
   stood = c.in-Ok.ensures.plays.1 ∙ c.loop-rest.invariant.stood;
+  policy = c.play_line.ensures.policy ∙ c.loop-rest.invariant.policy;
   few = omega (arith, c.in-Ok.ensures.calls, c.loop-rest.invariant.few);
   far = far_next (record {
         text = c.split_line-split.result.line.now;

@@ -9,6 +9,7 @@ abbrev pub invariant-loop-rest : goal.invariant-loop-rest
 invariant-loop-rest g l = record {
   fits : l.line + length l.rest ≤ length l.bytes + 2;
   stood : g.K.Sink.faults l.out ≡ g.K.Sink.faults l.initial.out;
+  policy : g.D.Driver.answers_by l.driver ≡ g.D.Driver.answers_by l.initial.driver;
   few : l.player.session.calls + 2 ≤ l.line;
   far : SoFar l.player.state l.player.session l.line (lines_of l.bytes) (lines_of l.rest)
       (traffic_of (g.D.Driver.log l.initial.driver) (g.D.Driver.log l.driver) (changed (g.K.Sink.held l.initial.out) (g.K.Sink.held l.out) (g.K.Sink.faults l.initial.out) (g.K.Sink.faults l.out)));

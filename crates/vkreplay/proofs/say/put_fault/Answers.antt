@@ -16,9 +16,11 @@ returns-in_err-put_kind g c =
 pub returns-in_err-put_all : goal.returns-in_err-put_all
 returns-in_err-put_all g c =
     said_behind (number_text c.args.line) (kind_text c.args.fault ++ codes "\n") _ _ _ _ _ _ c.in_ok-put_number.ensures.all c.in_ok-put_number.ensures.cause.stood
-    (said_behind (kind_text c.args.fault) (codes "\n") _ _ _ _ _ _ c.in_ok-put_kind.ensures.all c.in_ok-put_kind.ensures.cause.stood (inr (c.in_err-put_all.ensures.cause.failed, c.in_err-put_all.ensures.front)))
+    (said_behind (kind_text c.args.fault) (codes "\n") _ _ _ _ _ _ c.in_ok-put_kind.ensures.all c.in_ok-put_kind.ensures.cause.stood
+    (inr (record { failed = c.in_err-put_all.ensures.cause.failed; front = c.in_err-put_all.ensures.front })))
 
 pub returns : goal.returns
 returns g c =
     said_behind (number_text c.args.line) (kind_text c.args.fault ++ codes "\n") _ _ _ _ _ _ c.in_ok-put_number.ensures.all c.in_ok-put_number.ensures.cause.stood
-    (said_behind (kind_text c.args.fault) (codes "\n") _ _ _ _ _ _ c.in_ok-put_kind.ensures.all c.in_ok-put_kind.ensures.cause.stood (inl (c.in_ok-put_all.ensures.all, c.in_ok-put_all.ensures.cause.stood)))
+    (said_behind (kind_text c.args.fault) (codes "\n") _ _ _ _ _ _ c.in_ok-put_kind.ensures.all c.in_ok-put_kind.ensures.cause.stood
+    (inl (record { stood = c.in_ok-put_all.ensures.cause.stood; gained = c.in_ok-put_all.ensures.all })))

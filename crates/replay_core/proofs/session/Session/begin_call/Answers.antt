@@ -4,7 +4,7 @@ use Rattle.replay_model.specs.Past.{Opened}
 use Rattle.replay_core.specs.Beginning.{begin_content}
 use Rattle.replay_core.specs.Kept.{Kept, begun_at, stop_where, has_open}
 use Rattle.replay_core.specs.Shown.{opened_of}
-use Rattle.replay_core.proofs.Opens.{opens_after}
+use Rattle.replay_core.proofs.OpenThreads.{opens_after}
 use Rattle.replay_core.proofs.Shapes.{can_be_told}
 use Rattle.replay_core.proofs.Steps.{opened_so, advances_skipped, advances_sent, tells_sent}
 use Rattle.replay_core.proofs.session.Session.begin_call.Goals as goal
@@ -36,33 +36,33 @@ returns-in_ok-skip-clause-opens g c =
     c.in_ok-call.ensures.opened in
     ap (has_open c.skip.new.self) (sym (ap (λ (x : Opened). x.thread) is)) ∙ opens_after c.args.self.now c.skip.new.self o 1 [] c.args.self.now.living c.in_ok-skip.ensures.kept
 
-pub returns-in_ok-put-clause-ok : goal.returns-in_ok-put-clause-ok
-returns-in_ok-put-clause-ok g c =
+pub returns-in_ok-keep_sent-clause-ok : goal.returns-in_ok-keep_sent-clause-ok
+returns-in_ok-keep_sent-clause-ok g c =
     let o = opened_of c.in_ok-call.call in
     let e = begin_content c.args.begin in
     let is : o ≡ (begun_at c.args.self.now e).opened =
     opened_so c.args.self.now e c.args.number c.self.inside.names c.self.inside.objects.living o c.requires.number (ap (λ (k : Kept). k.names) c.self.view_is) (ap (λ (k : Kept). k.living) c.self.view_is)
     c.in_ok-call.ensures.opened in
-    advances_sent c.args.self.now c.put.new.self e o c.self.inside.values c.in_ok-handles.handles.items _ _ _ is (ap stop_where c.if-call.false)
-    (ap (λ (k : Kept). k.values) c.self.view_is) c.in_ok-handles.ensures.ok c.in_ok-put.ensures.kept c.in_ok-put.ensures.living
+    advances_sent c.args.self.now c.keep_sent.new.self e o c.self.inside.values c.in_ok-handles.handles.items _ _ _ is (ap stop_where c.if-call.false)
+    (ap (λ (k : Kept). k.values) c.self.view_is) c.in_ok-handles.ensures.ok c.in_ok-keep_sent.ensures.kept c.in_ok-keep_sent.ensures.living
 
-pub returns-in_ok-put-clause-opens : goal.returns-in_ok-put-clause-opens
-returns-in_ok-put-clause-opens g c =
+pub returns-in_ok-keep_sent-clause-opens : goal.returns-in_ok-keep_sent-clause-opens
+returns-in_ok-keep_sent-clause-opens g c =
     let o = opened_of c.in_ok-call.call in
     let e = begin_content c.args.begin in
     let is : o ≡ (begun_at c.args.self.now e).opened =
     opened_so c.args.self.now e c.args.number c.self.inside.names c.self.inside.objects.living o c.requires.number (ap (λ (k : Kept). k.names) c.self.view_is) (ap (λ (k : Kept). k.living) c.self.view_is)
     c.in_ok-call.ensures.opened in
-    ap (has_open c.put.new.self) (sym (ap (λ (x : Opened). x.thread) is)) ∙ opens_after c.args.self.now c.put.new.self o 0 c.in_ok-handles.handles.items c.put.new.self.living c.in_ok-put.ensures.kept
+    ap (has_open c.keep_sent.new.self) (sym (ap (λ (x : Opened). x.thread) is)) ∙ opens_after c.args.self.now c.keep_sent.new.self o 0 c.in_ok-handles.handles.items c.keep_sent.new.self.living c.in_ok-keep_sent.ensures.kept
 
-pub returns-in_err-put-clause-err : goal.returns-in_err-put-clause-err
-returns-in_err-put-clause-err g c =
+pub returns-in_err-keep_sent-clause-err : goal.returns-in_err-keep_sent-clause-err
+returns-in_err-keep_sent-clause-err g c =
     let o = opened_of c.in_ok-call.call in
     let e = begin_content c.args.begin in
     let is : o ≡ (begun_at c.args.self.now e).opened =
     opened_so c.args.self.now e c.args.number c.self.inside.names c.self.inside.objects.living o c.requires.number (ap (λ (k : Kept). k.names) c.self.view_is) (ap (λ (k : Kept). k.living) c.self.view_is)
     c.in_ok-call.ensures.opened in
-    let p = err_from_is_err_and c.from_residual-in_err-put.result c.from_residual-in_err-put.ensures.1 in
+    let p = err_from_is_err_and c.from_residual-in_err-keep_sent.result c.from_residual-in_err-keep_sent.ensures.1 in
     rw p.1
     (inr (tells_sent c.args.self.now e o c.self.inside.values c.in_ok-handles.handles.items _ _ is (ap stop_where c.if-call.false)
     (ap (λ (k : Kept). k.values) c.self.view_is) c.in_ok-handles.ensures.ok))

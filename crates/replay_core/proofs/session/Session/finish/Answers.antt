@@ -11,8 +11,8 @@ use Rattle.replay_core.specs.Shown.{opened_of, sent_of}
 use Rattle.replay_core.specs.declared.call.OpenCall.{OpenCall}
 use Rattle.replay_core.specs.contracts.session.Session.{the_view}
 use Rattle.replay_core.proofs.OneDriver.{found_holds}
-use Rattle.replay_core.proofs.Opens.{closed_after}
-use Rattle.replay_core.proofs.Shown.{sent_found, sent_is}
+use Rattle.replay_core.proofs.OpenThreads.{closed_after}
+use Rattle.replay_core.proofs.OpenCalls.{sent_found, sent_is}
 use Rattle.replay_core.proofs.Steps.{advances_returned, made_so, after_return_so}
 use Rattle.replay_core.proofs.Valuing.{values_of_call}
 use Rattle.replay_core.proofs.session.Session.finish.Goals as goal

@@ -1,4 +1,4 @@
-// What a return makes.
+// For which objects the results of a call stand.
 ghost use Rattle.std.specs.Prelude.{◌≡◌, ◌++◌, Some, map, filter, IfOk, OnOk, ℕ};
 ghost use Rattle.std.specs.List.{find, enumerate_from};
 ghost use Rattle.std.specs.Option.{option_map};
@@ -9,6 +9,7 @@ ghost use Rattle.replay_model.specs.Births.{owner_lives, bears, bearable, own_ob
 ghost use Rattle.session_tables.specs.Shown.{value_of};
 ghost use Rattle.replay_core.specs.Shown.{opened_of, valued_with};
 
+use crate::bearing::{bearable_results, effect_of, is_bearing};
 use crate::call::OpenCall;
 use command_tables::{CommandId, Effect, ObjectType, row};
 use object_model::Object;
@@ -19,50 +20,6 @@ use session_tables::{
 };
 use std::alloc::{AllocError, Global};
 use trace_format::Name;
-
-/// What a command does to objects.
-pub fn effect_of(cmd: CommandId) -> Effect
-    ensures { result ≡ (row_of cmd).effect }
-{
-    row(cmd).effect
-}
-
-#[tactic(auto, unfolding(command_tables::specs::Tests::same_command))]
-fn has_living_owner(objects: &ObjectTable, cmd: CommandId, owner: Option<Object>) -> bool
-    ensures { result ≡ owner_lives (is_in objects.now.living) cmd owner }
-{
-    cmd == CommandId::CreateInstance
-        || match owner {
-            None => false,
-            Some(owner) => objects.is_living(owner),
-        }
-}
-
-#[tactic(auto, using(crate::proofs::Openings::skipped_so))]
-fn is_bearing(objects: &ObjectTable, call: &OpenCall) -> bool
-    ensures { result ≡ bears objects.now.births (is_in objects.now.living) (opened_of call.now) }
-{
-    !call.skipped
-        && call.cmd.succeeds(call.code)
-        && has_living_owner(
-            objects,
-            call.cmd,
-            owner(objects.births(), &call.args, effect_of(call.cmd)),
-        )
-}
-
-// There is one driver, and so one physical device.
-#[tactic(auto, unfolding(command_tables::specs::Tests::same_command))]
-fn bearable_results(call: &OpenCall) -> &[Name]
-    ensures { result.now ≡ bearable 1 (opened_of call.now) }
-{
-    if call.cmd == CommandId::EnumeratePhysicalDevices {
-        let count = call.results.len().min(1);
-        &call.results[..count]
-    } else {
-        &call.results
-    }
-}
 
 fn own(ty: ObjectType, name: Name) -> Object
     ensures { result ≡ own_object ty name }
@@ -75,7 +32,7 @@ fn own(ty: ObjectType, name: Name) -> Object
 
 // The payload as far as it is part of a retrieved object's key.
 #[tactic(auto, unfolding(command_tables::specs::Tests::same_command))]
-fn key_of(call: &OpenCall) -> &[u8]
+pub fn key_of(call: &OpenCall) -> &[u8]
     ensures { result.now ≡ key_payload call.now.cmd call.now.payload.items }
 {
     if call.cmd == CommandId::GetDeviceQueue {
@@ -193,93 +150,5 @@ pub fn made(
         results(alloc, objects.births(), table, call)
     } else {
         Ok(Vec::new(alloc))
-    }
-}
-
-/// Keeps the names that stand for objects.
-pub fn keep_names(names: &mut NameTable, made: &[Born]) -> Result<(), AllocError>
-    ensures { OnOk result (names.new ≡ names.old ++ map named_of made.now) }
-{
-    for b in made {
-        names.push(Named {
-            name: b.name,
-            object: b.object,
-        })?;
-    }
-    Ok(())
-}
-
-fn value_entry(handles: &[u64], born: Born) -> ValueEntry
-    ensures { value_of result ≡ valued_with handles.now born }
-{
-    ValueEntry {
-        object: born.object,
-        value: handles.get(born.place).copied().unwrap_or(0),
-    }
-}
-
-/// Keeps what was answered for each object.
-pub fn keep_values(
-    values: &mut ValueTable,
-    handles: &[u64],
-    made: &[Born],
-) -> Result<(), AllocError>
-    ensures { OnOk result (values.new ≡ values.old ++ map (valued_with handles.now) made.now) }
-{
-    for b in made {
-        values.push(value_entry(handles, *b))?;
-    }
-    Ok(())
-}
-
-// The results whose objects are born by them.
-fn new_results(alloc: Global, births: &BirthTable, made: &[Born]) -> Result<Vec<Born>, AllocError>
-    ensures { IfOk result (λ v. v.items ≡ filter (is_new births.now) made.now) }
-{
-    made.iter()
-        .copied()
-        .filter(|b| !births.is_born(b.object))
-        .collect(alloc)
-}
-
-fn keep(
-    alloc: Global,
-    table: &mut RetrievedTable,
-    call: &OpenCall,
-    owner: Option<Object>,
-    made: &[Born],
-) -> Result<(), AllocError>
-    ensures { OnOk result (table.new ≡ table.old ++ map (retrieval (opened_of call.now) owner) made.now) }
-{
-    for b in made {
-        let entry = RetrievedEntry {
-            owner,
-            place: b.place,
-            payload: Vec::from_slice(alloc, key_of(call))?,
-            object: b.object,
-        };
-        table.push(alloc, entry)?;
-    }
-    Ok(())
-}
-
-/// Keeps the objects that a call retrieves first.
-pub fn keep_retrieved(
-    alloc: Global,
-    table: &mut RetrievedTable,
-    births: &BirthTable,
-    call: &OpenCall,
-    made: &[Born],
-) -> Result<(), AllocError>
-    ensures { OnOk result (table.new ≡ table.old ++ retrieved_by births.now (opened_of call.now) made.now) }
-{
-    let effect = effect_of(call.cmd);
-    match effect {
-        Effect::Retrieve { .. } => {
-            let owner = owner(births, &call.args, effect);
-            let given = new_results(alloc, births, made)?;
-            keep(alloc, table, call, owner, &given)
-        }
-        _ => Ok(()),
     }
 }

@@ -2,7 +2,7 @@ use Rattle.trace_format.specs.declared.event.Name.{Name}
 use Rattle.replay_model.specs.Births.{retrieved_object}
 use Rattle.replay_core.specs.Shown.{opened_of}
 use Rattle.replay_core.proofs.Retrieving.{placed_more}
-use Rattle.replay_core.proofs.made.retrieved_results.Goals as goal
+use Rattle.replay_core.proofs.results.retrieved_results.Goals as goal
 
 pub loop-k-preserved : goal.loop-k-preserved
 loop-k-preserved c =

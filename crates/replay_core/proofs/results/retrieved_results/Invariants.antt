@@ -3,7 +3,7 @@ use Rattle.std.specs.List.{enumerate_from}
 use Rattle.trace_format.specs.declared.event.Name.{Name}
 use Rattle.replay_model.specs.Births.{retrieved_object}
 use Rattle.replay_core.specs.Shown.{opened_of}
-use Rattle.replay_core.proofs.made.retrieved_results.Given as goal
+use Rattle.replay_core.proofs.results.retrieved_results.Given as goal
 
 abbrev pub invariant-loop-k : goal.invariant-loop-k
 invariant-loop-k l =

@@ -5,7 +5,7 @@ use Rattle.replay_model.specs.declared.Born.{Born}
 use Rattle.replay_model.specs.Past.{owner_by}
 use Rattle.replay_core.specs.Shown.{opened_of}
 use Rattle.replay_core.proofs.Retrieving.{retrieved_all}
-use Rattle.replay_core.proofs.made.results.Goals as goal
+use Rattle.replay_core.proofs.results.results.Goals as goal
 
 pub returns-in-Retrieve : goal.returns-in-Retrieve
 returns-in-Retrieve c =

@@ -4,8 +4,8 @@ use Rattle.replay_model.specs.Past.{Retrieval, key_payload}
 use Rattle.replay_model.specs.Births.{own_object, retrieved_object}
 use Rattle.object_model.specs.declared.Object.{Object}
 use Rattle.replay_core.specs.Shown.{opened_of}
-use Rattle.replay_core.proofs.Same.{none_kept}
-use Rattle.replay_core.proofs.made.retrieved.Goals as goal
+use Rattle.replay_core.proofs.Unowned.{none_kept}
+use Rattle.replay_core.proofs.results.retrieved.Goals as goal
 
 pub returns-in-None : goal.returns-in-None
 returns-in-None c =

@@ -22,9 +22,6 @@ sent_filter thread (c ∷ cs) = go (is_of thread (opened_of c)) (sent_filter thr
 pub sent_found : (thread : ℕ) (cs : List OpenCall) (c : OpenCall) → Some c ≡ find (λ (x : OpenCall). is_of thread (opened_of x)) cs → find (λ (x : Sent). is_of thread x.opened) (map sent_of cs) ≡ Some (sent_of c)
 sent_found thread cs c is = find_map (λ (x : Sent). is_of thread x.opened) sent_of cs ∙ ap (mapped sent_of) (sym is)
 
-pub sent_none : (thread : ℕ) (cs : List OpenCall) → None ≡ find (λ (x : OpenCall). is_of thread (opened_of x)) cs → find (λ (x : Sent). is_of thread x.opened) (map sent_of cs) ≡ None
-sent_none thread cs is = find_map (λ (x : Sent). is_of thread x.opened) sent_of cs ∙ ap (mapped sent_of) (sym is)
-
 is_mapped : (f : Option OpenCall) → is_some (mapped sent_of f) ≡ is_some f
 is_mapped None = refl
 is_mapped (Some c) = refl
