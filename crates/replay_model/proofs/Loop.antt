@@ -1,15 +1,15 @@
 -- What a reader of a trace's lines knows as it goes from line to line: the state of the trace so far, and that its stop and its events are those of the rest.
-use Rattle.std.proofs.Common.{◌≡◌, ◌≤◌, ◌<◌, ◌+◌, ℕ, nat_lt, Bool, true, false, cond, Option, Some, None, Result, Ok, Err, List, [], ◌∷◌, length, refl, sym, ◌∙◌, ap, arith}
+use Rattle.std.proofs.Common.{◌≡◌, ◌≤◌, ◌<◌, ◌+◌, ℕ, nat_lt, Bool, true, false, cond, Option, Some, None, Ok, Err, List, [], ◌∷◌, length, refl, ◌∙◌, ap, arith}
 use Rattle.std.specs.Option.{is_none, option_map, option_or}
 use Rattle.std.specs.Str.{bytes_eq}
 use Rattle.replay_base.specs.Lines.{lines_of}
 use Rattle.trace_format.specs.declared.fault.TraceFault.{TraceFault}
 use Rattle.trace_format.specs.declared.fault.TraceFault.TheVariants as fault
-use Rattle.trace_format.specs.Accepting.{exceeds_names, fault_after, fault_at_end, header, header_fault}
+use Rattle.trace_format.specs.Accepting.{exceeds_names, fault_after, fault_at_end, header}
 use Rattle.trace_format.specs.Content.{TraceEvent}
 use Rattle.trace_format.specs.Reading.{read_line}
 use Rattle.trace_format.specs.State.{Accepted, StandsFor, TraceSeen}
-use Rattle.replay_model.specs.Stop.{Stop, StopCause, ByFault, ByNames, at_line, behind_first, event_or_cause, events_from, events_in, events_of, events_or, most_trace_bytes, next_event, stop, stop_at, stop_at_names, stop_from, stop_in, stop_or, unless_cause}
+use Rattle.replay_model.specs.Stop.{Stop, StopCause, ByFault, ByNames, at_line, event_or_cause, events_from, events_in, events_of, events_or, most_trace_bytes, next_event, stop, stop_at, stop_at_names, stop_from, stop_in, stop_or, unless_cause}
 
 -- ---- one line
 

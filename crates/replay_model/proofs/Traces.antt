@@ -6,7 +6,7 @@ use Rattle.std.specs.Prelude.{if◌then◌else◌}
 use Rattle.std.specs.Option.{is_none, option_map, option_or}
 use Rattle.replay_base.specs.Lines.{lines_of}
 use Rattle.trace_format.specs.declared.fault.TraceFault.{TraceFault}
-use Rattle.trace_format.specs.Accepting.{are_accepted, exceeds_names, fault_after, header_fault}
+use Rattle.trace_format.specs.Accepting.{are_accepted, fault_after, header_fault}
 use Rattle.trace_format.specs.Content.{TraceEvent}
 use Rattle.trace_format.specs.Reading.{read_line}
 use Rattle.replay_model.specs.Stop.{StopCause, ByFault, at_line, behind_first, cause_after, event_or_cause, events_from, events_in, events_of, events_or, most_trace_bytes, next_event, stop, stop_from, stop_in, stop_or, unless_cause}

@@ -1,6 +1,6 @@
 -- Where a trace stops, and why: its first line, in order, that has a fault or passes a limit. It is said of the bytes alone.
 -- Source: this project.
-use Rattle.std.specs.Prelude.{ℕ, ◌+◌, Bool, if◌then◌else◌, nat_lt, Option, Some, None, Result, Ok, Err, List, [], ◌∷◌, length}
+use Rattle.std.specs.Prelude.{ℕ, ◌+◌, if◌then◌else◌, nat_lt, Option, Some, None, Result, Ok, Err, List, [], ◌∷◌, length}
 use Rattle.std.specs.Option.{option_map, option_or, is_none}
 use Rattle.replay_base.specs.Lines.{lines_of}
 use Rattle.trace_format.specs.declared.fault.TraceFault.{TraceFault}
