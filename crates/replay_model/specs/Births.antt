@@ -1,7 +1,7 @@
 -- Which results of a call are born at its return, and for which objects they stand.
 -- Source: Vulkan 1.3 specification, "Fundamentals", sections "Object Lifetime" and "Return Codes", and the chapters "Initialization" (vkEnumeratePhysicalDevices),
 -- "Devices and Queues" (vkGetDeviceQueue) and "Window System Integration" (vkGetSwapchainImagesKHR).
-use Rattle.std.specs.Prelude.{ℕ, ◌+◌, ◌*◌, Bool, true, false, not, ◌&&◌, ◌||◌, if◌then◌else◌, ◌==◌, Option, Some, None, List, [], map, find, take}
+use Rattle.std.specs.Prelude.{ℕ, ◌+◌, ◌*◌, Bool, false, not, ◌&&◌, ◌||◌, if◌then◌else◌, ◌==◌, Option, List, [], map, find, take}
 use Rattle.std.specs.List.{enumerate_from}
 use Rattle.std.specs.Option.{option_map_or}
 use Rattle.std.specs.Str.{bytes_eq}

@@ -1,14 +1,13 @@
 -- How the parts of a printed event make its spelling.
-use Rattle.std.proofs.Common.{◌≡◌, ◌==◌, true, false, eqb-true, codes, ◌<◌, ◌≤◌, ◌+◌, ℕ, zero, suc, List, [], ◌∷◌, ◌++◌, length, map, take, get_or, refl, sym, ap, ◌∙◌, arith, append_assoc, append-nil, length-append, add-one}
+use Rattle.std.proofs.Common.{◌≡◌, ◌==◌, true, false, eqb-true, codes, ◌<◌, ◌≤◌, ◌+◌, ℕ, zero, suc, List, [], ◌∷◌, ◌++◌, length, map, take, get_or, refl, sym, ap, ◌∙◌, arith, append-nil, length-append, add-one}
 use Rattle.std.proofs.lemmas.Grind.{flat_map-append}
 use Rattle.std.specs.List.{flat_map, join_with_byte}
 use Rattle.std.proofs.Math.Seq.{take-append_seam, take-length, take-suc}
-use Rattle.std.proofs.lemmas.List.{take-append-le}
 use Rattle.trace_format.specs.declared.event.Name.{Name}
 use Rattle.trace_format.specs.declared.event.TraceArg.{TraceArg}
 use Rattle.trace_format.specs.Content.{arg_content}
 use Rattle.trace_format.specs.Grammar.{arg_text, args_text, name_text, results_text}
-use Rattle.trace_format.specs.Printing.{Keeps, further, listed}
+use Rattle.trace_format.specs.Printing.{listed}
 
 -- the front of a front
 taken : {X : Type 0} (m n : ℕ) (xs : List X) → m ≤ n → take m (take n xs) ≡ take m xs

@@ -1,6 +1,6 @@
 -- What is kept of a trace stands for its events, one event after another.
-use Rattle.std.proofs.Common.{◌≡◌, ◌==◌, ◌<◌, ◌≤◌, ◌+◌, ◌-◌, ◌^◌, ℕ, nat_lt, zero, suc, min, Bool, true, false, not, cond, ◌&&◌, ◌||◌, Option, Some, None, Result, Ok, Err, List, [], ◌∷◌, ◌++◌, length, map, refl, sym, ◌∙◌, ap, arith, eq-eqb, eqb-true, append-nil}
-use Rattle.std.specs.Prelude.{is_some, slice_get, filter_map, filter, replicate, if◌then◌else◌, IsTrue}
+use Rattle.std.proofs.Common.{◌≡◌, ◌==◌, ◌<◌, ◌≤◌, ◌+◌, ◌-◌, ℕ, nat_lt, zero, suc, Bool, true, false, not, cond, ◌&&◌, ◌||◌, Option, Some, None, Result, Ok, Err, List, [], ◌∷◌, ◌++◌, length, map, refl, sym, ◌∙◌, ap, arith, eq-eqb, eqb-true, append-nil}
+use Rattle.std.specs.Prelude.{is_some, slice_get, filter_map, filter, replicate, if◌then◌else◌}
 use Rattle.std.specs.List.{list_all, list_any, AllByRecursion}
 use Rattle.std.specs.Option.{option_map_or, option_or}
 use Rattle.std.specs.Result.{IfOk, OnOk}
@@ -19,11 +19,11 @@ use Rattle.trace_format.specs.declared.fault.TraceFault.{TraceFault}
 use Rattle.trace_format.specs.declared.fault.TraceFault.TheVariants as fault
 use Rattle.trace_format.specs.declared.thread.ThreadState.{ThreadState}
 use Rattle.trace_format.specs.declared.state.AcceptError.{AcceptError}
-use Rattle.trace_format.specs.Accepting.{breaks_in, breaks_instance, calls_in, count_on, fault_after, fault_at_end, first_fault, is_known, is_no_return_of, exceeds_names, is_of_type, is_open, last_call, makes_instance, names_given, names_in, names_used, open_threads, same_name, type_given}
+use Rattle.trace_format.specs.Accepting.{breaks_in, breaks_instance, calls_in, count_on, fault_after, fault_at_end, first_fault, is_known, is_no_return_of, exceeds_names, is_of_type, makes_instance, names_in, names_used, open_threads, same_name, type_given}
 use Rattle.trace_format.specs.Content.{Arg, BeginEvent, TraceEvent, Begin, Return}
 use Rattle.trace_format.specs.Gains.{gained}
 use Rattle.trace_format.specs.Grammar.{FitParams, HasForm, IsBegin, IsEvent, IsName, IsOne, takes}
-use Rattle.trace_format.specs.State.{Accepted, Began, Ended, SameThreads, StandsFor, Stays, argument_fault, args_found, is_found, is_found_or_null, TraceSeen, breaks, breaks_into, call_in, counted, creating_in, fault_by_parts, fault_in, knows, knows_as, open_in, type_in, types_in}
+use Rattle.trace_format.specs.State.{Accepted, Began, Ended, StandsFor, Stays, argument_fault, args_found, is_found, is_found_or_null, TraceSeen, breaks, breaks_into, call_in, counted, creating_in, fault_by_parts, fault_in, knows, knows_as, open_in, type_in, types_in}
 
 -- two tests in a row
 both : (a b : Bool) → a && b ≡ true → (a ≡ true) × (b ≡ true)

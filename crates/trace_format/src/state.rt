@@ -128,12 +128,7 @@ fn is_found_or_null(
     }
 }
 
-fn are_found(
-    threads: &[ThreadState],
-    typed: bool,
-    ty: ObjectType,
-    places: &[Option<Name>],
-) -> bool
+fn are_found(threads: &[ThreadState], typed: bool, ty: ObjectType, places: &[Option<Name>]) -> bool
     ensures { result ≡ list_all (is_found_or_null threads.now typed ty) places.now }
 {
     places
@@ -336,7 +331,14 @@ impl TraceState {
         }
         let call = self.calls.saturating_add(1);
         let made = made(row(cmd).effect);
-        open_call(self.alloc, &mut self.threads, thread, call, made, results.len())?;
+        open_call(
+            self.alloc,
+            &mut self.threads,
+            thread,
+            call,
+            made,
+            results.len(),
+        )?;
         self.calls = call;
         self.names = names;
         self.has_instance = creates_instance(cmd, code) || self.has_instance;

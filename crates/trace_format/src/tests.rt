@@ -173,11 +173,17 @@ fn a_trace_has_at_most_4194304_names(rt: HostRuntime) -> Result<(), Fail> {
     }
     for round in 0..4095 {
         let line = allocation(&rt, round * 1024 + 1, 1024)?;
-        assert!(rt; place(&rt, &mut state, line.as_str())?.is_ok(), "at {round}");
+        assert!(rt;
+            place(&rt, &mut state, line.as_str())?.is_ok(),
+            "at {round}"
+        );
         assert!(rt; place(&rt, &mut state, "r 1")?.is_ok());
     }
     let above = allocation(&rt, 4_193_281, 1021)?;
-    assert_eq!(rt; place(&rt, &mut state, above.as_str())?, Err(AcceptError::Names));
+    assert_eq!(rt;
+        place(&rt, &mut state, above.as_str())?,
+        Err(AcceptError::Names)
+    );
     let last = allocation(&rt, 4_193_281, 1020)?;
     assert_eq!(rt; place(&rt, &mut state, last.as_str())?, Ok(4100));
     assert_eq!(rt; place(&rt, &mut state, "r 1")?, Ok(4100));
@@ -186,7 +192,11 @@ fn a_trace_has_at_most_4194304_names(rt: HostRuntime) -> Result<(), Fail> {
         Err(AcceptError::Names)
     );
     assert_eq!(rt;
-        place(&rt, &mut state, "b 2 vkDestroyCommandPool %1.4194300 %2.4 void")?,
+        place(
+            &rt,
+            &mut state,
+            "b 2 vkDestroyCommandPool %1.4194300 %2.4 void"
+        )?,
         Err(AcceptError::Fault(TraceFault::WrongType))
     );
     assert_eq!(rt;

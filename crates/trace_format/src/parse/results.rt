@@ -21,7 +21,11 @@ fn takes(effect: Effect, count: usize) -> bool
 {
     match effect {
         Effect::Create { many, .. } | Effect::Retrieve { many, .. } => {
-            if many { count <= MAX_PLACES as usize } else { count == 1 }
+            if many {
+                count <= MAX_PLACES as usize
+            } else {
+                count == 1
+            }
         }
         _ => count == 0,
     }

@@ -9,4 +9,4 @@ use Rattle.replay_rows.proofs.stops.a_second_line_at_fault.Goals as goal
 
 pub returns : goal.returns
 unfolding digits row_of same_type same_command same_code number_up_to name_of one_of list_of arg_of code_of command_of ending_at tail_at begin_at return_at read_line
-returns c = record { thread = refl; two_spaces = refl; leading_zero = refl; not_the_next = refl; no_open_call = refl; }
+returns c = record { thread = refl; two_spaces = refl; leading_zero = refl; not_the_next = refl; no_open_call = refl }

@@ -9,4 +9,4 @@ use Rattle.replay_rows.proofs.stops.traces_that_are_cut.Goals as goal
 
 pub returns : goal.returns
 unfolding digits row_of same_type same_command same_code number_up_to name_of one_of list_of arg_of code_of command_of ending_at tail_at begin_at return_at read_line
-returns c = record { whole = refl; in_a_line = refl; in_a_call = refl; }
+returns c = record { whole = refl; in_a_line = refl; in_a_call = refl }

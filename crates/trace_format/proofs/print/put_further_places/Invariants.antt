@@ -1,6 +1,5 @@
-use Rattle.std.proofs.Common.{◌≡◌, ◌++◌, ◌∷◌, take, codes}
+use Rattle.std.proofs.Common.{◌≡◌, ◌++◌, ◌∷◌, take}
 use Rattle.std.specs.List.{flat_map}
-use Rattle.trace_format.specs.Content.{arg_content}
 use Rattle.trace_format.specs.Grammar.{one_text}
 use Rattle.trace_format.proofs.print.put_further_places.Given as goal
 
