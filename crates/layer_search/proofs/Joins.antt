@@ -19,13 +19,6 @@ map_filtered {X} {K} read p (x ∷ xs) = go (p (read x)) (map_filtered read p xs
     go true ih = ap (λ ys. read x ∷ ys) ih
     go false ih = ih
 
--- one element more of what is read
-pub read_more : {X Y Z : Type 0} (f : Y → Z) (read : X → Y) (xs : List X) (i : ℕ) (x : X) → i < length xs → x ≡ get_or xs i x
-    → map f (map read (take (i + 1) xs)) ≡ map f (map read (take i xs)) ++ f (read x) ∷ []
-read_more f read xs i x l at =
-    ap (λ ys. map f (map read ys)) (take_more xs i x l ∙ ap (λ y. take i xs ++ y ∷ []) (sym at))
-    ∙ (ap (map f) (map-append read (take i xs) (x ∷ [])) ∙ map-append f (map read (take i xs)) (read x ∷ []))
-
 -- one piece more of what is read
 pub pieces_more : {X Y Z : Type 0} (f : Y → List Z) (read : X → Y) (xs : List X) (i : ℕ) (x : X) → i < length xs → x ≡ get_or xs i x
     → flat_map f (map read (take (i + 1) xs)) ≡ flat_map f (map read (take i xs)) ++ f (read x)

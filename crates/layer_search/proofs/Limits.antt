@@ -42,12 +42,6 @@ limit_in_pieces f read xs i x e l at h =
     limit_at [] (flat_map f (map read (take i xs))) (f (read x)) (flat_map f (map read (drop (i + 1) xs))) (flat_map f (map read xs)) e
     (ap (λ ys. flat_map f (map read ys)) (around xs i x l at) ∙ (ap (flat_map f) (map-append read (take i xs) (x ∷ drop (i + 1) xs)) ∙ flat_map-append f (map read (take i xs)) (map read (x ∷ drop (i + 1) xs)))) h
 
--- an error that comes without a tree has its cause while the count stands
-pub own_cause : (before now : ℕ) (e : SearchError) → IsOwnError e → now ≡ before → ErrorHasCause before now e
-own_cause before now Tree own same = absurd own
-own_cause before now (TooMany count) own same = (same, own)
-own_cause before now NoMemory own same = same
-
 -- an error that no limit makes says nothing of the paths
 pub no_limit : (paths : List (List ℕ)) (e : SearchError) → IsNoLimit e → MeetsLimit paths e
 no_limit paths Tree none = tt

@@ -7,11 +7,11 @@ use Rattle.replay_base.specs.declared.limit.Which.TheVariants as which
 use Rattle.trace_format.specs.declared.fault.TraceFault.{TraceFault}
 use Rattle.trace_format.specs.declared.fault.TraceFault.TheVariants as fault
 use Rattle.trace_format.specs.Accepting.{first_fault, breaks_instance, fault_at_end, fault_after, is_open, call_number}
-use Rattle.trace_format.specs.Accepting.{calls_in as calls_begun}
+use Rattle.trace_format.specs.Accepting.{calls_begun}
 use Rattle.trace_format.specs.Content.{TraceEvent, Begin, Return}
 use Rattle.trace_format.specs.Grammar.{IsEvent}
 use Rattle.trace_format.specs.Reading.{read_line}
-use Rattle.trace_format.specs.State.{Accepted, StandsFor, TraceSeen, counted}
+use Rattle.trace_format.specs.State.{Accepted, SumsUp, TraceSeen, counted}
 use Rattle.replay_model.specs.Direct.{Sent}
 use Rattle.replay_model.specs.Judged.{judged}
 use Rattle.replay_model.specs.Past.{calls_in, is_of, open_calls}
@@ -33,13 +33,13 @@ use Rattle.replay_core.proofs.Playing.{played_none}
 -- The events so far were replayed, the state and the session stand for them, and what follows them is what the rest of the lines has.
 pub record SoFar (state : TraceSeen) (k : Kept) (n : ℕ) (all rest : List (List ℕ)) (t : Traffic) : Type 0 where
   pub events : List TraceEvent
-  pub state_stands : StandsFor state events
+  pub state_stands : SumsUp state events
   pub stop : stop_from 2 [] all ≡ stop_from n events rest
   pub same : events_from [] all ≡ events_from events rest
   pub played : Played k events t
 
 -- before the first line
-pub far_start : (state : TraceSeen) (k : Kept) (all : List (List ℕ)) (t : Traffic) → StandsFor state [] → Stands k [] [] → t.log ≡ t.old_log → t.sink.new ≡ t.sink.old → SoFar state k 2 all all t
+pub far_start : (state : TraceSeen) (k : Kept) (all : List (List ℕ)) (t : Traffic) → SumsUp state [] → Stands k [] [] → t.log ≡ t.old_log → t.sink.new ≡ t.sink.old → SoFar state k 2 all all t
 far_start state k all t state_stands stands log held = record { events = []; state_stands = state_stands; stop = refl; same = refl; played = played_none k t stands log held }
 
 -- so the next line finds both in step
@@ -171,7 +171,7 @@ on_ok P Q (Ok x) p f = f p
 on_ok P Q (Err e) p f = tt
 
 -- a line whose event was read and is in its place, by what its replay came to
-pub line_of_step : (l : LineStep) (e : TraceEvent) (n : ℕ) (r : Result (Unit {0}) ReplayError) → read_line l.text ≡ Ok e → ((before : List TraceEvent) → StandsFor l.old_state before → Accepted l.state before e n)
+pub line_of_step : (l : LineStep) (e : TraceEvent) (n : ℕ) (r : Result (Unit {0}) ReplayError) → read_line l.text ≡ Ok e → ((before : List TraceEvent) → SumsUp l.old_state before → Accepted l.state before e n)
     → Steps (record { old = l.old; new = l.new; event = e; traffic = l.traffic }) r → PlaysLine l r
 line_of_step l e n (Ok done) read accepted steps =
     (λ start events stands played.
@@ -190,7 +190,7 @@ line_of_step l e n (Err (error.Trace line f)) read accepted steps = absurd steps
 line_of_step l e n (Err (error.Limit w)) read accepted steps = absurd steps
 
 -- an event whose place is wrong
-pub line_of_fault : (l : LineStep) (e : TraceEvent) (f : TraceFault) → read_line l.text ≡ Ok e → ((before : List TraceEvent) → StandsFor l.old_state before → fault_after before e ≡ Some f) → l.new ≡ l.old → l.traffic.log ≡ l.traffic.old_log
+pub line_of_fault : (l : LineStep) (e : TraceEvent) (f : TraceFault) → read_line l.text ≡ Ok e → ((before : List TraceEvent) → SumsUp l.old_state before → fault_after before e ≡ Some f) → l.new ≡ l.old → l.traffic.log ≡ l.traffic.old_log
     → l.traffic.sink.new ≡ l.traffic.sink.old → Behind l (λ events t. LineStops l (Fault f) events t)
 line_of_fault l e f read fault kept log held start events stands played = record {
   here = line_misplaced events l.text e f read (fault events stands);

@@ -22,7 +22,7 @@ use Rattle.replay_model.specs.Places.{is_failing, at_place}
 use Rattle.replay_model.specs.Births.{made_by}
 use Rattle.replay_model.specs.Judged.{Begun, judged, begun_of, made_of}
 use Rattle.replay_model.specs.Direct.{Answered, Sent, Valued, valued, valued_of, driver_call, before_call, own_replies, answers_to, begin_exchanges, exchanges_at, sends_at}
-use Rattle.replay_model.specs.Text.{chain_text, report_text, written_at, return_text, lines_of}
+use Rattle.replay_model.specs.Text.{chain_text, report_text, written_at, return_text, judged_lines}
 use Rattle.replay_core.specs.Setups.{one_driver}
 use Rattle.session_tables.specs.Population.{LivesToo}
 use Rattle.replay_core.specs.Kept.{Kept, stop_where, sent_to, answered_by, begun_from, begun_at, after_call, after_begin, after_return, made_at, given_at, LivesOn}
@@ -95,19 +95,19 @@ first_written : (args : List Arg) → written_at args 0 0 ≡ first_name args
 first_written [] = refl
 first_written (a ∷ args) = first_there a.names
 
-begun_lines : (e : BeginEvent) (b : Begun) → lines_of one_driver (Began e b.opened b.reports) ≡ flat_map (report_text e b.opened.number) b.reports
+begun_lines : (e : BeginEvent) (b : Begun) → judged_lines one_driver (Began e b.opened b.reports) ≡ flat_map (report_text e b.opened.number) b.reports
 begun_lines e b = ap (λ (xs : List ℕ). xs ++ flat_map (report_text e b.opened.number) b.reports) (no_chain e b.opened.number)
 
-reported_lines : (e : BeginEvent) (b : Begun) → b.reports ≡ loader_report ∷ [] → lines_of one_driver (Began e b.opened b.reports) ≡ loader_line b.opened.number e.cmd (first_name e.args)
+reported_lines : (e : BeginEvent) (b : Begun) → b.reports ≡ loader_report ∷ [] → judged_lines one_driver (Began e b.opened b.reports) ≡ loader_line b.opened.number e.cmd (first_name e.args)
 reported_lines e b is =
     begun_lines e b ∙ (ap (λ (rs : List Report). flat_map (report_text e b.opened.number) rs) is ∙ (append-nil (report_text e b.opened.number loader_report) ∙ ap (loader_line b.opened.number e.cmd) (first_written e.args)))
 
-silent_lines : (e : BeginEvent) (b : Begun) → b.reports ≡ [] → lines_of one_driver (Began e b.opened b.reports) ≡ []
+silent_lines : (e : BeginEvent) (b : Begun) → b.reports ≡ [] → judged_lines one_driver (Began e b.opened b.reports) ≡ []
 silent_lines e b is = begun_lines e b ∙ ap (λ (rs : List Report). flat_map (report_text e b.opened.number) rs) is
 
 -- the lines of the return of an open call
 abbrev return_lines : Past → Option Opened → List ℕ
-return_lines past f = option_map_or (λ o. lines_of one_driver (Returned o (made_of one_driver past o))) f []
+return_lines past f = option_map_or (λ o. judged_lines one_driver (Returned o (made_of one_driver past o))) f []
 
 -- ---- steps
 
@@ -153,7 +153,7 @@ advances_skipped k new e o name log lines0 lines1 is skipped new_is named report
           reported ∙ ap (λ (bs : List ℕ). lines0 ++ bs)
           (ap (λ (n : Option Name). loader_line o.number o.cmd n) named
           ∙ (ap (λ (x : Opened). loader_line x.number x.cmd (first_name e.args)) is
-          ∙ (sym (reported_lines e b one) ∙ ap (λ (x : Begun). lines_of one_driver (Began e x.opened x.reports)) (begun-kept k events before e s))));
+          ∙ (sym (reported_lines e b one) ∙ ap (λ (x : Begun). judged_lines one_driver (Began e x.opened x.reports)) (begun-kept k events before e s))));
     }
 
 -- a begin that is sent makes one call
@@ -204,7 +204,7 @@ advances_sent k new e o given handles log0 log1 lines is sends known asked new_i
       told = told_sent k e o given handles log0 log1 is sends known asked;
       wrote = λ events before s.
           sym (append-nil lines) ∙ ap (λ (bs : List ℕ). lines ++ bs)
-          (sym (silent_lines e b none) ∙ ap (λ (x : Begun). lines_of one_driver (Began e x.opened x.reports)) (begun-kept k events before e s));
+          (sym (silent_lines e b none) ∙ ap (λ (x : Begun). judged_lines one_driver (Began e x.opened x.reports)) (begun-kept k events before e s));
     }
 
 -- a begin that was sent and then had no memory

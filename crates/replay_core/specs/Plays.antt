@@ -2,7 +2,7 @@
 use Rattle.std.specs.Prelude.{◌≡◌, ◌⊎◌, ℕ, List, ◌∷◌, Option, Some, None, Result, Ok, Err}
 use Rattle.command_tables.specs.Calls.{ReplyContent}
 use Rattle.trace_format.specs.Content.{TraceEvent}
-use Rattle.trace_format.specs.State.{TraceSeen, StandsFor}
+use Rattle.trace_format.specs.State.{TraceSeen, SumsUp}
 use Rattle.replay_base.specs.Changes.{Stood, FailedOnce}
 use Rattle.replay_base.specs.declared.limit.Which.TheVariants as which
 use Rattle.replay_model.specs.Stop.{Stop, Cause, Fault, Names, at_fault, line_after, stop, stop_in, stop_from, events_of, events_in, events_from}
@@ -38,7 +38,7 @@ Steps step (Err other) = ⊥
 pub record InStep (state : TraceSeen) (k : Kept) : Type 0 where
   pub events : List TraceEvent
   pub replies : List ReplyContent
-  pub state_stands : StandsFor state events
+  pub state_stands : SumsUp state events
   pub session_stands : Stands k events replies
 
 -- one line: its bytes and its number, the state of the trace and what the session keeps before and after it, and what went to the driver and the sink
@@ -53,13 +53,13 @@ pub record LineStep : Type 0 where
 
 -- whatever was replayed before the line, this holds of it and the line
 abbrev pub Behind : LineStep → (List TraceEvent → Traffic → Type 0) → Type 0
-Behind l Holds = (start : Start) (events : List TraceEvent) → StandsFor l.old_state events → Played l.old events (upto start l.traffic) → Holds events (through start l.traffic)
+Behind l Holds = (start : Start) (events : List TraceEvent) → SumsUp l.old_state events → Played l.old events (upto start l.traffic) → Holds events (through start l.traffic)
 
 -- the line's event was replayed
 pub record LinePlayed (l : LineStep) (events : List TraceEvent) (t : Traffic) : Type 0 where
   pub event : TraceEvent
   pub here : line_after events l.text ≡ Ok event
-  pub stands : StandsFor l.state (event ∷ events)
+  pub stands : SumsUp l.state (event ∷ events)
   pub played : Played l.new (event ∷ events) t
 
 -- the trace stops at the line, which changed nothing

@@ -2,7 +2,7 @@
 ghost use Rattle.std.specs.Prelude.{◌≡◌, ◌≤◌, [], length};
 ghost use Rattle.replay_base.specs.Changes.{changed};
 ghost use Rattle.replay_base.specs.Lines.{lines_of};
-ghost use Rattle.trace_format.specs.State.{StandsFor};
+ghost use Rattle.trace_format.specs.State.{SumsUp};
 ghost use Rattle.replay_core.specs.Plays.{Plays, script_from};
 ghost use Rattle.replay_core.specs.Stands.{Stands};
 ghost use Rattle.replay_core.specs.Traffic.{traffic_of};
@@ -22,7 +22,7 @@ pub fn play<K: Sink, D: Driver>(
     out: &mut K,
 ) -> Result<(), ReplayError>
     requires session { Stands player.old.session [] [] }
-    requires state { StandsFor player.old.state [] }
+    requires state { SumsUp player.old.state [] }
     requires size { length bytes.now ≤ MOST_BYTES }
     ensures plays {
         let sink = changed (K.held out.old) (K.held out.new) (K.faults out.old) (K.faults out.new) in

@@ -2,7 +2,7 @@
 ghost use Rattle.std.specs.Prelude.{◌≡◌, ◌≤◌, ◌+◌, ℕ, [], OnOk, OnErr, IfErr, Err};
 ghost use Rattle.replay_base.specs.Changes.{changed};
 ghost use Rattle.trace_format.specs.Content.{content};
-ghost use Rattle.trace_format.specs.State.{StandsFor};
+ghost use Rattle.trace_format.specs.State.{SumsUp};
 ghost use Rattle.replay_core.specs.Beginning.{CanTake, HasTaken};
 ghost use Rattle.replay_core.specs.Plays.{InStep, PlaysLine, Steps};
 ghost use Rattle.replay_core.specs.Stands.{Advances, MayTell, Stands};
@@ -27,7 +27,7 @@ pub struct Player {
 impl Player {
     pub fn new(alloc: Global) -> Player
         ensures session { Stands result.session [] [] }
-        ensures state { StandsFor result.state [] }
+        ensures state { SumsUp result.state [] }
     {
         Player {
             alloc,

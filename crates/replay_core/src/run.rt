@@ -5,7 +5,7 @@ ghost use Rattle.replay_base.specs.Lines.{lines_of};
 ghost use Rattle.replay_model.specs.Stop.{at_fault};
 ghost use Rattle.replay_model.specs.Text.{end_line as line_at_end};
 ghost use Rattle.trace_format.specs.declared.fault.TraceFault.TheVariants as fault;
-ghost use Rattle.trace_format.specs.State.{StandsFor};
+ghost use Rattle.trace_format.specs.State.{SumsUp};
 ghost use Rattle.replay_core.specs.Ending.{PutsEnd, PlaysWhole};
 ghost use Rattle.replay_core.specs.Plays.{Plays, script_from, script_in, script_of};
 ghost use Rattle.replay_core.specs.Replayed.{Replays, run_of};
@@ -22,7 +22,7 @@ use model_driver::Driver;
 use replay_base::{Sink, Source, put_all, split_line};
 use replay_model::MOST_BYTES;
 use std::alloc::{AllocError, Global};
-use trace_format::TraceFault;
+use trace_format::{HEADER, TraceFault};
 
 // What stands behind the header.
 #[tactic(auto, using(crate::proofs::Header::header_missing, crate::proofs::Header::header_wrong, crate::proofs::Header::header_there))]
@@ -34,7 +34,7 @@ fn behind_header(bytes: &[u8]) -> Option<&[u8]>
         return None;
     }
     let split = split_line(bytes);
-    if split.line == b"vktrace 1".as_slice() {
+    if split.line == HEADER.as_slice() {
         Some(split.rest)
     } else {
         None
@@ -49,7 +49,7 @@ fn play_trace<K: Sink, D: Driver>(
     out: &mut K,
 ) -> Result<(), ReplayError>
     requires session { Stands player.old.session [] [] }
-    requires state { StandsFor player.old.state [] }
+    requires state { SumsUp player.old.state [] }
     requires size { length bytes.now ≤ MOST_BYTES }
     ensures plays {
         let sink = changed (K.held out.old) (K.held out.new) (K.faults out.old) (K.faults out.new) in
@@ -97,7 +97,7 @@ fn play_whole<K: Sink, D: Driver>(
     out: &mut K,
 ) -> Result<(), ReplayError>
     requires session { Stands player.old.session [] [] }
-    requires state { StandsFor player.old.state [] }
+    requires state { SumsUp player.old.state [] }
     requires size { length bytes.now ≤ MOST_BYTES }
     ensures plays {
         let sink = changed (K.held out.old) (K.held out.new) (K.faults out.old) (K.faults out.new) in

@@ -5,7 +5,7 @@ use Rattle.std.specs.List.{list_any}
 use Rattle.std.specs.Option.{is_none}
 use Rattle.std.proofs.lemmas.Bool.Decides.{Decides-eqb}
 use Rattle.trace_format.specs.Accepting.{open_threads, is_open, fault_after, are_accepted}
-use Rattle.trace_format.specs.Accepting.{calls_in as calls_begun}
+use Rattle.trace_format.specs.Accepting.{calls_begun}
 use Rattle.trace_format.specs.Content.{TraceEvent, Begin, Return}
 use Rattle.replay_model.specs.Setup.{Setup}
 use Rattle.replay_model.specs.Past.{Opened, calls_in, is_of, open_calls}

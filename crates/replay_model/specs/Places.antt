@@ -25,10 +25,10 @@ abbrev pub stops_at : Opened → ℕ → Bool
 stops_at o k = option_map_or (λ n. n == k) o.stop false
 
 -- The calls that reach a place with their returns. For the place a call is skipped only where it skips it itself, so never for a threads part.
-abbrev pub seen : Past → ℕ → History
-seen [] k = []
-seen (Began e o reports ∷ past) k = if reaches o k then Begins (call_of o) (stops_at o k) ∷ seen past k else seen past k
-seen (Returned o made ∷ past) k = if reaches o k then Returns (call_of o) (objects_of made) ∷ seen past k else seen past k
+abbrev pub seen_past : Past → ℕ → History
+seen_past [] k = []
+seen_past (Began e o reports ∷ past) k = if reaches o k then Begins (call_of o) (stops_at o k) ∷ seen_past past k else seen_past past k
+seen_past (Returned o made ∷ past) k = if reaches o k then Returns (call_of o) (objects_of made) ∷ seen_past past k else seen_past past k
 
 -- the parts in force: those of the chain of the unskipped vkCreateInstance that succeeded and returned, none before it
 abbrev pub parts_in_force : Setup → Past → List PartKind
@@ -48,7 +48,7 @@ pub record Checked : Type 0 where
 -- what the parts find, from place k on: a lifetimes part by the trace's history, a threads part by the calls that reached it; a unique part checks nothing
 abbrev pub parts_checked : Past → Call → ℕ → List PartKind → List Checked
 parts_checked past call k [] = []
-parts_checked past call k (part.Threads ∷ parts) = record { place = k; skips = false; failures = overlaps (seen past k) call } ∷ parts_checked past call (k + 1) parts
+parts_checked past call k (part.Threads ∷ parts) = record { place = k; skips = false; failures = overlaps (seen_past past k) call } ∷ parts_checked past call (k + 1) parts
 parts_checked past call k (part.Lifetimes ∷ parts) = record { place = k; skips = true; failures = failures (history past) call } ∷ parts_checked past call (k + 1) parts
 parts_checked past call k (part.Unique ∷ parts) = parts_checked past call (k + 1) parts
 

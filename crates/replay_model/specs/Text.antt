@@ -84,14 +84,14 @@ abbrev pub chain_text : Setup → BeginEvent → ℕ → List ℕ
 chain_text s e number = if same_command e.cmd cmd.CreateInstance then outcome_text (s.outcome e.payload) number else []
 
 -- the lines of one judged event
-abbrev pub lines_of : Setup → Judged → List ℕ
-lines_of s (Began e o reports) = chain_text s e o.number ++ flat_map (report_text e o.number) reports
-lines_of s (Returned o made) = return_text s o (length made)
+abbrev pub judged_lines : Setup → Judged → List ℕ
+judged_lines s (Began e o reports) = chain_text s e o.number ++ flat_map (report_text e o.number) reports
+judged_lines s (Returned o made) = return_text s o (length made)
 
 -- the lines of all judged events
 abbrev pub lines : Setup → Past → List ℕ
 lines s [] = []
-lines s (j ∷ past) = lines s past ++ lines_of s j
+lines s (j ∷ past) = lines s past ++ judged_lines s j
 
 -- the text of a trace: the notes, and then the lines of each event
 abbrev pub text : Setup → Past → List ℕ
@@ -99,8 +99,8 @@ text s past = s.notes ++ lines s past
 
 -- the lines of one event after such a past
 abbrev pub lines_at : Setup → Past → TraceEvent → List ℕ
-lines_at s past (Begin e) = let b = begun_of s past e in lines_of s (Began e b.opened b.reports)
-lines_at s past (Return thread) = option_map_or (λ o. lines_of s (Returned o (made_of s past o))) (find (is_of thread) (open_calls past)) []
+lines_at s past (Begin e) = let b = begun_of s past e in judged_lines s (Began e b.opened b.reports)
+lines_at s past (Return thread) = option_map_or (λ o. judged_lines s (Returned o (made_of s past o))) (find (is_of thread) (open_calls past)) []
 
 -- ---- the tally
 

@@ -10,7 +10,7 @@ ghost use Rattle.std.specs.List.{zip};
 ghost use Rattle.command_tables.specs.Calls.{ReplyContent};
 ghost use Rattle.object_model.specs.declared.Object.{Object};
 ghost use Rattle.trace_format.specs.Accepting.{are_accepted, is_open};
-ghost use Rattle.trace_format.specs.Accepting.{calls_in as calls_begun};
+ghost use Rattle.trace_format.specs.Accepting.{calls_begun};
 ghost use Rattle.trace_format.specs.Content.{TraceEvent};
 ghost use Rattle.replay_model.specs.Setup.{Setup};
 ghost use Rattle.replay_model.specs.Past.{Past, calls_in, is_of, open_calls, routed};

@@ -1,7 +1,7 @@
 //! Chains and their places: refusals, parts above and below each other, the chain in force.
 ghost use Rattle.std.specs.Prelude.{◌≡◌, [], ◌∷◌, ◌++◌, true, false, codes, reverse};
 ghost use Rattle.replay_model.specs.Judged.{judged};
-ghost use Rattle.replay_model.specs.Places.{seen};
+ghost use Rattle.replay_model.specs.Places.{seen_past};
 ghost use Rattle.replay_rows.specs.Traces.{buffer_destroyed_twice, calls, events, said, skips, started, told};
 ghost use Rattle.replay_rows.specs.Setups.{device_start, layers_by_name, lifetimes_above_threads, lifetimes_twice, no_driver, unguarded, validation, validation_start};
 
@@ -123,11 +123,11 @@ pub fn an_instance_that_fails_first()
 /// A buffer is destroyed twice: the second destroy comes to the threads part and to the lifetimes part, which skips it, and not to the
 /// unique part below.
 pub fn a_skipped_call_at_each_place()
-    ensures above { skips (seen (judged validation (reverse buffer_destroyed_twice)) 1)
+    ensures above { skips (seen_past (judged validation (reverse buffer_destroyed_twice)) 1)
         ≡ false ∷ false ∷ false ∷ false ∷ false ∷ false ∷ [] }
-    ensures at { skips (seen (judged validation (reverse buffer_destroyed_twice)) 2)
+    ensures at { skips (seen_past (judged validation (reverse buffer_destroyed_twice)) 2)
         ≡ true ∷ false ∷ false ∷ false ∷ false ∷ false ∷ [] }
-    ensures below { skips (seen (judged validation (reverse buffer_destroyed_twice)) 3)
+    ensures below { skips (seen_past (judged validation (reverse buffer_destroyed_twice)) 3)
         ≡ false ∷ false ∷ false ∷ false ∷ false ∷ [] }
 {}
 

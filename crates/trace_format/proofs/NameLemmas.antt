@@ -1,8 +1,7 @@
 -- Numbers.
-use Rattle.std.proofs.Common.{◌≡◌, ◌<◌, ◌≤◌, ◌+◌, ◌-◌, ◌*◌, ◌^◌, ◌==◌, ℕ, Bool, true, false, not, nat_le, ◌&&◌, None, List, [], ◌∷◌, length, drop, get_or, refl, arith}
+use Rattle.std.proofs.Common.{◌≡◌, ◌<◌, ◌≤◌, ◌+◌, ◌-◌, ◌*◌, ◌^◌, ◌==◌, ℕ, Bool, true, false, not, nat_le, ◌&&◌, None, List, [], ◌∷◌, length, refl, arith}
 use Rattle.std.proofs.lemmas.Bool.{leb-true}
 use Rattle.std.proofs.lemmas.Bool.Decides.{nat_tests}
-use Rattle.std.proofs.lemmas.List.{at_drop_more}
 use Rattle.std.proofs.Math.Nat.{pow-le-pow_right}
 use Rattle.std.specs.Char.{is_ascii_digit}
 use Rattle.std.specs.Str.{all_ascii_digits}
@@ -11,14 +10,6 @@ use Rattle.trace_format.specs.Words.{has_no_leading_zero, number_up_to, only_if,
 -- a number of at most seven digits
 pub digits_fit : (n i : ℕ) → n < 10 ^ i → i ≤ 7 → n < 10000000
 digits_fit n i h k = let e : 10 ^ i ≤ 10 ^ 7 = pow-le-pow_right {n = 10} (omega arith) k in omega arith
-
--- one digit more is read
-pub value_more : (n : ℕ) (word : List ℕ) (i : ℕ) → i < length word → value_after n (drop i word) ≡ value_after (10 * n + (get_or word i 0 - 48)) (drop (i + 1) word)
-value_more n word i h = at_drop_more (value_after n) word i 0 h
-
--- and is a digit or not
-pub digits_more : (word : List ℕ) (i : ℕ) → i < length word → all_ascii_digits (drop i word) ≡ (is_ascii_digit (get_or word i 0) && all_ascii_digits (drop (i + 1) word))
-digits_more word i h = at_drop_more all_ascii_digits word i 0 h
 
 -- further digits make no number smaller
 grows : (n : ℕ) (digits : List ℕ) → n ≤ value_after n digits

@@ -19,11 +19,11 @@ use Rattle.trace_format.specs.declared.fault.TraceFault.{TraceFault}
 use Rattle.trace_format.specs.declared.fault.TraceFault.TheVariants as fault
 use Rattle.trace_format.specs.declared.thread.ThreadState.{ThreadState}
 use Rattle.trace_format.specs.declared.state.AcceptError.{AcceptError}
-use Rattle.trace_format.specs.Accepting.{breaks_in, breaks_instance, calls_in, count_on, fault_after, fault_at_end, first_fault, is_known, is_no_return_of, exceeds_names, is_of_type, makes_instance, names_in, names_used, open_threads, same_name, type_given}
+use Rattle.trace_format.specs.Accepting.{breaks_in, breaks_instance, calls_begun, count_on, fault_after, fault_at_end, first_fault, is_known, is_no_return_of, exceeds_names, is_of_type, makes_instance, names_in, names_used, open_threads, same_name, type_given}
 use Rattle.trace_format.specs.Content.{Arg, BeginEvent, TraceEvent, Begin, Return}
 use Rattle.trace_format.specs.Gains.{gained}
 use Rattle.trace_format.specs.Grammar.{FitParams, HasForm, IsBegin, IsEvent, IsName, IsOne, takes}
-use Rattle.trace_format.specs.State.{Accepted, Began, Ended, StandsFor, Stays, argument_fault, args_found, is_found, is_found_or_null, TraceSeen, breaks, breaks_into, call_in, counted, creating_in, fault_by_parts, fault_in, knows, knows_as, open_in, type_in, types_in}
+use Rattle.trace_format.specs.State.{Accepted, AfterBegin, AfterReturn, SumsUp, Stays, argument_fault, args_found, is_found, is_found_or_null, TraceSeen, breaks, breaks_into, call_in, counted, creating_in, fault_by_parts, fault_in, knows, knows_as, open_in, type_in, types_in}
 
 -- two tests in a row
 both : (a b : Bool) → a && b ≡ true → (a ≡ true) × (b ≡ true)
@@ -37,7 +37,7 @@ from_one : (n : Name) → 1 ≤ n.number → record { thread = n.thread; number 
 from_one n some = let e : n.number - 1 + 1 ≡ n.number = omega arith in ap (λ k. record { thread = n.thread; number = k }) e
 
 -- the type of a name
-type_same : (s : TraceSeen) (before : List TraceEvent) → StandsFor s before → (n : Name) → IsName n → type_in s.threads n ≡ type_given n before
+type_same : (s : TraceSeen) (before : List TraceEvent) → SumsUp s before → (n : Name) → IsName n → type_in s.threads n ≡ type_given n before
 type_same s before stands n name = stands.types n.thread (n.number - 1) ∙ ap (λ m. type_given m before) (from_one n name.1.0)
 
 -- tests that agree on names agree on a place's names
@@ -76,7 +76,7 @@ breaks_same (Begin b ∷ before) e = breaks_by (same_command b.cmd cmd.CreateIns
 breaks_same (Return thread ∷ before) e = refl
 
 -- the event is a second creation that succeeds, or breaks into one
-instance_same : (s : TraceSeen) (before : List TraceEvent) → StandsFor s before → (e : TraceEvent) → breaks s e ≡ breaks_instance before e
+instance_same : (s : TraceSeen) (before : List TraceEvent) → SumsUp s before → (e : TraceEvent) → breaks s e ≡ breaks_instance before e
 instance_same s before stands e =
     ap (λ h. makes_instance e && h || breaks_into s.creating e) stands.instances
     ∙ ap (λ b. makes_instance e && list_any makes_instance before || b) (ap (λ c. breaks_into c e) stands.creating ∙ breaks_same before e)
@@ -92,7 +92,7 @@ two_alike : (o p i j : Bool) → o ≡ p → i ≡ j → first_fault ((not o, fa
 two_alike o p i j e1 e2 = rw (e1, e2) refl
 
 -- the first fault by what is kept is that of the events
-pub fault_same : (s : TraceSeen) (before : List TraceEvent) → StandsFor s before → (e : TraceEvent) → IsEvent e → fault_in s e ≡ fault_after before e
+pub fault_same : (s : TraceSeen) (before : List TraceEvent) → SumsUp s before → (e : TraceEvent) → IsEvent e → fault_in s e ≡ fault_after before e
 fault_same s before stands (Begin b) event =
     let ps = (row_of b.cmd).params in
     five_alike _ _ _ _ _ _ _ _ _ _ (stands.opened b.thread)
@@ -219,7 +219,7 @@ counts false true true true i e = refl
 counts false true true false i e = cc
 
 -- the types of one thread after a begin
-types_more : (s t : TraceSeen) (before : List TraceEvent) (b : BeginEvent) → StandsFor s before → IsBegin b → fault_in s (Begin b) ≡ None → Began s t b → (u n : ℕ)
+types_more : (s t : TraceSeen) (before : List TraceEvent) (b : BeginEvent) → SumsUp s before → IsBegin b → fault_in s (Begin b) ≡ None → AfterBegin s t b → (u n : ℕ)
     → slice_get (types_in t.threads u) n ≡ type_given (record { thread = u; number = n + 1 }) (Begin b ∷ before)
 types_more s t before b stands event none began u n = ap (λ ys. slice_get ys n) (began.types u) ∙ go (b.thread == u) refl
   where
@@ -236,9 +236,9 @@ types_more s t before b stands event none began u n = ap (λ ys. slice_get ys n)
     go false is = rw (other_thread b.thread u _ (n + 1) b.results is next) (stands.types u n)
 
 -- after a begin
-stands_begun : (s t : TraceSeen) (before : List TraceEvent) (b : BeginEvent) → StandsFor s before → IsBegin b → fault_in s (Begin b) ≡ None → Began s t b → StandsFor t (Begin b ∷ before)
+stands_begun : (s t : TraceSeen) (before : List TraceEvent) (b : BeginEvent) → SumsUp s before → IsBegin b → fault_in s (Begin b) ≡ None → AfterBegin s t b → SumsUp t (Begin b ∷ before)
 stands_begun s t before b stands event none began =
-    let more : t.calls ≡ counted (calls_in before + 1) = began.calls ∙ (ap (λ n. counted (n + 1)) stands.calls ∙ counted_more (calls_in before)) in
+    let more : t.calls ≡ counted (calls_begun before + 1) = began.calls ∙ (ap (λ n. counted (n + 1)) stands.calls ∙ counted_more (calls_begun before)) in
     record {
       calls = more;
       names = began.names ∙ ap (λ n. n + length b.results) stands.names;
@@ -279,7 +279,7 @@ left_open u thread (t ∷ xs) = go (left_open u thread xs) (t == thread) refl (t
     go rest false is false to = ap (λ o. (t == u) || o) (rest ∙ rw to refl)
 
 -- after a return
-stands_ended : (s t : TraceSeen) (before : List TraceEvent) (thread : ℕ) → StandsFor s before → Ended s t thread → StandsFor t (Return thread ∷ before)
+stands_ended : (s t : TraceSeen) (before : List TraceEvent) (thread : ℕ) → SumsUp s before → AfterReturn s t thread → SumsUp t (Return thread ∷ before)
 stands_ended s t before thread stands ended =
     record {
       calls = ended.calls ∙ stands.calls;
@@ -329,13 +329,13 @@ end_same (t ∷ running) threads same =
     rw some (sym (open_some threads t here))
 
 -- the fault at the end, by whether a thread has an open call
-pub end_fault : (s : TraceSeen) (before : List TraceEvent) → StandsFor s before → fault_at_end before ≡ first_fault ((list_any (λ t. t.is_open) s.threads, fault.OpenAtEnd) ∷ [])
+pub end_fault : (s : TraceSeen) (before : List TraceEvent) → SumsUp s before → fault_at_end before ≡ first_fault ((list_any (λ t. t.is_open) s.threads, fault.OpenAtEnd) ∷ [])
 end_fault s before stands = ap (λ x. first_fault ((x, fault.OpenAtEnd) ∷ [])) (end_same (open_threads before) s.threads stands.opened)
 
 -- ---- events that are accepted or refused
 
 -- a begin is kept by its parts
-begun_whole : (s t : TraceSeen) (b : BeginEvent) → Began s t (record { thread = b.thread; cmd = b.cmd; args = []; results = b.results; code = b.code; payload = [] }) → Began s t b
+begun_whole : (s t : TraceSeen) (b : BeginEvent) → AfterBegin s t (record { thread = b.thread; cmd = b.cmd; args = []; results = b.results; code = b.code; payload = [] }) → AfterBegin s t b
 begun_whole s t b r = record { calls = r.calls; names = r.names; most = r.most; instances = r.instances; creating = r.creating; opened = r.opened; called = r.called; types = r.types }
 
 -- a number of names within the limit
@@ -343,31 +343,31 @@ within : (n : ℕ) → n ≤ 4194304 → nat_lt 4194304 n ≡ false
 within n le = grind arith
 
 -- a begin that is accepted
-begin_accepted : (s t : TraceSeen) (b : BeginEvent) (n : ℕ) → IsBegin b → fault_in s (Begin b) ≡ None → Began s t (record { thread = b.thread; cmd = b.cmd; args = []; results = b.results; code = b.code; payload = [] }) → n ≡ t.calls
-    → (before : List TraceEvent) → StandsFor s before → Accepted t before (Begin b) n
+begin_accepted : (s t : TraceSeen) (b : BeginEvent) (n : ℕ) → IsBegin b → fault_in s (Begin b) ≡ None → AfterBegin s t (record { thread = b.thread; cmd = b.cmd; args = []; results = b.results; code = b.code; payload = [] }) → n ≡ t.calls
+    → (before : List TraceEvent) → SumsUp s before → Accepted t before (Begin b) n
 begin_accepted s t b n event none began number before stands =
     let after = stands_begun s t before b stands event none (begun_whole s t b began) in
     record { fault = sym (fault_same s before stands (Begin b) event) ∙ none; names = within _ after.most; number = number ∙ after.calls; stands = after }
 
 -- a return that is accepted
-pub return_accepted : (s t : TraceSeen) (thread n : ℕ) → IsEvent (Return thread) → fault_in s (Return thread) ≡ None → Ended s t thread → n ≡ call_in s.threads thread
-    → (before : List TraceEvent) → StandsFor s before → Accepted t before (Return thread) n
+pub return_accepted : (s t : TraceSeen) (thread n : ℕ) → IsEvent (Return thread) → fault_in s (Return thread) ≡ None → AfterReturn s t thread → n ≡ call_in s.threads thread
+    → (before : List TraceEvent) → SumsUp s before → Accepted t before (Return thread) n
 return_accepted s t thread n event none ended number before stands =
     record { fault = sym (fault_same s before stands (Return thread) event) ∙ none; names = within _ stands.most; number = number ∙ stands.called thread; stands = stands_ended s t before thread stands ended }
 
 -- an event that is refused for its fault
-pub refused : (s : TraceSeen) (e : TraceEvent) (f : TraceFault) → IsEvent e → fault_in s e ≡ Some f → (before : List TraceEvent) → StandsFor s before → fault_after before e ≡ Some f
+pub refused : (s : TraceSeen) (e : TraceEvent) (f : TraceFault) → IsEvent e → fault_in s e ≡ Some f → (before : List TraceEvent) → SumsUp s before → fault_after before e ≡ Some f
 refused s e f event is before stands = sym (fault_same s before stands e event) ∙ is
 
 -- a begin that is refused for its names
-pub too_many : (s : TraceSeen) (b : BeginEvent) → IsBegin b → fault_in s (Begin b) ≡ None → 4194304 < s.names + length b.results → (before : List TraceEvent) → StandsFor s before
+pub too_many : (s : TraceSeen) (b : BeginEvent) → IsBegin b → fault_in s (Begin b) ≡ None → 4194304 < s.names + length b.results → (before : List TraceEvent) → SumsUp s before
     → (fault_after before (Begin b) ≡ None) × (exceeds_names before (Begin b) ≡ true)
 too_many s b event none more before stands =
     let above : 4194304 < names_in before + length b.results = omega (arith, stands.names) in
     (sym (fault_same s before stands (Begin b) event) ∙ none, grind arith)
 
 -- what is kept alike stands for the same events
-pub still_stands : (s t : TraceSeen) → Stays s t → (before : List TraceEvent) → StandsFor s before → StandsFor t before
+pub still_stands : (s t : TraceSeen) → Stays s t → (before : List TraceEvent) → SumsUp s before → SumsUp t before
 still_stands s t stays before stands =
     record {
       calls = stays.calls ∙ stands.calls;
@@ -462,7 +462,7 @@ bare_fault s b =
     ∙ sym (begin_fault s b)
 
 -- a begin that is kept is accepted
-pub begin_kept : (r : Result ℕ AcceptError) (s t : TraceSeen) (b : BeginEvent) → IsBegin b → fault_in s (Begin b) ≡ None → OnOk r (Began s t (record { thread = b.thread; cmd = b.cmd; args = []; results = b.results; code = b.code; payload = [] }))
-    → IfOk r (λ n. n ≡ t.calls) → IfOk r (λ n. (before : List TraceEvent) → StandsFor s before → Accepted t before (Begin b) n)
+pub begin_kept : (r : Result ℕ AcceptError) (s t : TraceSeen) (b : BeginEvent) → IsBegin b → fault_in s (Begin b) ≡ None → OnOk r (AfterBegin s t (record { thread = b.thread; cmd = b.cmd; args = []; results = b.results; code = b.code; payload = [] }))
+    → IfOk r (λ n. n ≡ t.calls) → IfOk r (λ n. (before : List TraceEvent) → SumsUp s before → Accepted t before (Begin b) n)
 begin_kept (Ok n) s t b event none began number = λ before stands. begin_accepted s t b n event none began number before stands
 begin_kept (Err e) s t b event none began number = tt

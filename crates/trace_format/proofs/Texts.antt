@@ -5,7 +5,7 @@ use Rattle.std.specs.Option.{option_map}
 use Rattle.std.specs.Str.{bytes_eq}
 use Rattle.std.specs.List.{AllByRecursion, list_all}
 use Rattle.std.proofs.lemmas.Bool.{and_parts, and_from}
-use Rattle.std.proofs.lemmas.List.{take_at, drop_at, take-append-drop}
+use Rattle.std.proofs.lemmas.List.{take-append-drop}
 use Rattle.std.proofs.lemmas.Slice.Eq.{bytes_eq-Decides}
 use Rattle.trace_format.specs.Words.{after, all_of, and_then, both, from, only_if, until}
 
@@ -98,11 +98,6 @@ went (Some x) f y h = record { value = x; read = refl; gave = h }
 pub passed : {A : Type 0} (t : Bool) (x y : A) → only_if t x ≡ Some y → (t ≡ true) × (x ≡ y)
 passed true x y h = (refl, cc)
 passed false x y h = cc
-
--- a text is found at the front of itself
-pub after_append : (text rest : List ℕ) → after text (text ++ rest) ≡ Some rest
-after_append text rest =
-    rw (take_at text rest (length text) refl, drop_at text rest (length text) refl, (bytes_eq-Decides text text).1 refl) refl
 
 -- a text that is found at the front stands there
 pub after_is : (text bytes rest : List ℕ) → after text bytes ≡ Some rest → bytes ≡ text ++ rest

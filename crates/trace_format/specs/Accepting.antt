@@ -1,5 +1,5 @@
 -- Which events may follow others, and the call that an event belongs to. The events before stand newest first. Source: this project.
-use Rattle.std.specs.Prelude.{ℕ, ◌+◌, ◌==◌, nat_lt, Bool, true, false, not, ◌&&◌, ◌||◌, if◌then◌else◌, Option, Some, None, is_some, List, [], ◌∷◌, ◌++◌, map, filter, length, codes}
+use Rattle.std.specs.Prelude.{ℕ, ◌+◌, ◌==◌, nat_lt, Bool, true, false, not, ◌&&◌, ◌||◌, if◌then◌else◌, Option, Some, None, is_some, List, [], ◌∷◌, ◌++◌, map, filter, length}
 use Rattle.std.specs.List.{filter_map, list_all, list_any}
 use Rattle.std.specs.Option.{is_none, option_map_or}
 use Rattle.std.specs.Str.{bytes_eq}
@@ -10,7 +10,7 @@ use Rattle.command_tables.specs.Effects.{type_made}
 use Rattle.command_tables.specs.Table.{ParamSpec, row_of}
 use Rattle.command_tables.specs.Tests.{same_code, same_command, same_type}
 use Rattle.trace_format.specs.declared.event.Name.{Name}
-use Rattle.trace_format.specs.declared.limits.TheConstants.{MAX_NAMES}
+use Rattle.trace_format.specs.declared.limits.TheConstants.{HEADER, MAX_NAMES}
 use Rattle.trace_format.specs.declared.fault.TraceFault.{TraceFault}
 use Rattle.trace_format.specs.declared.fault.TraceFault.TheVariants as fault
 use Rattle.trace_format.specs.Content.{Arg, TraceEvent, Begin, Return}
@@ -24,7 +24,7 @@ first_fault (x ∷ rest) = if x.0 then Some x.1 else first_fault rest
 
 -- the header of a trace
 abbrev pub header : List ℕ
-header = codes "vktrace 1"
+header = HEADER
 
 -- the first line is missing, or is not the header
 abbrev pub header_fault : List (List ℕ) → Option TraceFault
@@ -44,20 +44,20 @@ abbrev pub is_open : ℕ → List TraceEvent → Bool
 is_open thread before = list_any (λ t. t == thread) (open_threads before)
 
 -- how many calls have begun
-abbrev pub calls_in : List TraceEvent → ℕ
-calls_in [] = 0
-calls_in (Begin b ∷ before) = calls_in before + 1
-calls_in (Return thread ∷ before) = calls_in before
+abbrev pub calls_begun : List TraceEvent → ℕ
+calls_begun [] = 0
+calls_begun (Begin b ∷ before) = calls_begun before + 1
+calls_begun (Return thread ∷ before) = calls_begun before
 
 -- the number of a thread's last call; calls are numbered from 1 by their begins
 abbrev pub last_call : ℕ → List TraceEvent → ℕ
 last_call thread [] = 0
-last_call thread (Begin b ∷ before) = if b.thread == thread then calls_in before + 1 else last_call thread before
+last_call thread (Begin b ∷ before) = if b.thread == thread then calls_begun before + 1 else last_call thread before
 last_call thread (Return t ∷ before) = last_call thread before
 
 -- the number of the call that an event belongs to
 abbrev pub call_number : List TraceEvent → TraceEvent → ℕ
-call_number before (Begin b) = calls_in before + 1
+call_number before (Begin b) = calls_begun before + 1
 call_number before (Return thread) = last_call thread before
 
 -- ---- names

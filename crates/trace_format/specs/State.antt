@@ -14,7 +14,7 @@ use Rattle.trace_format.specs.declared.fault.TraceFault.{TraceFault}
 use Rattle.trace_format.specs.declared.fault.TraceFault.TheVariants as fault
 use Rattle.trace_format.specs.Content.{Arg, TraceEvent, BeginEvent, Begin, Return}
 use Rattle.trace_format.specs.Gains.{gained}
-use Rattle.trace_format.specs.Accepting.{call_number, calls_in, count_on, exceeds_names, fault_after, first_fault, is_open, last_call, makes_instance, names_given, names_in, names_used, type_given}
+use Rattle.trace_format.specs.Accepting.{call_number, calls_begun, count_on, exceeds_names, fault_after, first_fault, is_open, last_call, makes_instance, names_given, names_in, names_used, type_given}
 
 -- what is kept: how many calls have begun (a 64-bit count, which stays at its end), how many names were given, whether an
 -- instance was made, the thread whose creation of an instance was the last event, and what is kept of each thread
@@ -52,8 +52,8 @@ abbrev pub counted : ℕ → ℕ
 counted n = min n (2 ^ 64 - 1)
 
 -- what is kept is what these events, newest first, come to: the n-th name of a thread has the n-th of its types
-pub record StandsFor (s : TraceSeen) (before : List TraceEvent) : Type 0 where
-  pub calls : s.calls ≡ counted (calls_in before)
+pub record SumsUp (s : TraceSeen) (before : List TraceEvent) : Type 0 where
+  pub calls : s.calls ≡ counted (calls_begun before)
   pub names : s.names ≡ names_in before
   pub most : names_in before ≤ MAX_NAMES
   pub instances : s.has_instance ≡ list_any makes_instance before
@@ -100,7 +100,7 @@ fault_in s (Return thread) = first_fault ((not (open_in s.threads thread), fault
 -- ---- one event more
 
 -- what is kept after a begin
-pub record Began (s t : TraceSeen) (b : BeginEvent) : Type 0 where
+pub record AfterBegin (s t : TraceSeen) (b : BeginEvent) : Type 0 where
   pub calls : t.calls ≡ counted (s.calls + 1)
   pub names : t.names ≡ s.names + length b.results
   pub most : t.names ≤ MAX_NAMES
@@ -111,7 +111,7 @@ pub record Began (s t : TraceSeen) (b : BeginEvent) : Type 0 where
   pub types : (u : ℕ) → types_in t.threads u ≡ (if b.thread == u then types_in s.threads u ++ gained (type_made (row_of b.cmd).effect) (length b.results) else types_in s.threads u)
 
 -- what is kept after a return
-pub record Ended (s t : TraceSeen) (thread : ℕ) : Type 0 where
+pub record AfterReturn (s t : TraceSeen) (thread : ℕ) : Type 0 where
   pub calls : t.calls ≡ s.calls
   pub names : t.names ≡ s.names
   pub instances : t.has_instance ≡ s.has_instance
@@ -131,7 +131,7 @@ pub record Accepted (t : TraceSeen) (before : List TraceEvent) (e : TraceEvent) 
   pub fault : fault_after before e ≡ None
   pub names : exceeds_names before e ≡ false
   pub number : n ≡ counted (call_number before e)
-  pub stands : StandsFor t (e ∷ before)
+  pub stands : SumsUp t (e ∷ before)
 
 -- ---- parts of the first fault
 

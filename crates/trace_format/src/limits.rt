@@ -8,3 +8,6 @@ pub const MAX_NAMES: u32 = 4_194_304;
 
 /// The most places of a list, and the most results of a call.
 pub const MAX_PLACES: u32 = 1024;
+
+/// The first line of a trace, `vktrace 1`.
+pub const HEADER: [u8; 9] = *b"vktrace 1";

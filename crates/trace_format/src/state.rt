@@ -11,7 +11,7 @@ ghost use Rattle.trace_format.specs.Accepting.{count_on, exceeds_names, fault_af
 ghost use Rattle.trace_format.specs.Content.{Begin, Return, TraceEvent, arg_content, content};
 ghost use Rattle.trace_format.specs.Gains.{gained};
 ghost use Rattle.trace_format.specs.Grammar.{IsEvent};
-ghost use Rattle.trace_format.specs.State.{Accepted, Began, Ended, SameThreads, StandsFor, Stays, argument_fault, args_found, breaks_into, call_in, fault_by_parts, fault_in, is_found, is_found_or_null, open_in, type_in, types_in};
+ghost use Rattle.trace_format.specs.State.{Accepted, AfterBegin, AfterReturn, SameThreads, SumsUp, Stays, argument_fault, args_found, breaks_into, call_in, fault_by_parts, fault_in, is_found, is_found_or_null, open_in, type_in, types_in};
 
 use crate::event::{Event, Name, TraceArg};
 use crate::fault::TraceFault;
@@ -220,7 +220,7 @@ fn open_call(
 
 impl TraceState {
     pub fn new(alloc: Global) -> TraceState
-        ensures { StandsFor result [] }
+        ensures { SumsUp result [] }
     {
         TraceState {
             alloc,
@@ -319,7 +319,7 @@ impl TraceState {
         code: Option<Code>,
     ) -> Result<u64, AcceptError>
         requires { length results.now ≤ 1024 }
-        ensures ok { OnOk result (Began self.old self.new (record { thread = thread; cmd = cmd; args = []; results = results.now; code = code; payload = [] })) }
+        ensures ok { OnOk result (AfterBegin self.old self.new (record { thread = thread; cmd = cmd; args = []; results = results.now; code = code; payload = [] })) }
         ensures number { IfOk result (λ n. n ≡ self.new.calls) }
         ensures names { result ≡ Err AcceptError.Names → MAX_NAMES < self.old.names + length results.now }
         ensures fault { (f : TraceFault) → result ≢ Err (AcceptError.Fault f) }
@@ -348,7 +348,7 @@ impl TraceState {
 
     // Keeps a return that has no fault.
     fn end(&mut self, thread: u32) -> u64
-        ensures ended { Ended self.old self.new thread }
+        ensures ended { AfterReturn self.old self.new thread }
         ensures number { result ≡ call_in self.old.threads thread }
     {
         self.creating = None;
@@ -366,11 +366,11 @@ impl TraceState {
     /// without fault would bring the names above 4,194,304. A refused event changes nothing. For a return it takes no memory.
     pub fn accept(&mut self, event: &Event) -> Result<u64, AcceptError>
         requires { IsEvent (content event.now) }
-        ensures ok { IfOk result (λ n. (before : List TraceEvent) → StandsFor self.old before → Accepted self.new before (content event.now) n) }
-        ensures fault { (f : TraceFault) → result ≡ Err (AcceptError.Fault f) → (before : List TraceEvent) → StandsFor self.old before → fault_after before (content event.now) ≡ Some f }
-        ensures names { result ≡ Err AcceptError.Names → (before : List TraceEvent) → StandsFor self.old before → (fault_after before (content event.now) ≡ None) × (exceeds_names before (content event.now) ≡ true) }
+        ensures ok { IfOk result (λ n. (before : List TraceEvent) → SumsUp self.old before → Accepted self.new before (content event.now) n) }
+        ensures fault { (f : TraceFault) → result ≡ Err (AcceptError.Fault f) → (before : List TraceEvent) → SumsUp self.old before → fault_after before (content event.now) ≡ Some f }
+        ensures names { result ≡ Err AcceptError.Names → (before : List TraceEvent) → SumsUp self.old before → (fault_after before (content event.now) ≡ None) × (exceeds_names before (content event.now) ≡ true) }
         ensures returns { (thread : ℕ) → content event.now ≡ Return thread → result ≢ Err AcceptError.NoMemory }
-        ensures err { OnErr result ((before : List TraceEvent) → StandsFor self.old before → StandsFor self.new before) }
+        ensures err { OnErr result ((before : List TraceEvent) → SumsUp self.old before → SumsUp self.new before) }
     {
         if let Some(fault) = self.fault(event) {
             return Err(AcceptError::Fault(fault));
@@ -395,7 +395,7 @@ impl TraceState {
 
     /// The fault of a trace that ends here: `OpenAtEnd` where a call is open.
     pub fn finish(&self) -> Result<(), TraceFault>
-        ensures { (before : List TraceEvent) → StandsFor self.now before → fault_at_end before ≡ result_err result }
+        ensures { (before : List TraceEvent) → SumsUp self.now before → fault_at_end before ≡ result_err result }
     {
         if self.has_open() {
             Err(TraceFault::OpenAtEnd)
