@@ -26,3 +26,10 @@ pub fn traces_that_are_cut()
     ensures in_a_line { stop (headed (started_lines ++ codes "r 1" ∷ []) ++ codes "b 1 vkDestroyDe") ≡ Some (at_fault 8 fault.Command) }
     ensures in_a_call { stop (headed started_lines) ≡ Some (at_fault 7 fault.OpenAtEnd) }
 {}
+
+/// A line's own fault comes before those of its place, and those of an earlier line before any of a later one.
+pub fn the_first_fault_stops()
+    ensures own_before_place { stop (headed (codes "b 1 vkCreateInstance = %1.1 VK_SUCCESS" ∷ codes "b 1 vkDestroyInstance %1.1 VK_SUCCESS" ∷ [])) ≡ stop_at 3 fault.Code }
+    ensures place { stop (headed (codes "b 1 vkCreateInstance = %1.1 VK_SUCCESS" ∷ codes "b 1 vkDestroyInstance %1.1 void" ∷ codes "x" ∷ [])) ≡ stop_at 3 fault.Busy }
+    ensures line_before_end { stop (headed (codes "b 1 vkCreateInstance = %1.1 VK_SUCCESS" ∷ [] ∷ [])) ≡ stop_at 3 fault.Letter }
+{}

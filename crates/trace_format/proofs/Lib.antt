@@ -13,3 +13,5 @@ pub mod CommandLemmas
 pub mod CodeLemmas
 pub mod StateLemmas
 pub mod PrintLemmas
+pub mod Between
+pub mod Lanes

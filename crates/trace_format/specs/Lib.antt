@@ -9,3 +9,4 @@ pub mod Steps
 pub mod Gains
 pub mod Printing
 pub mod State
+pub mod Between

@@ -39,7 +39,7 @@ pub enum TraceFault {
     Instance,
     /// A call is open at the end.
     OpenAtEnd,
-    /// The line is of a form that is not replayed yet.
+    /// The trace is larger than those that are replayed yet.
     NotBuilt,
 }
 

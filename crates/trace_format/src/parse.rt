@@ -4,6 +4,7 @@ mod endings;
 mod error;
 mod line;
 mod names;
+mod printable;
 mod results;
 #[cfg(test)]
 mod tests;

@@ -14,17 +14,11 @@ use crate::parse::arguments::{after_words, arguments};
 use crate::parse::endings::{code, payload};
 use crate::parse::error::ParseError;
 use crate::parse::names::thread;
+use crate::parse::printable::is_ascii;
 use crate::parse::results::{results, split_results};
 use crate::parse::words::split_before;
 use command_tables::{CommandId, Row, find, row};
 use std::alloc::Global;
-
-/// Whether each byte is a printable one, from 0x20 to 0x7E.
-fn is_ascii(line: &[u8]) -> bool
-    ensures { result ≡ list_all is_printable line.now }
-{
-    line.iter().all(|byte| 0x20 <= *byte && *byte <= 0x7E)
-}
 
 /// The command with a name.
 fn command(word: &[u8]) -> Option<CommandId>
