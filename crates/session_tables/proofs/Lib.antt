@@ -4,3 +4,6 @@ pub mod Found
 pub mod Shown
 pub mod Same
 pub mod Living
+pub mod FilingLemmas
+pub mod Names
+pub mod BirthLemmas

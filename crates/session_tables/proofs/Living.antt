@@ -1,13 +1,17 @@
--- Sets of objects.
-use Rattle.std.proofs.Common.{◌≡◌, ◌<◌, ℕ, zero, suc, Bool, true, false, not, cond, ◌&&◌, ◌||◌, List, [], ◌∷◌, ◌++◌, map, filter, length, take, get_or, append_assoc, ◌+◌, refl, sym, ◌∙◌, ap, arith}
-use Rattle.std.specs.List.{list_any, filter_map, cons_option}
+-- What lives of the objects that were born.
+use Rattle.std.proofs.Common.{◌≡◌, ◌<◌, ◌≤◌, ℕ, zero, suc, Bool, true, false, not, cond, ◌&&◌, ◌||◌, Option, Some, None, List, [], ◌∷◌, ◌++◌, map, filter, length, take, get_or, append_assoc, slice_get, ◌+◌, ◌⊎◌, inl, inr, refl, sym, ◌∙◌, ap, arith}
+use Rattle.std.specs.Prelude.{Vec}
+use Rattle.std.proofs.Math.ListN.{set}
+use Rattle.std.specs.List.{list_all, list_any, filter_map, cons_option}
+use Rattle.std.specs.Option.{option_map_or}
 use Rattle.std.proofs.lemmas.List.{map-append, take_more}
 use Rattle.object_model.specs.declared.Object.{Object}
 use Rattle.object_model.specs.Objects.{same, is_in}
 use Rattle.object_model.specs.History.{Birth, born_in, owners_in}
-use Rattle.std.specs.Option.{option_map_or}
-use Rattle.session_tables.specs.Population.{listed_in, AreBorn, AreListed}
-use Rattle.std.specs.Prelude.{Option, Some, None, Vec, is_some}
+use Rattle.session_tables.specs.declared.object_table.ObjectState.{ObjectState}
+use Rattle.session_tables.specs.declared.object_map.ObjectMap.{ObjectMap}
+use Rattle.session_tables.specs.Filing.{kept}
+use Rattle.session_tables.specs.Population.{AreBorn, AreListed, lives_by, lives_in, list_by, listed_in, living_in, objects_at}
 use Rattle.session_tables.proofs.Objects.{same-true, same_self, owners_joined, list_any-append}
 
 -- the test looks both ways alike
@@ -19,43 +23,94 @@ same_swapped a b = go (same a b) refl (same b a) refl
     go false e true f = let k : b ≡ a = same-true b a f in let l : same a b ≡ true = ap (λ x. same x b) (sym k) ∙ same_self b in cc
     go false e false f = e ∙ sym f
 
--- as a set tells it
-pub among : (xs : List Object) (o : Object) → list_any (same o) xs ≡ is_in xs o
-among [] o = refl
-among (x ∷ xs) o = ap (λ t. t || list_any (same o) xs) (same_swapped o x) ∙ ap (λ t. same x o || t) (among xs o)
+both_true : (a b : Bool) → (a && b) ≡ true → (a ≡ true) × (b ≡ true)
+both_true true b e = (refl, e)
+both_true false b e = cc e
 
--- one more in a set
-pub put : (xs ys : List Object) (x o : Object) → list_any (same o) ys ≡ cond (same x o) true (list_any (same o) xs) → is_in ys o ≡ (is_in xs o || same x o)
-put xs ys x o is = sym (among ys o) ∙ (is ∙ (ap (cond (same x o) true) (among xs o) ∙ go (same x o) (is_in xs o)))
-  where
-    go : (t u : Bool) → cond t true u ≡ (u || t)
-    go true true = refl
-    go true false = refl
-    go false true = refl
-    go false false = refl
+-- ---- the list of what lives
 
--- one less in a set
-pub taken : (xs ys : List Object) (x o : Object) → list_any (same o) ys ≡ cond (same x o) false (list_any (same o) xs) → is_in ys o ≡ (is_in xs o && not (same x o))
-taken xs ys x o is = sym (among ys o) ∙ (is ∙ (ap (cond (same x o) false) (among xs o) ∙ go (same x o) (is_in xs o)))
+-- an object is in the list where it was born and lives
+among_born : (bs : List Birth) (lives : Object → Bool) (o : Object) → is_in (living_in bs lives) o ≡ (born_in bs o && lives o)
+among_born [] lives o = refl
+among_born (b ∷ bs) lives o = go (among_born bs lives o) (same b.object o) refl (lives b.object) refl
   where
-    go : (t u : Bool) → cond t false u ≡ (u && not t)
-    go true true = refl
-    go true false = refl
-    go false true = refl
-    go false false = refl
+    go : is_in (living_in bs lives) o ≡ (born_in bs o && lives o) → (t : Bool) → same b.object o ≡ t → (l : Bool) → lives b.object ≡ l → is_in (cond l (b.object ∷ living_in bs lives) (living_in bs lives)) o ≡ ((t || born_in bs o) && lives o)
+    go ih true e true f = ap (λ t. t || is_in (living_in bs lives) o) e ∙ sym (ap lives (sym (same-true b.object o e)) ∙ f)
+    go ih true e false f = let no : lives o ≡ false = ap lives (sym (same-true b.object o e)) ∙ f in ih ∙ (ap (λ l. born_in bs o && l) no ∙ (and_none (born_in bs o) ∙ sym no))
+      where
+        and_none : (x : Bool) → (x && false) ≡ false
+        and_none true = refl
+        and_none false = refl
+    go ih false e true f = ap (λ t. t || is_in (living_in bs lives) o) e ∙ ih
+    go ih false e false f = ih
+
+-- what lives was born, so the list says what lives
+pub living_is : (bs : List Birth) (lives : Object → Bool) (o : Object) → AreBorn bs lives → is_in (living_in bs lives) o ≡ lives o
+living_is bs lives o born = among_born bs lives o ∙ go (lives o) refl (born_in bs o) refl
+  where
+    go : (l : Bool) → lives o ≡ l → (b : Bool) → born_in bs o ≡ b → (b && l) ≡ l
+    go true e b f = ap (λ t. t && true) (sym f ∙ born o e)
+    go false e true f = refl
+    go false e false f = refl
+
+-- ---- one object's state
+
+-- what is written for one object changes its life alone
+pub began : (f g : Object → Option ObjectState) (x o : Object) (s : ObjectState) → s.lives ≡ true → g o ≡ cond (same x o) (Some s) (f o) → lives_by (g o) ≡ (lives_by (f o) || same x o)
+began f g x o s is at = ap lives_by at ∙ go (same x o) (lives_by (f o)) refl
+  where
+    go : (t l : Bool) → lives_by (f o) ≡ l → lives_by (cond t (Some s) (f o)) ≡ (l || t)
+    go true true e = is
+    go true false e = is
+    go false true e = e
+    go false false e = e
+
+pub ended : (f g : Object → Option ObjectState) (x o : Object) (s : ObjectState) → s.lives ≡ false → g o ≡ cond (same x o) (Some s) (f o) → lives_by (g o) ≡ (lives_by (f o) && not (same x o))
+ended f g x o s is at = ap lives_by at ∙ go (same x o) (lives_by (f o)) refl
+  where
+    go : (t l : Bool) → lives_by (f o) ≡ l → lives_by (cond t (Some s) (f o)) ≡ (l && not t)
+    go true true e = is
+    go true false e = is
+    go false true e = e
+    go false false e = e
+
+-- an object without a state doesn't live
+pub ended_unknown : (f : Object → Option ObjectState) (x o : Object) → f x ≡ None → lives_by (f o) ≡ (lives_by (f o) && not (same x o))
+ended_unknown f x o none = go (same x o) refl (lives_by (f o)) refl
+  where
+    go : (t : Bool) → same x o ≡ t → (l : Bool) → lives_by (f o) ≡ l → l ≡ (l && not t)
+    go true e true k = let no : lives_by (f o) ≡ false = ap (λ y. lives_by (f y)) (sym (same-true x o e)) ∙ ap lives_by none in cc
+    go true e false k = refl
+    go false e true k = refl
+    go false e false k = refl
+
+-- its list and the others' stay
+pub lists_stay : (f g : Object → Option ObjectState) (x o : Object) (s : ObjectState) → s.list ≡ list_by (f x) → g o ≡ cond (same x o) (Some s) (f o) → list_by (g o) ≡ list_by (f o)
+lists_stay f g x o s is at = ap list_by at ∙ go (same x o) refl
+  where
+    go : (t : Bool) → same x o ≡ t → list_by (cond t (Some s) (f o)) ≡ list_by (f o)
+    go true e = is ∙ ap (λ y. list_by (f y)) (same-true x o e)
+    go false e = refl
+
+-- its life and the others' stay
+pub lives_stay : (f g : Object → Option ObjectState) (x o : Object) (s : ObjectState) → s.lives ≡ lives_by (f x) → g o ≡ cond (same x o) (Some s) (f o) → lives_by (g o) ≡ lives_by (f o)
+lives_stay f g x o s is at = ap lives_by at ∙ go (same x o) refl
+  where
+    go : (t : Bool) → same x o ≡ t → lives_by (cond t (Some s) (f o)) ≡ lives_by (f o)
+    go true e = is ∙ ap (λ y. lives_by (f y)) (same-true x o e)
+    go false e = refl
 
 -- what is owned by the named object ends
-pub ended_owned : (bs : List Birth) (xs ys : List Object) (x named o : Object) → is_in ys o ≡ (is_in xs o && not (same x o)) → is_in (owners_in bs x) named ≡ true
-    → is_in ys o ≡ (is_in xs o && not (same x o && is_in (owners_in bs o) named))
-ended_owned bs xs ys x named o is owned = is ∙ ap (λ t. is_in xs o && not t) (go (same x o) refl)
+pub ended_owned : (bs : List Birth) (a b : Bool) (x named o : Object) → b ≡ (a && not (same x o)) → is_in (owners_in bs x) named ≡ true → b ≡ (a && not (same x o && is_in (owners_in bs o) named))
+ended_owned bs a b x named o is owned = is ∙ ap (λ t. a && not t) (go (same x o) refl)
   where
     go : (t : Bool) → same x o ≡ t → t ≡ (t && is_in (owners_in bs o) named)
     go true e = sym (ap (λ y. is_in (owners_in bs y) named) (sym (same-true x o e)) ∙ owned)
     go false e = refl
 
 -- what isn't stays
-pub ended_none : (bs : List Birth) (xs : List Object) (x named o : Object) → is_in (owners_in bs x) named ≡ false → is_in xs o ≡ (is_in xs o && not (same x o && is_in (owners_in bs o) named))
-ended_none bs xs x named o not_owned = keep (is_in xs o) ∙ ap (λ t. is_in xs o && not t) (go (same x o) refl)
+pub ended_none : (bs : List Birth) (a : Bool) (x named o : Object) → is_in (owners_in bs x) named ≡ false → a ≡ (a && not (same x o && is_in (owners_in bs o) named))
+ended_none bs a x named o not_owned = keep a ∙ ap (λ t. a && not t) (go (same x o) refl)
   where
     keep : (b : Bool) → b ≡ (b && not false)
     keep true = refl
@@ -74,76 +129,114 @@ ended_more true true false false = refl
 ended_more true false q s = refl
 ended_more false p q s = refl
 
--- ---- what is owned
+-- ---- what is listed
 
--- an empty list where there was none changes nothing
-pub list_opened : {A : Type 0} (f : Object → Option (Vec Object A)) (owner w : Object) (v : Vec Object A) (g : Option (Vec Object A)) → v.items ≡ [] → false ≡ is_some (f owner) → g ≡ cond (same owner w) (Some v) (f w)
-    → listed_in g ≡ listed_in (f w)
-list_opened {A = A} f owner w v g empty none is = ap listed_in is ∙ go (same owner w) refl
+-- an empty list at the end changes nothing
+pub list_opened : {A : Type 0} (lists : List (Vec Object A)) (v : Vec Object A) (at : Option ℕ) → v.items ≡ [] → objects_at (lists ++ v ∷ []) at ≡ objects_at lists at
+list_opened lists v None empty = refl
+list_opened {A = A} lists v (Some at) empty = go lists at
   where
-    nothing : (o : Option (Vec Object A)) → false ≡ is_some o → listed_in o ≡ []
-    nothing None e = refl
-    nothing (Some x) e = cc
+    go : (ls : List (Vec Object A)) (n : ℕ) → objects_at (ls ++ v ∷ []) (Some n) ≡ objects_at ls (Some n)
+    go [] zero = empty
+    go [] (suc n) = refl
+    go (l ∷ ls) zero = refl
+    go (l ∷ ls) (suc n) = go ls n
 
-    go : (t : Bool) → same owner w ≡ t → listed_in (cond t (Some v) (f w)) ≡ listed_in (f w)
-    go true e = empty ∙ sym (ap (λ x. listed_in (f x)) (sym (same-true owner w e)) ∙ nothing (f owner) none)
+-- no list stands behind the last
+pub list_past : {A : Type 0} (lists : List (Vec Object A)) (n : ℕ) → length lists ≤ n → objects_at lists (Some n) ≡ []
+list_past [] n past = refl
+list_past (l ∷ ls) zero past = absurd (not_above (length ls) past)
+  where
+    not_above : (n : ℕ) → suc n ≤ 0 → ⊥
+    not_above n past = omega (arith, past)
+list_past (l ∷ ls) (suc n) past = list_past ls n (omega (arith, past))
+
+-- an object that had nothing listed has an empty list
+pub opened_listed : {A : Type 0} (lists : List (Vec Object A)) (v : Vec Object A) (f g : Object → Option ObjectState) (owner o : Object) (s : ObjectState) → v.items ≡ [] → s.list ≡ Some (length lists)
+    → objects_at lists (list_by (f owner)) ≡ [] → g o ≡ cond (same owner o) (Some s) (f o) → objects_at (lists ++ v ∷ []) (list_by (g o)) ≡ objects_at lists (list_by (f o))
+opened_listed lists v f g owner o s empty at none is = list_opened lists v (list_by (g o)) empty ∙ (ap (λ m. objects_at lists (list_by m)) is ∙ go (same owner o) refl)
+  where
+    go : (t : Bool) → same owner o ≡ t → objects_at lists (list_by (cond t (Some s) (f o))) ≡ objects_at lists (list_by (f o))
+    go true e = ap (objects_at lists) at ∙ (list_past lists (length lists) (omega arith) ∙ (sym none ∙ ap (λ x. objects_at lists (list_by (f x))) (same-true owner o e)))
     go false e = refl
 
--- a list that is written back as it was changes nothing
-pub list_kept : {A : Type 0} (f : Object → Option (Vec Object A)) (owner w : Object) (v u : Vec Object A) (g : Option (Vec Object A)) → Some v ≡ f owner → u.items ≡ v.items → g ≡ cond (same owner w) (Some u) (f w)
-    → listed_in g ≡ listed_in (f w)
-list_kept {A = A} f owner w v u g there kept is = ap listed_in is ∙ go (same owner w) refl
+-- what a list holds in place of another one: the others stay, as each of them is the same list or another
+pub list_put : {A : Type 0} (lists : List (Vec Object A)) (at : ℕ) (v : Vec Object A) (m : Option ℕ) → (objects_at (set lists at v) m ≡ objects_at lists m) ⊎ (objects_at lists m ≡ objects_at lists (Some at))
+list_put lists at v None = inl refl
+list_put {A = A} lists at v (Some n) = go lists at n
   where
-    go : (t : Bool) → same owner w ≡ t → listed_in (cond t (Some u) (f w)) ≡ listed_in (f w)
-    go true e = kept ∙ (ap (λ (o : Option (Vec Object A)). listed_in o) there ∙ ap (λ x. listed_in (f x)) (same-true owner w e))
-    go false e = refl
+    go : (ls : List (Vec Object A)) (a n : ℕ) → (objects_at (set ls a v) (Some n) ≡ objects_at ls (Some n)) ⊎ (objects_at ls (Some n) ≡ objects_at ls (Some a))
+    go [] a n = inl refl
+    go (l ∷ ls) zero zero = inr refl
+    go (l ∷ ls) zero (suc n) = inl refl
+    go (l ∷ ls) (suc a) zero = inl refl
+    go (l ∷ ls) (suc a) (suc n) = go ls a n
 
--- one object more at one owner
-pub list_grown : {A : Type 0} (f m g : Object → Option (Vec Object A)) (owner object : Object) → ((w : Object) → listed_in (m w) ≡ listed_in (f w))
-    → ((w : Object) → listed_in (g w) ≡ cond (same owner w) (listed_in (m owner) ++ object ∷ []) (listed_in (m w))) → (w o : Object) → is_in (listed_in (g w)) o ≡ (is_in (listed_in (f w)) o || (same owner w && same object o))
-list_grown {A = A} f m g owner object keeps more w o = ap (λ xs. is_in xs o) (more w) ∙ go (same owner w) refl
+-- a list that grows: what was listed is listed still
+pub list_grown : {A : Type 0} (lists : List (Vec Object A)) (at : ℕ) (v : Vec Object A) (o : Object) → (is_in (objects_at lists (Some at)) o ≡ true → is_in v.items o ≡ true) → (m : Option ℕ)
+    → is_in (objects_at lists m) o ≡ true → is_in (objects_at (set lists at v) m) o ≡ true
+list_grown lists at v o grows None is = is
+list_grown {A = A} lists at v o grows (Some n) is = go lists at n grows is
   where
-    none : (b : Bool) → b ≡ (b || false)
-    none true = refl
-    none false = refl
+    go : (ls : List (Vec Object A)) (a n : ℕ) → (is_in (objects_at ls (Some a)) o ≡ true → is_in v.items o ≡ true) → is_in (objects_at ls (Some n)) o ≡ true → is_in (objects_at (set ls a v) (Some n)) o ≡ true
+    go [] a n grows is = is
+    go (l ∷ ls) zero zero grows is = grows is
+    go (l ∷ ls) zero (suc n) grows is = is
+    go (l ∷ ls) (suc a) zero grows is = is
+    go (l ∷ ls) (suc a) (suc n) grows is = go ls a n grows is
 
-    go : (t : Bool) → same owner w ≡ t → is_in (cond t (listed_in (m owner) ++ object ∷ []) (listed_in (m w))) o ≡ (is_in (listed_in (f w)) o || (t && same object o))
-    go true e =
-        list_any-append (λ y. same y o) (listed_in (m owner)) (object ∷ [])
-        ∙ (ap (λ t. is_in (listed_in (m owner)) o || t) (sym (none (same object o))) ∙ ap (λ xs. is_in xs o || same object o) (keeps owner ∙ ap (λ x. listed_in (f x)) (same-true owner w e)))
-    go false e = ap (λ xs. is_in xs o) (keeps w) ∙ none (is_in (listed_in (f w)) o)
+-- what is put in place of a list is there
+pub list_there : {A : Type 0} (lists : List (Vec Object A)) (at : ℕ) (v : Vec Object A) → at < length lists → objects_at (set lists at v) (Some at) ≡ v.items
+list_there [] at v less = absurd (not_below at less)
+  where
+    not_below : (n : ℕ) → n < 0 → ⊥
+    not_below n less = omega (arith, less)
+list_there (l ∷ ls) zero v less = refl
+list_there (l ∷ ls) (suc at) v less = list_there ls at v (omega (arith, less))
 
--- what was there is there still
-pub still_listed : (a b c : Bool) → a ≡ (b || c) → b ≡ true → a ≡ true
-still_listed a true c is e = is
-still_listed a false c is e = cc e
+-- the list that stands in a place
+pub list_read : {A : Type 0} (lists : List (Vec Object A)) (at : ℕ) (d : Vec Object A) → at < length lists → objects_at lists (Some at) ≡ (get_or lists at d).items
+list_read [] at d less = absurd (not_below at less)
+  where
+    not_below : (n : ℕ) → n < 0 → ⊥
+    not_below n less = omega (arith, less)
+list_read (l ∷ ls) zero d less = refl
+list_read (l ∷ ls) (suc at) d less = list_read ls at d (omega (arith, less))
+
+-- one object more in a list
+pub in_front : (xs : List Object) (x o : Object) → is_in xs o ≡ true → is_in (xs ++ x ∷ []) o ≡ true
+in_front xs x o is = list_any-append (λ y. same y o) xs (x ∷ []) ∙ ap (λ t. t || (same x o || false)) is
+
+pub at_end : (xs : List Object) (x : Object) → is_in (xs ++ x ∷ []) x ≡ true
+at_end xs x = list_any-append (λ y. same y x) xs (x ∷ []) ∙ (ap (λ t. is_in xs x || (t || false)) (same_self x) ∙ or_true (is_in xs x))
+  where
+    or_true : (t : Bool) → (t || true) ≡ true
+    or_true true = refl
+    or_true false = refl
 
 -- what was listed at the owners so far, and now at one more
-pub listed_more : {A : Type 0} (f g : Object → Option (Vec Object A)) (before : Bool) (owner object w : Object) → (before ≡ true → is_in (listed_in (f w)) object ≡ true)
-    → is_in (listed_in (g w)) object ≡ (is_in (listed_in (f w)) object || (same owner w && same object object)) → (before || same owner w) ≡ true → is_in (listed_in (g w)) object ≡ true
-listed_more f g before owner object w was is here = is ∙ go before (is_in (listed_in (f w)) object) (same owner w) was here
-  where
-    late : (b c : Bool) → c ≡ true → (b || (true && c)) ≡ true
-    late true c e = refl
-    late false c e = e
+pub listed_more : (f g : Object → List Object) (before : Bool) (owner object w : Object) → (before ≡ true → is_in (f w) object ≡ true) → (is_in (f w) object ≡ true → is_in (g w) object ≡ true) → is_in (g owner) object ≡ true
+    → (before || same owner w) ≡ true → is_in (g w) object ≡ true
+listed_more f g true owner object w was grows there is = grows (was refl)
+listed_more f g false owner object w was grows there is = ap (λ y. is_in (g y) object) (sym (same-true owner w is)) ∙ there
 
-    go : (b i t : Bool) → (b ≡ true → i ≡ true) → (b || t) ≡ true → (i || (t && same object object)) ≡ true
-    go true i t was e = ap (λ u. u || (t && same object object)) (was refl)
-    go false i true was e = late i (same object object) (same_self object)
-    go false i false was e = cc e
+-- a test that all of a list pass
+pub all_in : (test : Object → Bool) (xs : List Object) (o : Object) → list_all test xs ≡ true → is_in xs o ≡ true → test o ≡ true
+all_in test [] o all is = cc is
+all_in test (x ∷ xs) o all is = go (all_in test xs o) (same x o) refl (both_true (test x) (list_all test xs) all) is
+  where
+    go : (list_all test xs ≡ true → is_in xs o ≡ true → test o ≡ true) → (t : Bool) → same x o ≡ t → (test x ≡ true) × (list_all test xs ≡ true) → (t || is_in xs o) ≡ true → test o ≡ true
+    go rest true e parts is = ap test (sym (same-true x o e)) ∙ parts.0
+    go rest false e parts is = rest parts.1 is
 
 -- ---- ends
 
-both_true : (a b : Bool) → (a && b) ≡ true → (a ≡ true) × (b ≡ true)
-both_true true b e = (refl, e)
-both_true false b e = cc e
-
 -- all that the named object owns has ended with what was listed at it
-pub ended_below : {A : Type 0} (bs : List Birth) (xs ys objects : List Object) (f : Object → Option (Vec Object A)) (named o : Object) → AreListed bs xs f → listed_in (f named) ≡ objects
-    → is_in ys o ≡ (is_in xs o && not (is_in objects o && is_in (owners_in bs o) named)) → is_in ys o ≡ (is_in xs o && not (is_in (owners_in bs o) named))
-ended_below bs xs ys objects f named o listed there is = is ∙ go (is_in xs o) refl (is_in (owners_in bs o) named) refl
+pub ended_below : (bs : List Birth) (p q : Object → Bool) (f : Object → List Object) (objects : List Object) (named o : Object) → AreListed bs p f → f named ≡ objects
+    → q o ≡ (p o && not (is_in objects o && is_in (owners_in bs o) named)) → q o ≡ (p o && not (is_in (owners_in bs o) named))
+ended_below bs p q f objects named o listed there is = is ∙ go (p o) refl (is_in (owners_in bs o) named) refl
   where
-    go : (t : Bool) → is_in xs o ≡ t → (u : Bool) → is_in (owners_in bs o) named ≡ u → (t && not (is_in objects o && u)) ≡ (t && not u)
+    go : (t : Bool) → p o ≡ t → (u : Bool) → is_in (owners_in bs o) named ≡ u → (t && not (is_in objects o && u)) ≡ (t && not u)
     go true e true d = ap (λ v. not (v && true)) (sym (ap (λ zs. is_in zs o) there) ∙ listed named o e d)
     go true e false d = go_none (is_in objects o)
       where
@@ -152,24 +245,60 @@ ended_below bs xs ys objects f named o listed there is = is ∙ go (is_in xs o) 
         go_none false = refl
     go false e u d = refl
 
--- what lives still was born
-pub born_left : (bs : List Birth) (xs ys : List Object) (p : Object → Bool) → AreBorn bs xs → ((o : Object) → is_in ys o ≡ (is_in xs o && p o)) → AreBorn bs ys
-born_left bs xs ys p born is o lives = born o (both_true (is_in xs o) (p o) (sym (is o) ∙ lives)).0
-
--- what lives still is listed, where what was listed at the named object is gone
-pub listed_left : {A : Type 0} (bs : List Birth) (xs ys : List Object) (f g : Object → Option (Vec Object A)) (named : Object) → AreListed bs xs f → ((w : Object) → g w ≡ cond (same named w) None (f w))
-    → ((o : Object) → is_in ys o ≡ (is_in xs o && not (is_in (owners_in bs o) named))) → AreListed bs ys g
-listed_left {A = A} bs xs ys f g named listed less is owner o lives owned =
-    let parts = both_true (is_in xs o) (not (is_in (owners_in bs o) named)) (sym (is o) ∙ lives) in
-    ap (λ (l : Option (Vec Object A)). is_in (listed_in l) o) (less owner) ∙ go (same named owner) refl parts.0 parts.1
+-- nothing is listed at an object that owns nothing that lives
+pub ended_nothing : (bs : List Birth) (p : Object → Bool) (f : Object → List Object) (named o : Object) → AreListed bs p f → f named ≡ [] → p o ≡ (p o && not (is_in (owners_in bs o) named))
+ended_nothing bs p f named o listed none = go (p o) refl (is_in (owners_in bs o) named) refl
   where
-    go : (t : Bool) → same named owner ≡ t → is_in xs o ≡ true → not (is_in (owners_in bs o) named) ≡ true → is_in (listed_in (cond t None (f owner))) o ≡ true
-    go true e a b = let k : is_in (owners_in bs o) named ≡ true = ap (λ x. is_in (owners_in bs o) x) (same-true named owner e) ∙ owned in cc
-    go false e a b = listed owner o a owned
+    go : (t : Bool) → p o ≡ t → (u : Bool) → is_in (owners_in bs o) named ≡ u → t ≡ (t && not u)
+    go true e true d = let k : false ≡ true = ap (λ l. is_in l o) (sym none) ∙ listed named o e d in cc
+    go true e false d = refl
+    go false e u d = refl
 
--- a subset stays listed
-pub listed_fewer : {A : Type 0} (bs : List Birth) (xs ys : List Object) (f : Object → Option (Vec Object A)) (p : Object → Bool) → AreListed bs xs f → ((o : Object) → is_in ys o ≡ (is_in xs o && p o)) → AreListed bs ys f
-listed_fewer bs xs ys f p listed is owner o lives owned = listed owner o (both_true (is_in xs o) (p o) (sym (is o) ∙ lives)).0 owned
+-- what lives still was born
+pub born_left : (bs : List Birth) (p q r : Object → Bool) → AreBorn bs p → ((o : Object) → q o ≡ (p o && r o)) → AreBorn bs q
+born_left bs p q r born is o lives = born o (both_true (p o) (r o) (sym (is o) ∙ lives)).0
+
+-- what lives still is listed still
+pub listed_fewer : (bs : List Birth) (p q r : Object → Bool) (f g : Object → List Object) → AreListed bs p f → ((o : Object) → q o ≡ (p o && r o)) → ((w : Object) → g w ≡ f w) → AreListed bs q g
+listed_fewer bs p q r f g listed is stay owner o lives owned = ap (λ l. is_in l o) (stay owner) ∙ listed owner o (both_true (p o) (r o) (sym (is o) ∙ lives)).0 owned
+
+-- also where a list is emptied, all of which the named object owned
+pub listed_left : (bs : List Birth) (p q : Object → Bool) (f g : Object → List Object) (objects : List Object) (named : Object) → AreListed bs p f → ((o : Object) → q o ≡ (p o && not (is_in (owners_in bs o) named)))
+    → list_all (λ o. is_in (owners_in bs o) named) objects ≡ true → ((w : Object) → (g w ≡ f w) ⊎ (f w ≡ objects)) → AreListed bs q g
+listed_left bs p q f g objects named listed is all which owner o lives owned =
+    let parts = both_true (p o) (not (is_in (owners_in bs o) named)) (sym (is o) ∙ lives) in
+    let was : is_in (f owner) o ≡ true = listed owner o parts.0 owned in
+    go (which owner) was parts.1
+  where
+    go : (g owner ≡ f owner) ⊎ (f owner ≡ objects) → is_in (f owner) o ≡ true → not (is_in (owners_in bs o) named) ≡ true → is_in (g owner) o ≡ true
+    go (inl stays) was left = ap (λ l. is_in l o) stays ∙ was
+    go (inr there) was left = let k : is_in (owners_in bs o) named ≡ true = all_in (λ x. is_in (owners_in bs x) named) objects o all (ap (λ l. is_in l o) (sym there) ∙ was) in cc
+
+-- all that the named object owns has ended, where its list was gone through
+pub ended_at : {A : Type 0} (bs : List Birth) (lists : List (Vec Object A)) (s t : ObjectMap ObjectState) (named o : Object) (at : ℕ) (objects : List Object) → AreListed bs (lives_in s) (listed_in lists s)
+    → Some at ≡ list_by (kept s named) → objects_at lists (Some at) ≡ objects → lives_in t o ≡ (lives_in s o && not (is_in objects o && is_in (owners_in bs o) named)) → lives_in t o ≡ (lives_in s o && not (is_in (owners_in bs o) named))
+ended_at bs lists s t named o at objects listed is there ended =
+    ended_below bs (lives_in s) (lives_in t) (listed_in lists s) objects named o listed (ap (objects_at lists) (sym is) ∙ there) ended
+
+-- the list that was gone through is emptied, and no other
+pub emptied_at : {A : Type 0} (lists : List (Vec Object A)) (s t : ObjectMap ObjectState) (at : ℕ) (v : Vec Object A) (objects : List Object) → objects_at lists (Some at) ≡ objects
+    → ((w : Object) → list_by (kept t w) ≡ list_by (kept s w)) → (w : Object) → (listed_in (set lists at v) t w ≡ listed_in lists s w) ⊎ (listed_in lists s w ≡ objects)
+emptied_at lists s t at v objects there stay w = go (list_put lists at v (list_by (kept t w)))
+  where
+    go : (objects_at (set lists at v) (list_by (kept t w)) ≡ objects_at lists (list_by (kept t w))) ⊎ (objects_at lists (list_by (kept t w)) ≡ objects_at lists (Some at))
+        → (listed_in (set lists at v) t w ≡ listed_in lists s w) ⊎ (listed_in lists s w ≡ objects)
+    go (inl e) = inl (e ∙ ap (objects_at lists) (stay w))
+    go (inr e) = inr (ap (objects_at lists) (sym (stay w)) ∙ (e ∙ there))
+
+-- what is left of the list of what lives
+pub living_left : (bs : List Birth) (p q r : Object → Bool) (o : Object) → AreBorn bs p → ((x : Object) → q x ≡ (p x && r x)) → is_in (living_in bs q) o ≡ (is_in (living_in bs p) o && r o)
+living_left bs p q r o born is = living_is bs q o (born_left bs p q r born is) ∙ (is o ∙ ap (λ t. t && r o) (sym (living_is bs p o born)))
+
+-- an object that has no list owns nothing that lives
+pub living_nothing : (bs : List Birth) (p : Object → Bool) (f : Object → List Object) (named o : Object) → AreBorn bs p → AreListed bs p f → f named ≡ []
+    → is_in (living_in bs p) o ≡ (is_in (living_in bs p) o && not (is_in (owners_in bs o) named))
+living_nothing bs p f named o born listed none =
+    let is = living_is bs p o born in is ∙ (ended_nothing bs p f named o listed none ∙ ap (λ t. t && not (is_in (owners_in bs o) named)) (sym is))
 
 -- an object and what it owns
 pub ended_with : (a : Bool) (x y : Object) (created q : Bool) → created ≡ true → ((a && not (same x y)) && not q) ≡ (a && not (created && (same y x || q)))
@@ -183,34 +312,24 @@ ended_with a x y created q is = ap (λ t. (a && not t) && not q) (same_swapped x
 -- ---- births
 
 -- what lives stays born
-pub born_still : (bs news : List Birth) (xs : List Object) → AreBorn bs xs → AreBorn (bs ++ news) xs
-born_still bs news xs born o lives = list_any-append (λ b. same b.object o) bs news ∙ ap (λ t. t || born_in news o) (born o lives)
+pub born_still : (bs news : List Birth) (p : Object → Bool) → AreBorn bs p → AreBorn (bs ++ news) p
+born_still bs news p born o lives = list_any-append (λ b. same b.object o) bs news ∙ ap (λ t. t || born_in news o) (born o lives)
 
 -- and keeps its owners
-pub listed_still : {A : Type 0} (bs news : List Birth) (xs : List Object) (f : Object → Option (Vec Object A)) → AreBorn bs xs → AreListed bs xs f → AreListed (bs ++ news) xs f
-listed_still bs news xs f born listed owner o lives owned =
+pub listed_still : (bs news : List Birth) (p : Object → Bool) (f : Object → List Object) → AreBorn bs p → AreListed bs p f → AreListed (bs ++ news) p f
+listed_still bs news p f born listed owner o lives owned =
     listed owner o lives (ap (λ os. is_in os owner) (sym (owners_joined bs news o ∙ ap (λ t. cond t (owners_in bs o) (owners_in news o)) (born o lives))) ∙ owned)
 
 -- with more that is listed
-pub listed_wider : {A : Type 0} (bs : List Birth) (xs : List Object) (f g : Object → Option (Vec Object A)) → AreListed bs xs f → ((w o : Object) → is_in (listed_in (f w)) o ≡ true → is_in (listed_in (g w)) o ≡ true)
-    → AreListed bs xs g
-listed_wider bs xs f g listed grows owner o lives owned = grows owner o (listed owner o lives owned)
+pub listed_wider : (bs : List Birth) (p : Object → Bool) (f g : Object → List Object) → AreListed bs p f → ((w o : Object) → is_in (f w) o ≡ true → is_in (g w) o ≡ true) → AreListed bs p g
+listed_wider bs p f g listed grows owner o lives owned = grows owner o (listed owner o lives owned)
 
--- nothing is listed at an object that owns nothing that lives
-pub ended_nothing : {A : Type 0} (bs : List Birth) (xs : List Object) (f : Object → Option (Vec Object A)) (named o : Object) → AreListed bs xs f → None ≡ f named → is_in xs o ≡ (is_in xs o && not (is_in (owners_in bs o) named))
-ended_nothing {A = A} bs xs f named o listed none = go (is_in xs o) refl (is_in (owners_in bs o) named) refl
-  where
-    go : (t : Bool) → is_in xs o ≡ t → (u : Bool) → is_in (owners_in bs o) named ≡ u → t ≡ (t && not u)
-    go true e true d = let k : false ≡ true = ap (λ (l : Option (Vec Object A)). is_in (listed_in l) o) none ∙ listed named o e d in cc
-    go true e false d = refl
-    go false e u d = refl
+-- tests that tell the same
+pub born_same : (bs : List Birth) (p q : Object → Bool) → AreBorn bs p → ((o : Object) → q o ≡ p o) → AreBorn bs q
+born_same bs p q born is o lives = born o (sym (is o) ∙ lives)
 
--- sets that tell the same
-pub born_same : (bs : List Birth) (xs ys : List Object) → AreBorn bs xs → ((o : Object) → is_in ys o ≡ is_in xs o) → AreBorn bs ys
-born_same bs xs ys born is o lives = born o (sym (is o) ∙ lives)
-
-pub listed_same : {A : Type 0} (bs : List Birth) (xs ys : List Object) (f : Object → Option (Vec Object A)) → AreListed bs xs f → ((o : Object) → is_in ys o ≡ is_in xs o) → AreListed bs ys f
-listed_same bs xs ys f listed is owner o lives owned = listed owner o (sym (is o) ∙ lives) owned
+pub listed_same : (bs : List Birth) (p q : Object → Bool) (f g : Object → List Object) → AreListed bs p f → ((o : Object) → q o ≡ p o) → ((w : Object) → g w ≡ f w) → AreListed bs q g
+listed_same bs p q f g listed is stay owner o lives owned = ap (λ l. is_in l o) (stay owner) ∙ listed owner o (sym (is o) ∙ lives) owned
 
 -- one of two holds
 either : {P : Type 0} (a b : Bool) → (a ≡ true → P) → (b ≡ true → P) → (a || b) ≡ true → P
@@ -218,25 +337,25 @@ either true b f g e = f refl
 either false b f g e = g e
 
 -- an object that is born, and those before
-pub born_new : (bs : List Birth) (xs ys : List Object) (b : Birth) → AreBorn bs xs → ((o : Object) → is_in ys o ≡ (is_in xs o || same b.object o)) → AreBorn (bs ++ b ∷ []) ys
-born_new bs xs ys b born is o lives =
+pub born_new : (bs : List Birth) (p q : Object → Bool) (b : Birth) → AreBorn bs p → ((o : Object) → q o ≡ (p o || same b.object o)) → AreBorn (bs ++ b ∷ []) q
+born_new bs p q b born is o lives =
     list_any-append (λ x. same x.object o) bs (b ∷ [])
-    ∙ either (is_in xs o) (same b.object o) (λ e. ap (λ t. t || (same b.object o || false)) (born o e)) (λ e. ap (λ t. born_in bs o || (t || false)) e ∙ or_true (born_in bs o)) (sym (is o) ∙ lives)
+    ∙ either (p o) (same b.object o) (λ e. ap (λ t. t || (same b.object o || false)) (born o e)) (λ e. ap (λ t. born_in bs o || (t || false)) e ∙ or_true (born_in bs o)) (sym (is o) ∙ lives)
   where
     or_true : (t : Bool) → (t || true) ≡ true
     or_true true = refl
     or_true false = refl
 
 -- and it is listed at all its owners
-pub listed_new : {A : Type 0} (bs : List Birth) (xs ys : List Object) (f : Object → Option (Vec Object A)) (b : Birth) → AreBorn bs xs → AreListed bs xs f → born_in bs b.object ≡ false
-    → ((w : Object) → is_in b.owners w ≡ true → is_in (listed_in (f w)) b.object ≡ true) → ((o : Object) → is_in ys o ≡ (is_in xs o || same b.object o)) → AreListed (bs ++ b ∷ []) ys f
-listed_new {A = A} bs xs ys f b born listed new own is owner o lives owned =
-    either (is_in xs o) (same b.object o) (λ e. listed_still bs (b ∷ []) xs f born listed owner o e owned)
+pub listed_new : (bs : List Birth) (p q : Object → Bool) (f : Object → List Object) (b : Birth) → AreBorn bs p → AreListed bs p f → born_in bs b.object ≡ false
+    → ((w : Object) → is_in b.owners w ≡ true → is_in (f w) b.object ≡ true) → ((o : Object) → q o ≡ (p o || same b.object o)) → AreListed (bs ++ b ∷ []) q f
+listed_new bs p q f b born listed new own is owner o lives owned =
+    either (p o) (same b.object o) (λ e. listed_still bs (b ∷ []) p f born listed owner o e owned)
     (λ e.
     let one : b.object ≡ o = same-true b.object o e in
     let mine : owners_in (bs ++ b ∷ []) b.object ≡ b.owners = owners_joined bs (b ∷ []) b.object
     ∙ (ap (λ t. cond t (owners_in bs b.object) (owners_in (b ∷ []) b.object)) new ∙ ap (λ t. option_map_or (λ (x : Birth). x.owners) (cond t (Some b) None) []) (same_self b.object)) in
-    ap (is_in (listed_in (f owner))) (sym one) ∙ own owner (ap (λ xs. is_in xs owner) (sym mine ∙ ap (owners_in (bs ++ b ∷ [])) one) ∙ owned))
+    ap (is_in (f owner)) (sym one) ∙ own owner (ap (λ xs. is_in xs owner) (sym mine ∙ ap (owners_in (bs ++ b ∷ [])) one) ∙ owned))
     (sym (is o) ∙ lives)
 
 -- ---- what arguments name

@@ -20,6 +20,11 @@ and_true false b e = (e, cc)
 joined : (a b : Object) → a.ty ≡ b.ty → a.number ≡ b.number → a ≡ b
 joined a b t n = ap (λ (x : ObjectType). record { ty = x; number = a.number }) t ∙ ap (λ (y : ℕ). record { ty = b.ty; number = y }) n
 
+-- types that are the same are one
+pub type_is : (a b : ObjectType) → same_type a b ≡ true → a ≡ b
+unfolding same_type
+type_is a b e = same_true type.the_type tt a b e
+
 -- the test decides equality
 pub same-true : (a b : Object) → same a b ≡ true → a ≡ b
 unfolding same_type

@@ -12,7 +12,7 @@ use Rattle.replay_model.specs.Births.{is_kept}
 use Rattle.session_tables.specs.declared.retrieved_table.RetrievedKey.{RetrievedKey}
 use Rattle.session_tables.specs.declared.retrieved_table.RetrievedEntry.{RetrievedEntry}
 use Rattle.session_tables.specs.Shown.{has_key, retrieval_of, same_key}
-use Rattle.session_tables.proofs.Objects.{same-true}
+use Rattle.session_tables.proofs.Objects.{same-true, type_is}
 use Rattle.trace_format.specs.declared.event.Name.{Name}
 use Rattle.trace_format.specs.Accepting.{same_name}
 
@@ -31,11 +31,6 @@ same_name_is a b e = go (a.thread == b.thread) (a.number == b.number) refl refl 
 and_true : (a b : Bool) → (a && b) ≡ true → (a ≡ true) × (b ≡ true)
 and_true true b e = (refl, e)
 and_true false b e = cc e
-
--- types that are the same are one
-type_is : (a b : ObjectType) → same_type a b ≡ true → a ≡ b
-unfolding same_type
-type_is a b e = same_true type.the_type tt a b e
 
 -- keys that are the same find the same entries
 pub key_alike : (k : RetrievedKey) (q : RetrievedKey) → same_key k q ≡ true → (e : RetrievedEntry) → has_key k e ≡ has_key q e

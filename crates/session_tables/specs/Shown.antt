@@ -1,20 +1,23 @@
 -- The tables' entries as the lists of the definitions. Source: this project.
-use Rattle.std.specs.Prelude.{ℕ, Bool, false, Option, Some, None, ◌&&◌, ◌==◌, List, [], ◌∷◌, map, Vec}
-use Rattle.std.specs.Option.{option_map, option_map_or}
+use Rattle.std.specs.Prelude.{ℕ, Bool, Option, Some, ◌&&◌, ◌==◌, List, [], ◌∷◌, map, find, reverse, Vec}
+use Rattle.std.specs.Option.{option_map}
 use Rattle.std.specs.Str.{bytes_eq}
 use Rattle.command_tables.specs.Tests.{same_type}
 use Rattle.object_model.specs.declared.Object.{Object}
 use Rattle.object_model.specs.Objects.{same}
 use Rattle.object_model.specs.declared.Argument.{Argument}
-use Rattle.object_model.specs.History.{Birth}
+use Rattle.trace_format.specs.declared.event.Name.{Name}
 use Rattle.replay_model.specs.Past.{Retrieval}
 use Rattle.replay_model.specs.Births.{is_kept}
 use Rattle.replay_model.specs.Direct.{Valued, Value}
-use Rattle.session_tables.specs.declared.birth_table.ObjectEntry.{ObjectEntry}
-use Rattle.session_tables.specs.declared.birth_table.BirthPlace.{BirthPlace}
+use Rattle.session_tables.specs.Dense.{cell}
 use Rattle.session_tables.specs.declared.retrieved_table.RetrievedEntry.{RetrievedEntry}
 use Rattle.session_tables.specs.declared.retrieved_table.RetrievedKey.{RetrievedKey}
 use Rattle.session_tables.specs.declared.value_table.ValueEntry.{ValueEntry}
+
+-- the object that stands in a name's place
+abbrev pub named_at : {A : Type 0} → List (Vec (Option Object) A) → Name → Option Object
+named_at rows name = cell rows name.thread name.number
 
 -- a value of the one driver
 abbrev pub one_value : ℕ → List Value
@@ -27,25 +30,9 @@ value_of v = record { object = v.object; values = one_value v.value }
 abbrev pub values_shown : List ValueEntry → List Valued
 values_shown values = map value_of values
 
--- a born object
-abbrev pub birth_of : ObjectEntry → Birth
-birth_of e = record { object = e.object; created = e.created; owners = e.owners.items }
-
-abbrev pub births_shown : List ObjectEntry → List Birth
-births_shown entries = map birth_of entries
-
--- where the first birth of an object stands
-abbrev pub place_of : Option BirthPlace → Option ℕ
-place_of place = option_map (λ p. p.at) place
-
--- one of its births is a creation
-abbrev pub is_creation : Option BirthPlace → Bool
-is_creation place = option_map_or (λ p. p.created) place false
-
--- the owners of an entry, if there is one
-abbrev pub owners_found : Option ObjectEntry → List Object
-owners_found None = []
-owners_found (Some e) = e.owners.items
+-- the last value of an object
+abbrev pub last_value : List ValueEntry → Object → Option ℕ
+last_value values o = option_map (λ v. v.value) (find (λ v. same v.object o) (reverse values))
 
 -- arguments as lists
 abbrev pub args_shown : {A : Type 0} → List (Vec Argument A) → List (List Argument)

@@ -1,105 +1,91 @@
 // The objects that were born.
-ghost use Rattle.std.specs.Prelude.{◌≡◌, ◌++◌, ◌∷◌, [], OnOk, OnErr, cond, ◌||◌, Some, unwrap_or, option_and_then, slice_get};
-ghost use Rattle.std.specs.HashMap.{get};
+ghost use Rattle.std.specs.Prelude.{◌≡◌, ◌++◌, ◌∷◌, [], Some, OnOk, OnErr, length, true, if◌then◌else◌};
+ghost use Rattle.object_model.specs.declared.Object.{Object};
 ghost use Rattle.object_model.specs.Objects.{same};
 ghost use Rattle.object_model.specs.History.{born_in, created_in, owners_in};
-ghost use Rattle.session_tables.specs.Shown.{birth_of, is_creation, owners_found, place_of};
+ghost use Rattle.session_tables.specs.Births.{are_within, is_creation, joined, owners_found};
+ghost use Rattle.session_tables.specs.Filing.{kept};
 
-use crate::index::entry_at;
+use crate::object_map::ObjectMap;
 use object_model::Object;
 use std::alloc::{AllocError, Global};
-use std::collections::HashMap;
 use std::marker::Model;
 
-/// An object that was born, with its owner, its owner's owner, and so on.
-#[derive(Drop)]
-pub struct ObjectEntry {
+/// A birth, with the places of the object's owners among all owners.
+#[derive(Clone, Copy)]
+pub struct BirthEntry {
     pub object: Object,
     pub created: bool,
-    pub owners: Vec<Object>,
+    pub start: usize,
+    pub end: usize,
 }
 
-/// Where the first birth of an object stands, and whether one of its births is a creation.
+/// Where the owners of an object's first birth stand, and whether one of its births is a creation.
 #[derive(Clone, Copy)]
-pub struct BirthPlace {
-    pub at: usize,
+pub struct BirthMark {
     pub created: bool,
+    pub start: usize,
+    pub end: usize,
 }
 
-/// The births, the oldest first. An object is found by one look-up.
+/// The births, the oldest first. What is asked of an object stands in the object's place, and the owners of all births stand in one list.
 #[derive(Drop)]
 pub struct BirthTable {
-    list: Vec<ObjectEntry>,
-    places: HashMap<Object, BirthPlace>,
+    list: Vec<BirthEntry>,
+    owners: Vec<Object>,
+    marks: ObjectMap<BirthMark>,
 }
 
 impl Model for BirthTable {
-    ghost use Rattle.std.specs.Prelude.{◌≡◌, List, ◌&&◌};
-    ghost use Rattle.std.specs.HashMap.{get};
-    ghost use Rattle.std.specs.List.{list_any};
-    ghost use Rattle.object_model.specs.declared.Object.{Object};
-    ghost use Rattle.object_model.specs.Objects.{same};
+    ghost use Rattle.std.specs.Prelude.{◌≡◌, List, true};
     ghost use Rattle.object_model.specs.History.{Birth};
-    ghost use Rattle.session_tables.specs.Places.{first_place};
-    ghost use Rattle.session_tables.specs.Shown.{births_shown, is_creation, place_of};
+    ghost use Rattle.session_tables.specs.Births.{IsIndexed, are_stored, births_shown};
+    ghost use Rattle.session_tables.specs.Filing.{kept};
 
     ghost Value = { List Birth };
 
-    ghost view = { λ t. births_shown t.list.items };
+    ghost view = { λ t. births_shown t.owners.items t.list.items };
 
-    ghost invariant = { λ t.
-        ((o : Object) → place_of (get same t.places o) ≡ first_place (λ e. same e.object o) t.list.items)
-        × ((o : Object) → is_creation (get same t.places o) ≡ list_any (λ e. same e.object o && e.created) t.list.items) };
+    ghost invariant = { λ t. (are_stored t.owners.items t.list.items ≡ true) × IsIndexed t.owners.items (births_shown t.owners.items t.list.items) (kept t.marks) };
 }
 
-// A birth is added: where its object has none before, it is the first.
-#[tactic(auto, unfolding(command_tables::specs::Tests::same_type))]
+// The first birth of an object keeps its owners, and any of its births may be a creation.
 fn keep_birth(
-    places: &mut HashMap<Object, BirthPlace>,
+    marks: &mut ObjectMap<BirthMark>,
     object: Object,
-    created: bool,
-    place: usize,
+    mark: BirthMark,
 ) -> Result<(), AllocError>
-    ensures at { OnOk result ((o : Object) → place_of (get same places.new o) ≡ cond (same object o) (Some (unwrap_or (place_of (get same places.old object)) place)) (place_of (get same places.old o))) }
-    ensures creation { OnOk result ((o : Object) → is_creation (get same places.new o) ≡ cond (same object o) (is_creation (get same places.old object) || created) (is_creation (get same places.old o))) }
-    ensures err { OnErr result ((o : Object) → get same places.new o ≡ get same places.old o) }
+    ensures ok { OnOk result ((o : Object) → kept marks.new o ≡ (if same object o then Some (joined (kept marks.old object) mark) else kept marks.old o)) }
+    ensures err { OnErr result ((o : Object) → kept marks.new o ≡ kept marks.old o) }
 {
-    let first = match places.get(&object) {
-        None => BirthPlace { at: place, created },
-        Some(first) => BirthPlace {
-            at: first.at,
-            created: first.created || created,
+    let first = match marks.get(object) {
+        None => mark,
+        Some(first) => BirthMark {
+            created: first.created || mark.created,
+            start: first.start,
+            end: first.end,
         },
     };
-    places.insert(object, first)?;
+    marks.put(object, first)?;
     Ok(())
 }
 
-#[tactic(auto, unfolding(command_tables::specs::Tests::same_type))]
-fn place_in(places: &HashMap<Object, BirthPlace>, object: Object) -> Option<BirthPlace>
-    ensures { result ≡ get same places.now object }
+fn creation(mark: Option<BirthMark>) -> bool
+    ensures { result ≡ is_creation mark }
 {
-    places.get(&object).copied()
-}
-
-fn creation(place: Option<BirthPlace>) -> bool
-    ensures { result ≡ is_creation place }
-{
-    match place {
+    match mark {
         None => false,
-        Some(place) => place.created,
+        Some(mark) => mark.created,
     }
 }
 
-fn owners_at(list: &[ObjectEntry], place: Option<BirthPlace>) -> &[Object]
-    ensures { result.now ≡ owners_found (option_and_then (slice_get list.now) (place_of place)) }
+fn owners_at(owners: &[Object], mark: Option<BirthMark>) -> &[Object]
+    requires { are_within (length owners.now) mark ≡ true }
+    ensures { result.now ≡ owners_found owners.now mark }
 {
-    match place {
+    match mark {
         None => &[],
-        Some(place) => match entry_at(list, Some(&place.at)) {
-            None => &[],
-            Some(entry) => &entry.owners,
-        },
+        Some(mark) => &owners[mark.start..mark.end],
     }
 }
 
@@ -109,46 +95,58 @@ impl BirthTable {
     {
         BirthTable {
             list: Vec::new(alloc),
-            places: HashMap::new(alloc),
+            owners: Vec::new(alloc),
+            marks: ObjectMap::new(alloc),
         }
     }
 
     /// Whether an object was born.
-    #[tactic(auto, using(crate::proofs::Shown::born_indexed), unfolding(command_tables::specs::Tests::same_type))]
     pub fn is_born(&self, object: Object) -> bool
         ensures { result ≡ born_in self.now object }
     {
-        self.places.contains_key(&object)
+        self.marks.get(object).is_some()
     }
 
     /// Whether an object was created.
-    #[tactic(auto, using(crate::proofs::Shown::created_indexed), unfolding(command_tables::specs::Tests::same_type))]
     pub fn is_created(&self, object: Object) -> bool
         ensures { result ≡ created_in self.now object }
     {
-        creation(place_in(&self.places, object))
+        creation(self.marks.get(object))
     }
 
     /// The owner of an object, its owner, and so on.
-    #[tactic(auto, using(crate::proofs::Shown::owners_indexed), unfolding(command_tables::specs::Tests::same_type))]
     pub fn owners_of(&self, object: Object) -> &[Object]
         ensures { result.now ≡ owners_in self.now object }
     {
-        owners_at(&self.list, place_in(&self.places, object))
+        owners_at(&self.owners, self.marks.get(object))
     }
 
-    pub fn push(&mut self, entry: ObjectEntry) -> Result<(), AllocError>
-        ensures ok { OnOk result (self.new ≡ self.old ++ birth_of entry ∷ []) }
+    /// Adds a birth, in memory up to the object's place.
+    pub fn push(
+        &mut self,
+        object: Object,
+        created: bool,
+        owners: &[Object],
+    ) -> Result<(), AllocError>
+        ensures ok { OnOk result (self.new ≡ self.old ++ record { object = object; created = created; owners = owners.now } ∷ []) }
         ensures err { OnErr result (self.new ≡ self.old) }
     {
         self.list.reserve(1)?;
-        keep_birth(
-            &mut self.places,
-            entry.object,
-            entry.created,
-            self.list.as_slice().len(),
-        )?;
-        self.list.push(entry)?;
+        let start = self.owners.as_slice().len();
+        self.owners.extend_from_slice(owners)?;
+        let end = self.owners.as_slice().len();
+        let mark = BirthMark {
+            created,
+            start,
+            end,
+        };
+        keep_birth(&mut self.marks, object, mark)?;
+        self.list.push(BirthEntry {
+            object,
+            created,
+            start,
+            end,
+        })?;
         Ok(())
     }
 }

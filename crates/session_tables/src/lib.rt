@@ -5,14 +5,16 @@
 #![tactic(auto)]
 
 mod birth_table;
+mod dense;
 mod index;
 mod name_table;
+mod object_map;
 mod object_table;
 mod owners;
 mod retrieved_table;
 mod value_table;
 
-pub use birth_table::{BirthTable, ObjectEntry};
+pub use birth_table::BirthTable;
 pub use name_table::NameTable;
 pub use object_table::ObjectTable;
 pub use owners::owner;

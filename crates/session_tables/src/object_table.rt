@@ -1,42 +1,48 @@
 // The objects that were born, and those that live.
-ghost use Rattle.std.specs.Prelude.{◌≡◌, ◌++◌, ◌∷◌, [], OnOk, OnErr, IfOk, ◌||◌, ◌&&◌, not, true, false, map, filter, is_some, cond};
-ghost use Rattle.std.specs.HashMap.{get};
-ghost use Rattle.std.specs.List.{list_any, filter_map};
+ghost use Rattle.std.specs.Prelude.{◌≡◌, ◌++◌, ◌∷◌, ◌<◌, [], Some, OnOk, OnErr, IfOk, ◌||◌, ◌&&◌, not, true, false, map, filter, length, slice_get};
+ghost use Rattle.std.specs.List.{list_all, list_any, filter_map};
 ghost use Rattle.std.specs.Option.{option_map_or};
+ghost use Rattle.object_model.specs.declared.Object.{Object};
 ghost use Rattle.object_model.specs.Objects.{same, is_in, object_of};
 ghost use Rattle.object_model.specs.History.{births_given, births_of, born_in, created_in, ends_by, ends_with, owners_in};
 ghost use Rattle.replay_model.specs.Past.{objects_of};
-ghost use Rattle.session_tables.specs.Population.{LivesToo, listed_in};
-ghost use Rattle.session_tables.specs.Shown.{args_shown, birth_of};
+ghost use Rattle.session_tables.specs.Filing.{kept};
+ghost use Rattle.session_tables.specs.Population.{LivesToo, list_by, listed_in, lives_by, lives_in, objects_at};
+ghost use Rattle.session_tables.specs.Shown.{args_shown};
 
-use crate::birth_table::{BirthTable, ObjectEntry};
+use crate::birth_table::BirthTable;
+use crate::object_map::ObjectMap;
 use crate::owners::{arguments_at, object_in_place, owners_for};
 use command_tables::Effect;
 use object_model::{Argument, Object};
 use replay_model::Born;
 use std::alloc::{AllocError, Global};
-use std::collections::{HashMap, HashSet};
 use std::marker::Model;
 
-/// The births, the objects that live, and at each object a list of what was born below it, at any depth. When an object ends, its
-/// list is taken away with it, so that each entry of a list is looked at once.
+/// What is kept of an object: whether it lives, and which list has what was born below it.
+#[derive(Clone, Copy)]
+pub struct ObjectState {
+    pub lives: bool,
+    pub list: Option<usize>,
+}
+
+/// The births, the objects that live, and for each owner a list of what was born below it, at any depth. When an object ends, its list is
+/// emptied, so that each entry of a list is looked at once.
 #[derive(Drop)]
 pub struct ObjectTable {
     births: BirthTable,
-    living: HashSet<Object>,
-    owned: HashMap<Object, Vec<Object>>,
+    states: ObjectMap<ObjectState>,
+    lists: Vec<Vec<Object>>,
 }
 
 impl Model for ObjectTable {
-    ghost use Rattle.std.specs.HashMap.{get};
-    ghost use Rattle.object_model.specs.Objects.{same};
-    ghost use Rattle.session_tables.specs.Population.{AreBorn, AreListed, Population};
+    ghost use Rattle.session_tables.specs.Population.{AreBorn, AreListed, Population, listed_in, lives_in, living_in};
 
     ghost Value = { Population };
 
-    ghost view = { λ t. record { births = t.births; living = t.living.keys } };
+    ghost view = { λ t. record { births = t.births; living = living_in t.births (lives_in t.states) } };
 
-    ghost invariant = { λ t. AreBorn t.births t.living.keys × AreListed t.births t.living.keys (get same t.owned) };
+    ghost invariant = { λ t. AreBorn t.births (lives_in t.states) × AreListed t.births (lives_in t.states) (listed_in t.lists.items t.states) };
 }
 
 #[tactic(auto, unfolding(command_tables::specs::Tests::same_type))]
@@ -46,79 +52,108 @@ fn is_among(objects: &[Object], object: Object) -> bool
     objects.iter().any(|o| *o == object)
 }
 
-#[tactic(auto, unfolding(command_tables::specs::Tests::same_type), using(crate::proofs::Living::among))]
-fn lives(living: &HashSet<Object>, object: Object) -> bool
-    ensures { result ≡ is_in living.now.keys object }
+fn is_alive(state: Option<ObjectState>) -> bool
+    ensures { result ≡ lives_by state }
 {
-    living.contains(&object)
+    match state {
+        None => false,
+        Some(state) => state.lives,
+    }
 }
 
-#[tactic(auto, unfolding(command_tables::specs::Tests::same_type))]
-fn end(living: &mut HashSet<Object>, object: Object)
-    ensures { (o : Object) → is_in living.new.keys o ≡ (is_in living.old.keys o && not (same object o)) }
+fn list_of(state: Option<ObjectState>) -> Option<usize>
+    ensures { result ≡ list_by state }
 {
-    living.remove(&object);
+    match state {
+        None => None,
+        Some(state) => state.list,
+    }
 }
 
-#[tactic(auto, unfolding(command_tables::specs::Tests::same_type))]
-fn begin(living: &mut HashSet<Object>, object: Object) -> Result<(), AllocError>
-    ensures ok { OnOk result ((o : Object) → is_in living.new.keys o ≡ (is_in living.old.keys o || same object o)) }
-    ensures err { OnErr result ((o : Object) → is_in living.new.keys o ≡ is_in living.old.keys o) }
+fn end(states: &mut ObjectMap<ObjectState>, object: Object)
+    ensures living { (o : Object) → lives_in states.new o ≡ (lives_in states.old o && not (same object o)) }
+    ensures lists { (o : Object) → list_by (kept states.new o) ≡ list_by (kept states.old o) }
 {
-    living.insert(object)?;
+    if let Some(state) = states.get(object) {
+        let ended = ObjectState {
+            lives: false,
+            list: state.list,
+        };
+        states.set(object, ended);
+    }
+}
+
+fn begin(states: &mut ObjectMap<ObjectState>, object: Object) -> Result<(), AllocError>
+    ensures ok { OnOk result ((o : Object) → lives_in states.new o ≡ (lives_in states.old o || same object o)) }
+    ensures err { OnErr result ((o : Object) → lives_in states.new o ≡ lives_in states.old o) }
+    ensures lists { (o : Object) → list_by (kept states.new o) ≡ list_by (kept states.old o) }
+{
+    let list = list_of(states.get(object));
+    states.put(object, ObjectState { lives: true, list })?;
     Ok(())
 }
 
-// Ends an object where the named one owns it.
-fn end_owned(living: &mut HashSet<Object>, births: &BirthTable, object: Object, named: Object)
-    ensures { (o : Object) → is_in living.new.keys o ≡ (is_in living.old.keys o && not (same object o && is_in (owners_in births.now o) named)) }
+// Ends an object where the named one owns it, and says whether it does.
+fn end_owned(
+    states: &mut ObjectMap<ObjectState>,
+    births: &BirthTable,
+    object: Object,
+    named: Object,
+) -> bool
+    ensures owned { result ≡ is_in (owners_in births.now object) named }
+    ensures living { (o : Object) → lives_in states.new o ≡ (lives_in states.old o && not (same object o && is_in (owners_in births.now o) named)) }
+    ensures lists { (o : Object) → list_by (kept states.new o) ≡ list_by (kept states.old o) }
 {
     if is_among(births.owners_of(object), named) {
-        end(living, object);
+        end(states, object);
+        true
+    } else {
+        false
     }
 }
 
-// Of these objects those end that the named one owns.
-fn end_each(living: &mut HashSet<Object>, births: &BirthTable, objects: &[Object], named: Object)
-    ensures { (o : Object) → is_in living.new.keys o ≡ (is_in living.old.keys o && not (is_in objects.now o && is_in (owners_in births.now o) named)) }
+// Of these objects those end that the named one owns, which are all of them where the result says so.
+fn end_each(
+    states: &mut ObjectMap<ObjectState>,
+    births: &BirthTable,
+    objects: &[Object],
+    named: Object,
+) -> bool
+    ensures all { result ≡ list_all (λ o. is_in (owners_in births.now o) named) objects.now }
+    ensures living { (o : Object) → lives_in states.new o ≡ (lives_in states.old o && not (is_in objects.now o && is_in (owners_in births.now o) named)) }
+    ensures lists { (o : Object) → list_by (kept states.new o) ≡ list_by (kept states.old o) }
 {
+    let mut all = true;
     for object in objects {
-        end_owned(living, births, *object, named);
+        let owned = end_owned(states, births, *object, named);
+        all = all && owned;
     }
+    all
 }
 
-// An object has a list.
-#[tactic(auto, unfolding(command_tables::specs::Tests::same_type))]
+// An object has a list, which stands there.
 fn open_list(
     alloc: Global,
-    owned: &mut HashMap<Object, Vec<Object>>,
+    states: &mut ObjectMap<ObjectState>,
+    lists: &mut Vec<Vec<Object>>,
     owner: Object,
-) -> Result<(), AllocError>
-    ensures ok { OnOk result (is_some (get same owned.new owner) ≡ true) }
-    ensures keeps { (w : Object) → listed_in (get same owned.new w) ≡ listed_in (get same owned.old w) }
+) -> Result<usize, AllocError>
+    ensures at { IfOk result (λ at. (list_by (kept states.new owner) ≡ Some at) × (at < length lists.new.items)) }
+    ensures living { (o : Object) → lives_in states.new o ≡ lives_in states.old o }
+    ensures listed { (o : Object) → listed_in lists.new.items states.new o ≡ listed_in lists.old.items states.old o }
 {
-    if !owned.contains_key(&owner) {
-        owned.insert(owner, Vec::new(alloc))?;
-    }
-    Ok(())
-}
-
-// An object's list has one more.
-#[tactic(auto, unfolding(command_tables::specs::Tests::same_type))]
-fn add_owned(
-    owned: &mut HashMap<Object, Vec<Object>>,
-    owner: Object,
-    object: Object,
-) -> Result<(), AllocError>
-    requires { is_some (get same owned.old owner) ≡ true }
-    ensures ok { OnOk result ((w : Object) → listed_in (get same owned.new w) ≡ cond (same owner w) (listed_in (get same owned.old owner) ++ object ∷ []) (listed_in (get same owned.old w))) }
-    ensures err { OnErr result ((w : Object) → listed_in (get same owned.new w) ≡ listed_in (get same owned.old w)) }
-{
-    match owned.get_mut(&owner) {
-        None => Ok(()),
-        Some(objects) => {
-            objects.push(object)?;
-            Ok(())
+    let state = states.get(owner);
+    match list_of(state) {
+        Some(at) if at < lists.as_slice().len() => Ok(at),
+        _ => {
+            let at = lists.as_slice().len();
+            lists.push(Vec::new(alloc))?;
+            let opened = ObjectState {
+                lives: is_alive(state),
+                list: Some(at),
+            };
+            states.put(owner, opened)?;
+            Ok(at)
         }
     }
 }
@@ -126,30 +161,34 @@ fn add_owned(
 // An object is listed at one of its owners.
 fn list_owned(
     alloc: Global,
-    owned: &mut HashMap<Object, Vec<Object>>,
+    states: &mut ObjectMap<ObjectState>,
+    lists: &mut Vec<Vec<Object>>,
     owner: Object,
     object: Object,
 ) -> Result<(), AllocError>
-    ensures ok { OnOk result ((w o : Object) → is_in (listed_in (get same owned.new w)) o ≡ (is_in (listed_in (get same owned.old w)) o || (same owner w && same object o))) }
-    ensures grows { (w o : Object) → is_in (listed_in (get same owned.old w)) o ≡ true → is_in (listed_in (get same owned.new w)) o ≡ true }
+    ensures ok { OnOk result (is_in (listed_in lists.new.items states.new owner) object ≡ true) }
+    ensures living { (o : Object) → lives_in states.new o ≡ lives_in states.old o }
+    ensures grows { (w o : Object) → is_in (listed_in lists.old.items states.old w) o ≡ true → is_in (listed_in lists.new.items states.new w) o ≡ true }
 {
-    open_list(alloc, owned, owner)?;
-    add_owned(owned, owner, object)?;
+    let at = open_list(alloc, states, lists, owner)?;
+    lists[at].push(object)?;
     Ok(())
 }
 
 // An object is listed at each of its owners.
 fn list_at_each(
     alloc: Global,
-    owned: &mut HashMap<Object, Vec<Object>>,
+    states: &mut ObjectMap<ObjectState>,
+    lists: &mut Vec<Vec<Object>>,
     owners: &[Object],
     object: Object,
 ) -> Result<(), AllocError>
-    ensures ok { OnOk result ((w : Object) → is_in owners.now w ≡ true → is_in (listed_in (get same owned.new w)) object ≡ true) }
-    ensures grows { (w o : Object) → is_in (listed_in (get same owned.old w)) o ≡ true → is_in (listed_in (get same owned.new w)) o ≡ true }
+    ensures ok { OnOk result ((w : Object) → is_in owners.now w ≡ true → is_in (listed_in lists.new.items states.new w) object ≡ true) }
+    ensures living { (o : Object) → lives_in states.new o ≡ lives_in states.old o }
+    ensures grows { (w o : Object) → is_in (listed_in lists.old.items states.old w) o ≡ true → is_in (listed_in lists.new.items states.new w) o ≡ true }
 {
     for owner in owners {
-        list_owned(alloc, owned, *owner, object)?;
+        list_owned(alloc, states, lists, *owner, object)?;
     }
     Ok(())
 }
@@ -170,8 +209,8 @@ impl ObjectTable {
     {
         ObjectTable {
             births: BirthTable::new(alloc),
-            living: HashSet::new(alloc),
-            owned: HashMap::new(alloc),
+            states: ObjectMap::new(alloc),
+            lists: Vec::new(alloc),
         }
     }
 
@@ -185,7 +224,7 @@ impl ObjectTable {
     pub fn is_living(&self, object: Object) -> bool
         ensures { result ≡ is_in self.now.living object }
     {
-        lives(&self.living, object)
+        is_alive(self.states.get(object))
     }
 
     // All ends that an object owns.
@@ -193,8 +232,13 @@ impl ObjectTable {
         ensures births { self.new.births ≡ self.old.births }
         ensures living { (o : Object) → is_in self.new.living o ≡ (is_in self.old.living o && not (is_in (owners_in self.old.births o) named)) }
     {
-        if let Some(objects) = self.owned.remove(&named) {
-            end_each(&mut self.living, &self.births, &objects, named);
+        if let Some(at) = list_of(self.states.get(named)) {
+            if at < self.lists.as_slice().len() {
+                let all = end_each(&mut self.states, &self.births, &self.lists[at], named);
+                if all {
+                    self.lists[at].clear();
+                }
+            }
         }
     }
 
@@ -204,7 +248,7 @@ impl ObjectTable {
         ensures living { (o : Object) → is_in self.new.living o ≡ (is_in self.old.living o && not (ends_with self.old.births o named)) }
     {
         if self.births.is_created(named) {
-            end(&mut self.living, named);
+            end(&mut self.states, named);
             self.end_below(named);
         }
     }
@@ -261,35 +305,51 @@ impl ObjectTable {
         }
     }
 
-    fn add_known(&mut self, entry: ObjectEntry) -> Result<(), AllocError>
-        ensures births { OnOk result (self.new.births ≡ self.old.births ++ birth_of entry ∷ []) }
-        ensures living { OnOk result (self.new.living ≡ self.old.living) }
+    fn add_known(
+        &mut self,
+        object: Object,
+        created: bool,
+        owners: &[Object],
+    ) -> Result<(), AllocError>
+        ensures births { OnOk result (self.new.births ≡ self.old.births ++ record { object = object; created = created; owners = owners.now } ∷ []) }
+        ensures living { OnOk result ((o : Object) → is_in self.new.living o ≡ is_in self.old.living o) }
     {
-        self.births.push(entry)?;
+        self.births.push(object, created, owners)?;
         Ok(())
     }
 
-    fn add_new(&mut self, alloc: Global, entry: ObjectEntry) -> Result<(), AllocError>
-        requires { born_in self.old.births entry.object ≡ false }
-        ensures births { OnOk result (self.new.births ≡ self.old.births ++ birth_of entry ∷ []) }
-        ensures living { OnOk result ((o : Object) → is_in self.new.living o ≡ (is_in self.old.living o || same entry.object o)) }
+    fn add_new(
+        &mut self,
+        alloc: Global,
+        object: Object,
+        created: bool,
+        owners: &[Object],
+    ) -> Result<(), AllocError>
+        requires { born_in self.old.births object ≡ false }
+        ensures births { OnOk result (self.new.births ≡ self.old.births ++ record { object = object; created = created; owners = owners.now } ∷ []) }
+        ensures living { OnOk result ((o : Object) → is_in self.new.living o ≡ (is_in self.old.living o || same object o)) }
     {
-        let object = entry.object;
-        list_at_each(alloc, &mut self.owned, &entry.owners, object)?;
-        self.births.push(entry)?;
-        begin(&mut self.living, object)?;
+        list_at_each(alloc, &mut self.states, &mut self.lists, owners, object)?;
+        self.births.push(object, created, owners)?;
+        begin(&mut self.states, object)?;
         Ok(())
     }
 
     // A birth. An object that was born before doesn't live by it.
-    fn add(&mut self, alloc: Global, entry: ObjectEntry) -> Result<(), AllocError>
-        ensures births { OnOk result (self.new.births ≡ self.old.births ++ birth_of entry ∷ []) }
-        ensures living { OnOk result ((o : Object) → is_in self.new.living o ≡ (is_in self.old.living o || (not (born_in self.old.births entry.object) && same entry.object o))) }
+    fn add(
+        &mut self,
+        alloc: Global,
+        object: Object,
+        created: bool,
+        owners: &[Object],
+    ) -> Result<(), AllocError>
+        ensures births { OnOk result (self.new.births ≡ self.old.births ++ record { object = object; created = created; owners = owners.now } ∷ []) }
+        ensures living { OnOk result ((o : Object) → is_in self.new.living o ≡ (is_in self.old.living o || (not (born_in self.old.births object) && same object o))) }
     {
-        if self.births.is_born(entry.object) {
-            self.add_known(entry)
+        if self.births.is_born(object) {
+            self.add_known(object, created, owners)
         } else {
-            self.add_new(alloc, entry)
+            self.add_new(alloc, object, created, owners)
         }
     }
 
@@ -306,12 +366,7 @@ impl ObjectTable {
         ensures living { OnOk result ((o : Object) → is_in self.new.living o ≡ (is_in self.old.living o || is_in objects.now o)) }
     {
         for object in objects {
-            let entry = ObjectEntry {
-                object: *object,
-                created,
-                owners: Vec::from_slice(alloc, owners)?,
-            };
-            self.add(alloc, entry)?;
+            self.add(alloc, *object, created, owners)?;
         }
         Ok(())
     }

@@ -3,10 +3,9 @@ ghost use Rattle.std.specs.Prelude.{◌≡◌, ◌++◌, ◌∷◌, [], OnOk, On
 ghost use Rattle.replay_model.specs.Direct.{last_values, value_for};
 ghost use Rattle.session_tables.specs.Shown.{value_of};
 
-use crate::index::{entry_at, keep_last};
+use crate::object_map::ObjectMap;
 use object_model::Object;
 use std::alloc::{AllocError, Global};
-use std::collections::HashMap;
 use std::marker::Model;
 
 /// An object, and what the driver answered for a name of it.
@@ -16,27 +15,25 @@ pub struct ValueEntry {
     pub value: u64,
 }
 
-/// What the driver answered for objects, the oldest first. The last answer for an object is found by one look-up.
+/// What the driver answered for objects, the oldest first. The last answer for an object stands in the object's place.
 #[derive(Drop)]
 pub struct ValueTable {
     list: Vec<ValueEntry>,
-    places: HashMap<Object, usize>,
+    told: ObjectMap<u64>,
 }
 
 impl Model for ValueTable {
     ghost use Rattle.std.specs.Prelude.{◌≡◌, List};
-    ghost use Rattle.std.specs.HashMap.{get};
     ghost use Rattle.object_model.specs.declared.Object.{Object};
-    ghost use Rattle.object_model.specs.Objects.{same};
     ghost use Rattle.replay_model.specs.Direct.{Valued};
-    ghost use Rattle.session_tables.specs.Places.{last_place};
-    ghost use Rattle.session_tables.specs.Shown.{values_shown};
+    ghost use Rattle.session_tables.specs.Filing.{kept};
+    ghost use Rattle.session_tables.specs.Shown.{last_value, values_shown};
 
     ghost Value = { List Valued };
 
     ghost view = { λ t. values_shown t.list.items };
 
-    ghost invariant = { λ t. (o : Object) → get same t.places o ≡ last_place (λ v. same v.object o) t.list.items };
+    ghost invariant = { λ t. (o : Object) → kept t.told o ≡ last_value t.list.items o };
 }
 
 impl ValueTable {
@@ -45,27 +42,28 @@ impl ValueTable {
     {
         ValueTable {
             list: Vec::new(alloc),
-            places: HashMap::new(alloc),
+            told: ObjectMap::new(alloc),
         }
     }
 
     /// The last answer for an object, and 0 where there is none.
-    #[tactic(auto, using(crate::proofs::Shown::value_indexed), unfolding(command_tables::specs::Tests::same_type))]
+    #[tactic(auto, using(crate::proofs::Shown::value_last))]
     pub fn value_told(&self, object: Object) -> u64
         ensures { result ≡ value_for 0 (last_values self.now object) }
     {
-        match entry_at(&self.list, self.places.get(&object)) {
+        match self.told.get(object) {
             None => 0,
-            Some(entry) => entry.value,
+            Some(value) => value,
         }
     }
 
+    /// Adds an answer, in memory up to the object's place.
     pub fn push(&mut self, entry: ValueEntry) -> Result<(), AllocError>
         ensures ok { OnOk result (self.new ≡ self.old ++ value_of entry ∷ []) }
         ensures err { OnErr result (self.new ≡ self.old) }
     {
         self.list.reserve(1)?;
-        keep_last(&mut self.places, entry.object, self.list.as_slice().len())?;
+        self.told.put(entry.object, entry.value)?;
         self.list.push(entry)?;
         Ok(())
     }

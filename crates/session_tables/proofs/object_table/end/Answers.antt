@@ -1,7 +1,12 @@
-use Rattle.command_tables.specs.Tests.{same_type}
-use Rattle.session_tables.proofs.Living.{taken}
+use Rattle.std.proofs.Common.{sym, ap, ◌∙◌, false}
+use Rattle.session_tables.specs.Filing.{kept}
+use Rattle.session_tables.specs.Population.{list_by}
+use Rattle.session_tables.proofs.Living.{ended_unknown, lists_stay}
 use Rattle.session_tables.proofs.object_table.end.Goals as goal
 
-pub returns : goal.returns
-unfolding same_type
-returns c = λ o. taken c.args.living.now.keys c.remove.new.self.keys c.args.object o (c.remove.ensures.updates.0 o)
+pub returns-in-Some-clause-lists : goal.returns-in-Some-clause-lists
+returns-in-Some-clause-lists c = λ o.
+    lists_stay (kept c.args.states.now) (kept c.set.new.self) c.args.object o (record { lives = false; list = c.in-Some.state.list }) (ap list_by c.in-Some.ensures) (c.set.ensures o)
+
+pub returns-in_default-clause-living : goal.returns-in_default-clause-living
+returns-in_default-clause-living c = λ o. ended_unknown (kept c.args.states.now) c.args.object o (sym c.get.ensures ∙ c.in_default.is)

@@ -1,20 +1,25 @@
-use Rattle.std.proofs.Common.{◌∙◌, sym, take, get_or}
+use Rattle.std.proofs.Common.{◌∙◌, ap, sym, take, get_or, ◌||◌}
 use Rattle.std.proofs.lemmas.List.Folds.{list_any_more}
-use Rattle.std.specs.HashMap.{get}
 use Rattle.command_tables.specs.declared.types.ObjectType.TheVariants as ty
 use Rattle.object_model.specs.declared.Object.{Object}
 use Rattle.object_model.specs.Objects.{same, is_in}
+use Rattle.session_tables.specs.Population.{listed_in}
 use Rattle.session_tables.proofs.Living.{listed_more}
+use Rattle.session_tables.proofs.Lists.{on_err}
 use Rattle.session_tables.proofs.object_table.list_at_each.Goals as goal
+
+pub returns-in_err-list_owned-clause-grows : goal.returns-in_err-list_owned-clause-grows
+returns-in_err-list_owned-clause-grows c = λ w o is. c.in_err-list_owned.ensures.grows w o (c.loop-owner.invariant.grows w o is)
 
 pub loop-owner-preserved : goal.loop-owner-preserved
 loop-owner-preserved c =
     let none : Object = record { ty = ty.Instance; number = 0 } in
-    let owner = get_or c.args.owners.now c.loop-owner.owner-index none in
+    let i = c.loop-owner.owner-index in
+    let xs = c.args.owners.now in
     record {
-      listed = λ w here.
-          listed_more (get same c.loop-owner.owned) (get same c.list_owned.new.owned) (is_in (take c.loop-owner.owner-index c.args.owners.now) w) owner c.args.object w (c.loop-owner.invariant.listed w)
-          (c.in_ok-list_owned.ensures.ok w c.args.object)
-          (sym (list_any_more (λ (x : Object). same x w) c.args.owners.now c.loop-owner.owner-index none c.loop-owner-test.true) ∙ here);
-      grows = λ w o is. c.list_owned.ensures.grows w o (c.loop-owner.invariant.grows w o is);
+      done = λ w is.
+          listed_more (listed_in c.loop-owner.lists.items c.loop-owner.states) (listed_in c.list_owned.new.lists.items c.list_owned.new.states) (is_in (take i xs) w) (get_or xs i none) c.args.object w
+          (c.loop-owner.invariant.done w) (c.in_ok-list_owned.ensures.grows w c.args.object) c.in_ok-list_owned.ensures.ok (sym (list_any_more (λ (x : Object). same x w) xs i none c.loop-owner-test.true) ∙ is);
+      living = λ o. c.in_ok-list_owned.ensures.living o ∙ c.loop-owner.invariant.living o;
+      grows = λ w o is. c.in_ok-list_owned.ensures.grows w o (c.loop-owner.invariant.grows w o is);
     }

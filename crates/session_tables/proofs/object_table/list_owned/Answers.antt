@@ -1,15 +1,23 @@
-use Rattle.std.proofs.Common.{◌&&◌}
-use Rattle.std.specs.HashMap.{get}
-use Rattle.object_model.specs.Objects.{same, is_in}
-use Rattle.session_tables.specs.Population.{listed_in}
-use Rattle.session_tables.proofs.Living.{list_grown, still_listed}
+use Rattle.std.proofs.Common.{◌≡◌, ◌∙◌, ap, sym, get_or, set}
+use Rattle.object_model.specs.Objects.{is_in}
+use Rattle.session_tables.specs.Filing.{kept}
+use Rattle.session_tables.specs.Population.{list_by, objects_at}
+use Rattle.session_tables.proofs.Living.{at_end, in_front, list_grown, list_read, list_there}
 use Rattle.session_tables.proofs.object_table.list_owned.Goals as goal
 
 pub returns-clause-ok : goal.returns-clause-ok
-returns-clause-ok c = λ w o.
-    list_grown (get same c.args.owned.now) (get same c.open_list.new.owned) (get same c.add_owned.new.owned) c.args.owner c.args.object c.open_list.ensures.keeps c.in_ok-add_owned.ensures.ok w o
+returns-clause-ok c =
+    let lists = c.open_list.new.lists.items in
+    let at = c.in_ok-at.at in
+    let v = c.push.new.self in
+    ap (λ m. is_in (objects_at (set lists at v) m) c.args.object) c.in_ok-at.ensures.at.0
+    ∙ (ap (λ xs. is_in xs c.args.object) (list_there lists at v c.in_ok-at.ensures.at.1 ∙ c.in_ok-push.ensures.items) ∙ at_end c.index_mut.result.now.items c.args.object)
 
 pub returns-clause-grows : goal.returns-clause-grows
 returns-clause-grows c = λ w o is.
-    still_listed (is_in (listed_in (get same c.add_owned.new.owned w)) o) (is_in (listed_in (get same c.args.owned.now w)) o) (same c.args.owner w && same c.args.object o)
-    (list_grown (get same c.args.owned.now) (get same c.open_list.new.owned) (get same c.add_owned.new.owned) c.args.owner c.args.object c.open_list.ensures.keeps c.in_ok-add_owned.ensures.ok w o) is
+    let lists = c.open_list.new.lists.items in
+    let at = c.in_ok-at.at in
+    let v = c.push.new.self in
+    let d = c.index_mut.result.now in
+    list_grown lists at v o (λ here. ap (λ xs. is_in xs o) c.in_ok-push.ensures.items ∙ in_front d.items c.args.object o (ap (λ xs. is_in xs o) (sym (list_read lists at d c.in_ok-at.ensures.at.1 ∙ ap (λ l. l.items) (sym c.index_mut.ensures.value))) ∙ here))
+    (list_by (kept c.open_list.new.states w)) (ap (λ xs. is_in xs o) (c.open_list.ensures.listed w) ∙ is)

@@ -1,4 +1,4 @@
-use Rattle.std.proofs.Common.{◌∙◌, ap, sym, ◌||◌, take, get_or}
+use Rattle.std.proofs.Common.{◌∙◌, ap, sym, ◌||◌, take, get_or, refl}
 use Rattle.std.proofs.lemmas.List.Folds.{list_any_more}
 use Rattle.command_tables.specs.declared.types.ObjectType.TheVariants as ty
 use Rattle.object_model.specs.declared.Object.{Object}
@@ -18,7 +18,7 @@ loop-object-preserved c =
     record {
       births =
           births_more old.births c.loop-object.self.births c.add.new.self.births c.args.created c.args.owners.now xs i none _ less c.loop-object.invariant.births
-          (ap (λ os. record { object = x; created = c.args.created; owners = os }) c.in_ok-from_slice.ensures.items) c.in_ok-add.ensures.births;
+          refl c.in_ok-add.ensures.births;
       living = λ o.
           c.in_ok-add.ensures.living o
           ∙ (added_more (is_in old.living o) (is_in (take i xs) o) (born_in c.loop-object.self.births x) x o (is_in c.loop-object.self.living) (c.loop-object.invariant.living o)
