@@ -4,7 +4,7 @@ use Rattle.std.specs.Prelude.{is_some, slice_get, filter_map, filter, replicate,
 use Rattle.std.specs.List.{list_all, list_any, AllByRecursion}
 use Rattle.std.specs.Option.{option_map_or, option_or}
 use Rattle.std.specs.Result.{IfOk, OnOk}
-use Rattle.std.proofs.lemmas.Bool.{leb-true, ne_eqb}
+use Rattle.std.proofs.lemmas.Bool.{ne_eqb}
 use Rattle.std.proofs.lemmas.List.{length-append}
 use Rattle.std.proofs.lemmas.List.Folds.{list_all-append}
 use Rattle.command_tables.specs.Effects.{type_made}
@@ -437,17 +437,6 @@ breaks_some s b = ap (λ x. makes_instance (Begin b) && s.has_instance || x) (go
     go : (o : Option ℕ) → breaks_into o (Begin b) ≡ is_some o
     go None = refl
     go (Some t) = refl
-
--- a call has at most 1,024 results
-pub few_results : (e : Effect) (n : ℕ) → takes e n ≡ true → n ≤ 1024
-few_results (eff.Create t owner false) n h = omega (arith, eqb-true n 1 h)
-few_results (eff.Create t owner true) n h = leb-true n 1024 h
-few_results (eff.Retrieve t owner false) n h = omega (arith, eqb-true n 1 h)
-few_results (eff.Retrieve t owner true) n h = leb-true n 1024 h
-few_results eff.None n h = omega (arith, eqb-true n 0 h)
-few_results (eff.Destroy x) n h = omega (arith, eqb-true n 0 h)
-few_results (eff.Free x) n h = omega (arith, eqb-true n 0 h)
-few_results (eff.Reset x) n h = omega (arith, eqb-true n 0 h)
 
 -- a begin without its payload
 abbrev pub bare : BeginEvent → BeginEvent
