@@ -29,7 +29,7 @@ pub fn traces_that_are_cut()
 
 /// A line's own fault comes before those of its place, and those of an earlier line before any of a later one.
 pub fn the_first_fault_stops()
-    ensures own_before_place { stop (headed (codes "b 1 vkCreateInstance = %1.1 VK_SUCCESS" ∷ codes "b 1 vkDestroyInstance %1.1 VK_SUCCESS" ∷ [])) ≡ stop_at 3 fault.Code }
-    ensures place { stop (headed (codes "b 1 vkCreateInstance = %1.1 VK_SUCCESS" ∷ codes "b 1 vkDestroyInstance %1.1 void" ∷ codes "x" ∷ [])) ≡ stop_at 3 fault.Busy }
-    ensures line_before_end { stop (headed (codes "b 1 vkCreateInstance = %1.1 VK_SUCCESS" ∷ [] ∷ [])) ≡ stop_at 3 fault.Letter }
+    ensures own_before_place { stop (headed (codes "b 1 vkCreateInstance = %1.1 VK_SUCCESS" ∷ codes "b 1 vkDestroyInstance %1.1 VK_SUCCESS" ∷ [])) ≡ Some (at_fault 3 fault.Code) }
+    ensures place { stop (headed (codes "b 1 vkCreateInstance = %1.1 VK_SUCCESS" ∷ codes "b 1 vkDestroyInstance %1.1 void" ∷ codes "x" ∷ [])) ≡ Some (at_fault 3 fault.Busy) }
+    ensures line_before_end { stop (headed (codes "b 1 vkCreateInstance = %1.1 VK_SUCCESS" ∷ [] ∷ [])) ≡ Some (at_fault 3 fault.Letter) }
 {}
