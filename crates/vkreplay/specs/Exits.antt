@@ -16,13 +16,13 @@ pub record ExitsWith (p : Process) (code : ℕ) : Type 0 where
   pub status : Status
   pub session : Option Kept
   pub keeps : Keeps p status session
-  pub code : code ≡ status_code status
+  pub is : code ≡ status_code status
 
 -- the words couldn't be had: nothing is done but that the status's line is said
 pub record ExitsWordless (why : Wordless) (run : Run) (errs : Change) (code : ℕ) : Type 0 where
   pub nothing : DidNothing run
   pub said : Said (wordless_line why) errs
-  pub code : code ≡ status_code (wordless_status why)
+  pub is : code ≡ status_code (wordless_status why)
 
 -- the exit status, by the process's words or why they can't be had
 abbrev pub Exits : Result (Vec (String Global) Global) Wordless → Run → Change → ℕ → Type 0
