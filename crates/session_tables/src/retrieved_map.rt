@@ -1,6 +1,7 @@
 // Retrieved objects by their keys.
 ghost use Rattle.std.specs.Prelude.{◌≡◌, ◌==◌, ◌<◌, ◌^◌, None, Some, OnOk, OnErr, IfOk, IfSome, if◌then◌else◌, length, true};
 ghost use Rattle.std.specs.HashMap.{get};
+ghost use Rattle.std.specs.Option.{option_copied};
 ghost use Rattle.session_tables.specs.declared.retrieved_map.RetrievedKey.{RetrievedKey};
 ghost use Rattle.session_tables.specs.Filing.{kept};
 ghost use Rattle.session_tables.specs.Retrieved.{FitsRow, near_key, object_for, same_key};
@@ -41,6 +42,8 @@ pub struct RetrievedMap {
     alloc: Global,
 }
 
+#[cold]
+#[inline(never)]
 #[tactic(auto, unfolding(command_tables::specs::Tests::same_type))]
 fn other(others: &HashMap<RetrievedKey, Object>, key: &RetrievedKey) -> Option<Object>
     ensures { result ≡ get same_key others.now key.now }
@@ -52,12 +55,12 @@ fn other(others: &HashMap<RetrievedKey, Object>, key: &RetrievedKey) -> Option<O
     }
 }
 
-fn near(
-    rows: &[Vec<Option<RetrievedPlace>>],
+fn near<'a>(
+    rows: &'a [Vec<Option<RetrievedPlace>>],
     owners: &ObjectMap<usize>,
     key: &RetrievedKey,
-) -> Option<RetrievedPlace>
-    ensures { result ≡ near_key rows.now owners.now key.now }
+) -> Option<&'a RetrievedPlace>
+    ensures { option_copied result ≡ near_key rows.now owners.now key.now }
 {
     if key.payload.as_slice().is_empty() {
         match owners.get(key.owner) {
