@@ -1,9 +1,9 @@
 pub mod Lists
 pub mod Objects
-pub mod Found
 pub mod Shown
 pub mod Same
 pub mod Living
 pub mod FilingLemmas
 pub mod Names
 pub mod BirthLemmas
+pub mod RetrievedLemmas

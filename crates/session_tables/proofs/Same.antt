@@ -9,9 +9,9 @@ use Rattle.command_tables.specs.Tests.{same_type}
 use denote.Enum.Bare.{same_true}
 use Rattle.object_model.specs.Objects.{same, are_same}
 use Rattle.replay_model.specs.Births.{is_kept}
-use Rattle.session_tables.specs.declared.retrieved_table.RetrievedKey.{RetrievedKey}
+use Rattle.session_tables.specs.declared.retrieved_map.RetrievedKey.{RetrievedKey}
 use Rattle.session_tables.specs.declared.retrieved_table.RetrievedEntry.{RetrievedEntry}
-use Rattle.session_tables.specs.Shown.{has_key, retrieval_of, same_key}
+use Rattle.session_tables.specs.Retrieved.{has_key, retrieval_of, same_key}
 use Rattle.session_tables.proofs.Objects.{same-true, type_is}
 use Rattle.trace_format.specs.declared.event.Name.{Name}
 use Rattle.trace_format.specs.Accepting.{same_name}

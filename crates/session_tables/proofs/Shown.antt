@@ -6,16 +6,10 @@ use Rattle.std.proofs.lemmas.List.{reverse-append, map-append}
 use Rattle.std.specs.Prelude.{unwrap_or}
 use Rattle.object_model.specs.declared.Object.{Object}
 use Rattle.object_model.specs.Objects.{same}
-use Rattle.replay_model.specs.Past.{Retrieval}
-use Rattle.replay_model.specs.Births.{is_kept}
 use Rattle.replay_model.specs.Direct.{Valued, last_values, value_for}
-use Rattle.session_tables.specs.declared.retrieved_table.RetrievedEntry.{RetrievedEntry}
-use Rattle.session_tables.specs.declared.retrieved_table.RetrievedKey.{RetrievedKey}
 use Rattle.session_tables.specs.declared.value_table.ValueEntry.{ValueEntry}
-use Rattle.session_tables.specs.Places.{first_place}
-use Rattle.session_tables.specs.Shown.{value_of, values_shown, last_value, retrieval_of, retrieved_shown, has_key}
+use Rattle.session_tables.specs.Shown.{value_of, values_shown, last_value}
 use Rattle.session_tables.proofs.Lists.{find_map, mapped}
-use Rattle.session_tables.proofs.Found.{find_first}
 
 -- ---- values
 
@@ -48,16 +42,3 @@ value_more vs v o = ap (λ (xs : List ValueEntry). option_map (λ (x : ValueEntr
     go : (t : Bool) → option_map (λ (x : ValueEntry). x.value) (cond t (Some v) (find (λ (x : ValueEntry). same x.object o) (reverse vs))) ≡ cond t (Some v.value) (last_value vs o)
     go true = refl
     go false = refl
-
--- ---- retrieved objects
-
-object_mapped : (f : Option RetrievedEntry) → option_map (λ (r : Retrieval). r.object) (mapped retrieval_of f) ≡ option_map (λ (e : RetrievedEntry). e.object) f
-object_mapped None = refl
-object_mapped (Some e) = refl
-
--- an object that has a key stands in the first place of that key
-pub kept_indexed : (es : List RetrievedEntry) (k : RetrievedKey) (p : Option ℕ) → p ≡ first_place (has_key k) es
-    → option_map (λ (r : Retrieval). r.object) (find (is_kept k.ty (Some k.owner) k.place k.payload.items) (retrieved_shown es)) ≡ option_map (λ (e : RetrievedEntry). e.object) (option_and_then (slice_get es) p)
-kept_indexed es k p is =
-    ap (option_map (λ (r : Retrieval). r.object)) (find_map (is_kept k.ty (Some k.owner) k.place k.payload.items) retrieval_of es)
-    ∙ (object_mapped (find (has_key k) es) ∙ ap (option_map (λ (e : RetrievedEntry). e.object)) (find_first (has_key k) es ∙ ap (option_and_then (slice_get es)) (sym is)))

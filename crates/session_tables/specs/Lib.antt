@@ -1,6 +1,6 @@
 pub mod Dense
 pub mod Filing
 pub mod Births
-pub mod Places
 pub mod Population
 pub mod Shown
+pub mod Retrieved

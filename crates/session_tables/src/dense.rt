@@ -1,18 +1,19 @@
 // Values by row and place, in plain vectors: a look-up is two reads.
 ghost use Rattle.std.specs.Prelude.{◌≡◌, ◌&&◌, ◌==◌, ◌<◌, ◌^◌, ℕ, Some, OnOk, OnErr, if◌then◌else◌, is_some, length, true};
+ghost use Rattle.std.specs.Option.{option_copied};
 ghost use Rattle.session_tables.specs.Dense.{cell, cell_in};
 
 use std::alloc::{AllocError, Global};
 
 /// The value in a place, if one was put there.
-pub fn value_at<V: Copy>(rows: &[Vec<Option<V>>], row: usize, at: usize) -> Option<V>
-    ensures { result ≡ cell rows.now row at }
+pub fn value_at<V>(rows: &[Vec<Option<V>>], row: usize, at: usize) -> Option<&V>
+    ensures { option_copied result ≡ cell rows.now row at }
 {
     match rows.get(row) {
         None => None,
         Some(cells) => match cells.get(at) {
             None => None,
-            Some(value) => *value,
+            Some(value) => value.as_ref(),
         },
     }
 }

@@ -6,11 +6,11 @@
 
 mod birth_table;
 mod dense;
-mod index;
 mod name_table;
 mod object_map;
 mod object_table;
 mod owners;
+mod retrieved_map;
 mod retrieved_table;
 mod value_table;
 
@@ -18,5 +18,6 @@ pub use birth_table::BirthTable;
 pub use name_table::NameTable;
 pub use object_table::ObjectTable;
 pub use owners::owner;
-pub use retrieved_table::{RetrievedEntry, RetrievedKey, RetrievedTable};
+pub use retrieved_map::RetrievedKey;
+pub use retrieved_table::{RetrievedEntry, RetrievedTable};
 pub use value_table::{ValueEntry, ValueTable};

@@ -70,7 +70,7 @@ impl NameTable {
     pub fn object_named(&self, name: Name) -> Option<Object>
         ensures { result ≡ object_in self.now name }
     {
-        value_at(&self.objects, name.thread as usize, name.number as usize)
+        value_at(&self.objects, name.thread as usize, name.number as usize).copied()
     }
 
     /// Adds a name, in memory up to its number. The first object of a name stays.

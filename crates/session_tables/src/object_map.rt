@@ -1,6 +1,7 @@
 // Values of objects.
 ghost use Rattle.std.specs.Prelude.{◌≡◌, None, Some, OnOk, OnErr, if◌then◌else◌, is_some, true};
 ghost use Rattle.std.specs.HashMap.{get};
+ghost use Rattle.std.specs.Option.{option_copied};
 ghost use Rattle.object_model.specs.declared.Object.{Object};
 ghost use Rattle.object_model.specs.Objects.{same};
 ghost use Rattle.session_tables.specs.Filing.{is_held_for, is_open, kept};
@@ -27,6 +28,8 @@ pub struct ObjectMap<V: Copy + Drop> {
     alloc: Global,
 }
 
+#[cold]
+#[inline(never)]
 #[tactic(auto, unfolding(command_tables::specs::Tests::same_type))]
 fn other<V: Copy + Drop>(others: &HashMap<Object, V>, object: Object) -> Option<V>
     ensures { result ≡ get same others.now object }
@@ -39,8 +42,8 @@ fn other<V: Copy + Drop>(others: &HashMap<Object, V>, object: Object) -> Option<
 }
 
 #[tactic(auto, unfolding(command_tables::specs::Tests::same_type))]
-fn is_free<V: Copy + Drop>(place: Option<Filed<V>>, ty: ObjectType) -> bool
-    ensures { result ≡ is_open place ty }
+fn is_free<V: Copy + Drop>(place: Option<&Filed<V>>, ty: ObjectType) -> bool
+    ensures { result ≡ is_open (option_copied place.entry) ty }
 {
     match place {
         None => true,
@@ -49,8 +52,8 @@ fn is_free<V: Copy + Drop>(place: Option<Filed<V>>, ty: ObjectType) -> bool
 }
 
 #[tactic(auto, unfolding(command_tables::specs::Tests::same_type))]
-fn is_held<V: Copy + Drop>(place: Option<Filed<V>>, ty: ObjectType) -> bool
-    ensures { result ≡ is_held_for place ty }
+fn is_held<V: Copy + Drop>(place: Option<&Filed<V>>, ty: ObjectType) -> bool
+    ensures { result ≡ is_held_for (option_copied place.entry) ty }
 {
     match place {
         None => false,

@@ -4,7 +4,7 @@ ghost use Rattle.std.specs.List.{list_all, list_any, filter_map};
 ghost use Rattle.std.specs.Option.{option_map_or};
 ghost use Rattle.object_model.specs.declared.Object.{Object};
 ghost use Rattle.object_model.specs.Objects.{same, is_in, object_of};
-ghost use Rattle.object_model.specs.History.{births_given, births_of, born_in, created_in, ends_by, ends_with, owners_in};
+ghost use Rattle.object_model.specs.History.{births_given, births_of, born_in, created_in, ends_by, ends_with, owners_given, owners_in};
 ghost use Rattle.replay_model.specs.Past.{objects_of};
 ghost use Rattle.session_tables.specs.Filing.{kept};
 ghost use Rattle.session_tables.specs.Population.{LivesToo, list_by, listed_in, lives_by, lives_in, objects_at};
@@ -12,12 +12,13 @@ ghost use Rattle.session_tables.specs.Shown.{args_shown};
 
 use crate::birth_table::BirthTable;
 use crate::object_map::ObjectMap;
-use crate::owners::{arguments_at, object_in_place, owners_for};
-use command_tables::Effect;
+use crate::owners::{arguments_at, fill_owners, object_in_place};
+use command_tables::{Effect, OwnerOf};
 use object_model::{Argument, Object};
 use replay_model::Born;
 use std::alloc::{AllocError, Global};
 use std::marker::Model;
+use std::mem;
 
 /// What is kept of an object: whether it lives, and which list has what was born below it.
 #[derive(Clone, Copy)]
@@ -33,6 +34,9 @@ pub struct ObjectTable {
     births: BirthTable,
     states: ObjectMap<ObjectState>,
     lists: Vec<Vec<Object>>,
+    // Room that is used again at each return: the owners, and the objects that weren't born before.
+    owners: Vec<Object>,
+    fresh: Vec<Object>,
 }
 
 impl Model for ObjectTable {
@@ -193,14 +197,33 @@ fn list_at_each(
     Ok(())
 }
 
-// The results whose objects weren't born before.
-fn fresh(alloc: Global, births: &BirthTable, made: &[Born]) -> Result<Vec<Object>, AllocError>
-    ensures { IfOk result (λ v. v.items ≡ filter (λ o. not (born_in births.now o)) (objects_of made.now)) }
+// An object is added that wasn't born before.
+fn add_fresh(
+    fresh: &mut Vec<Object>,
+    births: &BirthTable,
+    object: Object,
+) -> Result<(), AllocError>
+    ensures { OnOk result (fresh.new.items ≡ fresh.old.items ++ filter (λ o. not (born_in births.now o)) (object ∷ [])) }
 {
-    made.iter()
-        .map(|b| b.object)
-        .filter(|o| !births.is_born(*o))
-        .collect(alloc)
+    if !births.is_born(object) {
+        fresh.push(object)?;
+    }
+    Ok(())
+}
+
+// Fills a list with the results' objects that weren't born before. What stood in the list before is gone.
+fn fill_fresh(
+    fresh: &mut Vec<Object>,
+    births: &BirthTable,
+    made: &[Born],
+) -> Result<(), AllocError>
+    ensures { OnOk result (fresh.new.items ≡ filter (λ o. not (born_in births.now o)) (objects_of made.now)) }
+{
+    fresh.clear();
+    for born in made {
+        add_fresh(fresh, births, born.object)?;
+    }
+    Ok(())
 }
 
 impl ObjectTable {
@@ -211,6 +234,8 @@ impl ObjectTable {
             births: BirthTable::new(alloc),
             states: ObjectMap::new(alloc),
             lists: Vec::new(alloc),
+            owners: Vec::new(alloc),
+            fresh: Vec::new(alloc),
         }
     }
 
@@ -371,18 +396,25 @@ impl ObjectTable {
         Ok(())
     }
 
+    // The births of what a call made. The lists that it takes are kept for the next one.
     fn bear_of(
         &mut self,
         alloc: Global,
         created: bool,
-        owners: &[Object],
+        args: &[Vec<Argument>],
+        owner: OwnerOf,
         made: &[Born],
     ) -> Result<(), AllocError>
-        ensures births { OnOk result (self.new.births ≡ self.old.births ++ births_of self.old.births created owners.now (objects_of made.now)) }
-        ensures living { OnOk result (LivesToo self.old.living (births_of self.old.births created owners.now (objects_of made.now)) self.new.living) }
+        ensures births { OnOk result (self.new.births ≡ self.old.births ++ births_of self.old.births created (owners_given self.old.births (args_shown args.now) owner) (objects_of made.now)) }
+        ensures living { OnOk result (LivesToo self.old.living (births_of self.old.births created (owners_given self.old.births (args_shown args.now) owner) (objects_of made.now)) self.new.living) }
     {
-        let objects = fresh(alloc, &self.births, made)?;
-        self.add_all(alloc, created, owners, &objects)?;
+        let mut owners = mem::replace(&mut self.owners, Vec::new(alloc));
+        fill_owners(&mut owners, &self.births, args, owner)?;
+        let mut fresh = mem::replace(&mut self.fresh, Vec::new(alloc));
+        fill_fresh(&mut fresh, &self.births, made)?;
+        self.add_all(alloc, created, &owners, &fresh)?;
+        self.owners = owners;
+        self.fresh = fresh;
         Ok(())
     }
 
@@ -398,14 +430,8 @@ impl ObjectTable {
         ensures living { OnOk result (LivesToo self.old.living (births_given self.old.births (args_shown args.now) effect (objects_of made.now)) self.new.living) }
     {
         match effect {
-            Effect::Create { owner, .. } => {
-                let owners = owners_for(alloc, &self.births, args, owner)?;
-                self.bear_of(alloc, true, &owners, made)
-            }
-            Effect::Retrieve { owner, .. } => {
-                let owners = owners_for(alloc, &self.births, args, owner)?;
-                self.bear_of(alloc, false, &owners, made)
-            }
+            Effect::Create { owner, .. } => self.bear_of(alloc, true, args, owner, made),
+            Effect::Retrieve { owner, .. } => self.bear_of(alloc, false, args, owner, made),
             Effect::None | Effect::Destroy(_) | Effect::Free(_) | Effect::Reset(_) => Ok(()),
         }
     }

@@ -1,5 +1,5 @@
 // The owners of what a call makes.
-ghost use Rattle.std.specs.Prelude.{◌≡◌, [], slice_get, unwrap_or, IfOk};
+ghost use Rattle.std.specs.Prelude.{◌≡◌, [], slice_get, unwrap_or, OnOk};
 ghost use Rattle.object_model.specs.Objects.{first_in, object_of};
 ghost use Rattle.object_model.specs.History.{owners_given};
 ghost use Rattle.replay_model.specs.Past.{owner_by};
@@ -8,7 +8,7 @@ ghost use Rattle.session_tables.specs.Shown.{args_shown};
 use crate::birth_table::BirthTable;
 use command_tables::{Effect, OwnerOf};
 use object_model::{Argument, Object};
-use std::alloc::{AllocError, Global};
+use std::alloc::AllocError;
 
 /// The object for which an argument stands.
 pub fn object_in_place(argument: Argument) -> Option<Object>
@@ -40,31 +40,32 @@ fn first_object(args: &[Vec<Argument>], p: u8) -> Option<Object>
     }
 }
 
-/// The owner of what a call makes, its owner, and so on.
-pub fn owners_for(
-    alloc: Global,
+/// Fills a list with the owner of what a call makes, its owner, and so on. What stood in the list before is gone.
+pub fn fill_owners(
+    owners: &mut Vec<Object>,
     births: &BirthTable,
     args: &[Vec<Argument>],
     owner: OwnerOf,
-) -> Result<Vec<Object>, AllocError>
-    ensures { IfOk result (λ v. v.items ≡ owners_given births.now (args_shown args.now) owner) }
+) -> Result<(), AllocError>
+    ensures { OnOk result (owners.new.items ≡ owners_given births.now (args_shown args.now) owner) }
 {
-    let mut owners = Vec::new(alloc);
+    owners.clear();
     match owner {
-        OwnerOf::Nobody => {}
+        OwnerOf::Nobody => Ok(()),
         OwnerOf::Param(p) => {
             if let Some(object) = first_object(args, p) {
                 owners.push(object)?;
                 owners.extend_from_slice(births.owners_of(object))?;
             }
+            Ok(())
         }
         OwnerOf::OwnerOfParam(p) => {
             if let Some(object) = first_object(args, p) {
                 owners.extend_from_slice(births.owners_of(object))?;
             }
+            Ok(())
         }
     }
-    Ok(owners)
 }
 
 fn owner_for(births: &BirthTable, args: &[Vec<Argument>], owner: OwnerOf) -> Option<Object>

@@ -1,16 +1,14 @@
 // Retrieved objects, by owner and key.
-ghost use Rattle.std.specs.Prelude.{◌≡◌, ◌++◌, ◌∷◌, [], Some, OnOk, OnErr, IfOk, option_and_then, slice_get};
+ghost use Rattle.std.specs.Prelude.{◌≡◌, ◌++◌, ◌∷◌, [], Some, OnOk, OnErr, IfOk, if◌then◌else◌, is_some};
 ghost use Rattle.std.specs.List.{find};
 ghost use Rattle.std.specs.Option.{option_map};
 ghost use Rattle.replay_model.specs.Births.{is_kept};
-ghost use Rattle.session_tables.specs.Shown.{retrieval_of, same_key};
-ghost use Rattle.std.specs.HashMap.{get};
+ghost use Rattle.session_tables.specs.declared.retrieved_map.RetrievedKey.{RetrievedKey};
+ghost use Rattle.session_tables.specs.Retrieved.{object_for, retrieval_of, same_key};
 
-use crate::index::keep_first;
-use command_tables::ObjectType;
+use crate::retrieved_map::{RetrievedKey, RetrievedMap};
 use object_model::Object;
 use std::alloc::{AllocError, Global};
-use std::collections::HashMap;
 use std::marker::Model;
 
 /// A retrieved object with its owner, and its key there.
@@ -22,35 +20,24 @@ pub struct RetrievedEntry {
     pub object: Object,
 }
 
-/// What tells one retrieved object from another.
-#[derive(Drop, PartialEq, Eq, Hash)]
-pub struct RetrievedKey {
-    pub ty: ObjectType,
-    pub owner: Object,
-    pub place: usize,
-    pub payload: Vec<u8>,
-}
-
 /// The retrieved objects, the oldest first. An object is found by one look-up.
 #[derive(Drop)]
 pub struct RetrievedTable {
     list: Vec<RetrievedEntry>,
-    places: HashMap<RetrievedKey, usize>,
+    index: RetrievedMap,
 }
 
 impl Model for RetrievedTable {
     ghost use Rattle.std.specs.Prelude.{◌≡◌, List};
-    ghost use Rattle.std.specs.HashMap.{get};
     ghost use Rattle.replay_model.specs.Past.{Retrieval};
-    ghost use Rattle.session_tables.specs.Places.{first_place};
-    ghost use Rattle.session_tables.specs.Shown.{has_key, retrieved_shown, same_key};
-    ghost use Rattle.session_tables.specs.declared.retrieved_table.RetrievedKey.{RetrievedKey};
+    ghost use Rattle.session_tables.specs.declared.retrieved_map.RetrievedKey.{RetrievedKey};
+    ghost use Rattle.session_tables.specs.Retrieved.{first_kept, object_for, retrieved_shown};
 
     ghost Value = { List Retrieval };
 
     ghost view = { λ t. retrieved_shown t.list.items };
 
-    ghost invariant = { λ t. (k : RetrievedKey) → get same_key t.places k ≡ first_place (has_key k) t.list.items };
+    ghost invariant = { λ t. (k : RetrievedKey) → object_for t.index k ≡ first_kept t.list.items k };
 }
 
 // The key of an entry with an owner.
@@ -69,19 +56,18 @@ fn key_with(
     })
 }
 
-#[tactic(auto, unfolding(command_tables::specs::Tests::same_type))]
-fn place_with(places: &HashMap<RetrievedKey, usize>, key: &RetrievedKey) -> Option<usize>
-    ensures { result ≡ get same_key places.now key.now }
+// The first object of a key stays.
+fn keep_first(index: &mut RetrievedMap, key: RetrievedKey, object: Object) -> Result<(), AllocError>
+    requires { object.ty ≡ key.ty }
+    ensures ok { OnOk result ((k : RetrievedKey) → object_for index.new k ≡ (if is_some (object_for index.old key) then object_for index.old k else (if same_key key k then Some object else object_for index.old k))) }
+    ensures err { OnErr result ((k : RetrievedKey) → object_for index.new k ≡ object_for index.old k) }
 {
-    places.get(key).copied()
-}
-
-fn object_at(list: &[RetrievedEntry], place: Option<usize>) -> Option<Object>
-    ensures { result ≡ option_map (λ e. e.object) (option_and_then (slice_get list.now) place) }
-{
-    match place {
-        None => None,
-        Some(place) => list.get(place).map(|e| e.object),
+    match index.get(&key) {
+        Some(_) => Ok(()),
+        None => {
+            index.put(key, object)?;
+            Ok(())
+        }
     }
 }
 
@@ -91,15 +77,16 @@ impl RetrievedTable {
     {
         RetrievedTable {
             list: Vec::new(alloc),
-            places: HashMap::new(alloc),
+            index: RetrievedMap::new(alloc),
         }
     }
 
     /// The object with a key, if there is one.
+    #[tactic(auto, using(crate::proofs::RetrievedLemmas::kept_first))]
     pub fn object_with(&self, key: &RetrievedKey) -> Option<Object>
         ensures { result ≡ option_map (λ r. r.object) (find (is_kept key.now.ty (Some key.now.owner) key.now.place key.now.payload.items) self.now) }
     {
-        object_at(&self.list, place_with(&self.places, key))
+        self.index.get(key)
     }
 
     // An entry with an owner.
@@ -109,7 +96,7 @@ impl RetrievedTable {
         ensures err { OnErr result (self.new ≡ self.old) }
     {
         self.list.reserve(1)?;
-        keep_first(&mut self.places, key, self.list.as_slice().len())?;
+        keep_first(&mut self.index, key, entry.object)?;
         self.list.push(entry)?;
         Ok(())
     }
