@@ -9,5 +9,4 @@ pub fn values_by_policy()
     ensures reused { ReusedIsLeast }
     ensures out { GivenIsOut }
     ensures back { BackIsNotOut }
-{
-}
+{}

@@ -58,7 +58,12 @@ fn call_of(alloc: Global, step: &Step) -> Result<DriverCall, Fail> {
     })
 }
 
-fn play<D: Driver>(rt: &impl Abort, alloc: Global, driver: &mut D, steps: &[Step]) -> Result<(), Fail> {
+fn play<D: Driver>(
+    rt: &impl Abort,
+    alloc: Global,
+    driver: &mut D,
+    steps: &[Step],
+) -> Result<(), Fail> {
     let mut reply = DriverReply::with_room(alloc, 8).ok().ok_or("memory")?;
     for step in steps {
         let call = call_of(alloc, step)?;
@@ -138,7 +143,12 @@ fn values_by_each_policy(rt: HostRuntime) -> Result<(), Fail> {
     ];
     play(&rt, alloc, &mut driver, &share)?;
     driver.prepare(Policy::Reuse);
-    let reuse = [create(0, &[1]), create(0, &[3]), create(1, &[3]), create(2, &[2])];
+    let reuse = [
+        create(0, &[1]),
+        create(0, &[3]),
+        create(1, &[3]),
+        create(2, &[2]),
+    ];
     play(&rt, alloc, &mut driver, &reuse)?;
     driver.prepare(Policy::Fresh);
     play(&rt, alloc, &mut driver, &[create(0, &[4]), create(2, &[3])])
@@ -164,8 +174,16 @@ fn many_values(rt: HostRuntime) -> Result<(), Fail> {
     }
     driver.call(&call, &mut reply).ok().ok_or("memory")?;
     assert_eq!(rt; reply.handles.len(), 1024);
-    assert_eq!(rt; (reply.handles.first(), reply.handles.last()), (Some(&1), Some(&1024)));
-    let freed: Vec<u64> = reply.handles.iter().copied().filter(|v| v % 2 == 0).collect(alloc)?;
+    assert_eq!(rt;
+        (reply.handles.first(), reply.handles.last()),
+        (Some(&1), Some(&1024))
+    );
+    let freed: Vec<u64> = reply
+        .handles
+        .iter()
+        .copied()
+        .filter(|v| v % 2 == 0)
+        .collect(alloc)?;
     call.body.cmd = CommandId::FreeCommandBuffers;
     call.body.asked = 0;
     if call.body.args.len() >= 6 {
@@ -182,7 +200,12 @@ fn many_values(rt: HostRuntime) -> Result<(), Fail> {
     play_one(&rt, alloc, &mut driver, 1025)
 }
 
-fn play_one<D: Driver>(rt: &impl Abort, alloc: Global, driver: &mut D, value: u64) -> Result<(), Fail> {
+fn play_one<D: Driver>(
+    rt: &impl Abort,
+    alloc: Global,
+    driver: &mut D,
+    value: u64,
+) -> Result<(), Fail> {
     let mut reply = DriverReply::with_room(alloc, 0).ok().ok_or("memory")?;
     let call = call_of(alloc, &create(0, &[]))?;
     if !call.has_shape() {
@@ -209,7 +232,10 @@ fn what_is_recorded(rt: HostRuntime) -> Result<(), Fail> {
     play(&rt, alloc, &mut driver, &steps)?;
     assert_eq!(rt; driver.log().len(), steps.len());
     for ((call, reply), step) in driver.log().iter().zip(&steps) {
-        assert_eq!(rt; (call.driver, call.body.cmd, call.body.asked), (step.driver, step.cmd, step.asked));
+        assert_eq!(rt;
+            (call.driver, call.body.cmd, call.body.asked),
+            (step.driver, step.cmd, step.asked)
+        );
         assert_eq!(rt; call.body.args.len(), step.args.len());
         assert_eq!(rt; reply.code, step.code);
         assert_eq!(rt; reply.handles.as_slice(), step.gives);

@@ -1,0 +1,5 @@
+pub mod Links
+pub mod Flat
+pub mod Tables
+pub mod Adding
+pub mod Putting

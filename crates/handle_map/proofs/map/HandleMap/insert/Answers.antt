@@ -1,0 +1,23 @@
+use Rattle.std.proofs.Common.{◌≡◌, ◌<◌, arith}
+use Rattle.handle_map.specs.Chains.{IsPlace, entries_of, put_at}
+use Rattle.handle_map.specs.declared.entry.Entry.{Entry}
+use Rattle.handle_map.specs.Pairs.{with_values}
+use Rattle.handle_map.proofs.Adding.{none_of, on_ok_is, with_new, with_put}
+use Rattle.handle_map.proofs.map.HandleMap.insert.Goals as goal
+
+pub add-requires : goal.add-requires
+add-requires g c = (omega arith, rw (← c.self.view_is) (none_of c.self.inside.entries.items c.self.inside.values.items c.args.ty c.args.id (rw c.deref.ensures.value at c.in-None.ensures.none)))
+
+pub returns-in-Some-clause-ok : goal.returns-in-Some-clause-ok
+returns-in-Some-clause-ok g c =
+    let at : IsPlace c.self.inside.entries.items c.args.ty c.args.id c.in-Some.place = rw c.deref.ensures.value at c.in-Some.ensures.found in
+    let d : Entry = record { ty = c.args.ty; id = 0; next = 0; start = 0; len = 0; room = 0 } in
+    let same : put_at c.args.self.now.entries c.in-Some.place c.args.values.now ≡ with_values c.args.self.now.entries c.args.ty c.args.id c.args.values.now
+    = rw (← c.self.view_is) (with_put c.self.inside.entries.items c.self.inside.values.items c.args.ty c.args.id c.in-Some.place d c.args.values.now c.self.invariant.distinct at.within (at.pair d)) in
+    on_ok_is c.put.result _ _ _ same c.put.ensures.ok
+
+pub returns-in-None-clause-ok : goal.returns-in-None-clause-ok
+returns-in-None-clause-ok g c =
+    on_ok_is c.add.result _ _ _
+    (with_new c.args.self.now.entries c.args.ty c.args.id c.args.values.now (rw (← c.self.view_is) (none_of c.self.inside.entries.items c.self.inside.values.items c.args.ty c.args.id (rw c.deref.ensures.value at c.in-None.ensures.none))))
+    c.add.ensures.ok

@@ -1,0 +1,51 @@
+-- A list of values by type and id, which holds each pair once. Source: this project.
+use Rattle.std.specs.Prelude.{◌≡◌, ℕ, ◌*◌, ◌≤◌, Bool, false, ◌&&◌, ◌==◌, if◌then◌else◌, max, Option, List, [], ◌∷◌, find}
+use Rattle.std.specs.List.{list_any}
+use Rattle.std.specs.Option.{option_map}
+use Rattle.command_tables.specs.declared.types.ObjectType.{ObjectType}
+use Rattle.command_tables.specs.Tests.{same_type}
+
+-- the values of a pair of a type and an id
+pub record MapEntry : Type 0 where
+  pub ty : ObjectType
+  pub id : ℕ
+  pub values : List ℕ
+
+-- the entries in order of insertion; and how many further entries, and how many further values in all, can be held with no further
+-- memory
+pub record MapState : Type 0 where
+  pub entries : List MapEntry
+  pub spare : ℕ
+  pub room : ℕ
+
+-- the entry is of this pair
+abbrev pub is_pair : ObjectType → ℕ → MapEntry → Bool
+is_pair ty id e = same_type e.ty ty && e.id == id
+
+-- there is an entry of the pair
+abbrev pub has_pair : List MapEntry → ObjectType → ℕ → Bool
+has_pair entries ty id = list_any (is_pair ty id) entries
+
+-- the values of a pair, where it has an entry
+abbrev pub values_of : List MapEntry → ObjectType → ℕ → Option (List ℕ)
+values_of entries ty id = option_map (λ e. e.values) (find (is_pair ty id) entries)
+
+-- the pair has these values now: in its place, or last where it is new
+abbrev pub with_values : List MapEntry → ObjectType → ℕ → List ℕ → List MapEntry
+with_values [] ty id values = record { ty = ty; id = id; values = values } ∷ []
+with_values (e ∷ entries) ty id values = if is_pair ty id e then record e { values = values } ∷ entries else e ∷ with_values entries ty id values
+
+-- no pair stands twice
+abbrev pub AreDistinct : List MapEntry → Type 0
+AreDistinct [] = Unit {0}
+AreDistinct (e ∷ entries) = (has_pair entries e.ty e.id ≡ false) × AreDistinct entries
+
+-- the greatest id, or 0 where there is no entry
+abbrev pub greatest_id : List MapEntry → ℕ
+greatest_id [] = 0
+greatest_id (e ∷ entries) = max e.id (greatest_id entries)
+
+-- so many further entries, each with at most so many values, can be held with no further memory
+pub record HasSpare (m : MapState) (entries values : ℕ) : Type 0 where
+  pub spare : entries ≤ m.spare
+  pub room : entries * values ≤ m.room
