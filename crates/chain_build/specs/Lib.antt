@@ -1,0 +1,9 @@
+pub mod Setup
+pub mod Switches
+pub mod Expanding
+pub mod Override
+pub mod Parts
+pub mod Chain
+pub mod Answers
+pub mod Holding
+pub mod Knowing

@@ -1,0 +1,25 @@
+//! Builds the chain of layers between an application and the drivers, as the loader does at vkCreateInstance.
+//! Promises that the answer is one filtered list of what the setup, the variables and the application name, with parts guarded.
+//! Leaves to others how manifests are found and read (`layer_search`), what the parts do, and how a chain is printed.
+#![tactic(auto)]
+
+mod answers;
+mod builder;
+mod by_name;
+mod chains;
+mod copies;
+mod expanded;
+mod expanding;
+mod expansions;
+mod listed;
+mod parts;
+mod pieces;
+mod setup;
+mod switches;
+
+pub use answers::{Chain, ChainAnswer, ChainError, ChainNote};
+pub use chains::build;
+pub use expansions::expand;
+pub use parts::PartKind;
+pub use setup::Setup;
+pub use switches::implicit_on;
