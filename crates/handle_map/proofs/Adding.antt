@@ -377,3 +377,20 @@ pub read_at : (xs : List ℕ) (i x : ℕ) → i < length xs → x ≡ get_or xs 
 read_at [] i x within at = absurd (omega (arith, within))
 read_at (y ∷ xs) zero x within at = at
 read_at (y ∷ xs) (suc i) x within at = read_at xs i x (omega (arith, within)) at
+
+-- the greatest id with one pair more
+pub greatest_with : (es : List MapEntry) (t : ObjectType) (id : ℕ) (vs : List ℕ) → greatest_id (with_values es t id vs) ≡ max (greatest_id es) id
+greatest_with [] t id vs = omega arith
+greatest_with (e ∷ es) t id vs = go (is_pair t id e) refl (greatest_with es t id vs)
+  where
+    here : is_pair t id e ≡ true → max e.id (greatest_id es) ≡ max (max e.id (greatest_id es)) id
+    here is = let same : e.id ≡ id = eqb-true e.id id (and_true (same_type e.ty t) (e.id == id) is).1 in omega arith
+
+    go : (b : Bool) → is_pair t id e ≡ b → greatest_id (with_values es t id vs) ≡ max (greatest_id es) id
+        → greatest_id (cond b (record e { values = vs } ∷ es) (e ∷ with_values es t id vs)) ≡ max (max e.id (greatest_id es)) id
+    go true is rest = here is
+    go false is rest = ap (max e.id) rest ∙ omega arith
+
+pub greatest_so : {T E : Type 0} (r : Result T E) (behind es : List MapEntry) (t : ObjectType) (id : ℕ) (vs : List ℕ) → OnOk r (behind ≡ with_values es t id vs) → OnOk r (greatest_id behind ≡ max (greatest_id es) id)
+greatest_so (Ok x) behind es t id vs is = ap greatest_id is ∙ greatest_with es t id vs
+greatest_so (Err x) behind es t id vs is = is

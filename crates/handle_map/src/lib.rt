@@ -6,6 +6,8 @@
 mod chain;
 mod entry;
 mod map;
+#[cfg(test)]
+mod tests;
 mod values;
 
 pub use map::HandleMap;

@@ -1,5 +1,5 @@
 //! Values by type and id.
-ghost use Rattle.std.specs.Prelude.{◌≡◌, ◌≤◌, ◌<◌, ◌+◌, ◌^◌, ◌++◌, ◌∷◌, [], length, false, ◌==◌, IfSome, IfNone, IsOk, OnOk, OnErr, Some, None};
+ghost use Rattle.std.specs.Prelude.{◌≡◌, ◌≤◌, ◌<◌, ◌+◌, ◌^◌, ◌++◌, ◌∷◌, [], length, max, false, ◌==◌, IfSome, IfNone, IsOk, OnOk, OnErr, Some, None};
 ghost use Rattle.handle_map.specs.Chains.{put_at};
 ghost use Rattle.handle_map.specs.Pairs.{AreDistinct, HasSpare, greatest_id, has_pair, values_of, with_values};
 
@@ -128,6 +128,7 @@ impl<const S: usize> HandleMap<S> {
     /// only where there was no room.
     pub fn insert(&mut self, ty: ObjectType, id: u64, values: &[u64]) -> Result<(), NoMemory>
         ensures ok { OnOk result (self.new.entries ≡ with_values self.old.entries ty id values.now) }
+        ensures greatest { OnOk result (greatest_id self.new.entries ≡ max (greatest_id self.old.entries) id) }
         ensures err { OnErr result (self.new.entries ≡ self.old.entries) }
         ensures succeeds { 1 ≤ self.old.spare → length values.now ≤ self.old.room → IsOk result }
         ensures spare { self.old.spare ≤ self.new.spare + 1 }

@@ -2,7 +2,7 @@ use Rattle.std.proofs.Common.{◌≡◌, ◌<◌, arith}
 use Rattle.handle_map.specs.Chains.{IsPlace, entries_of, put_at}
 use Rattle.handle_map.specs.declared.entry.Entry.{Entry}
 use Rattle.handle_map.specs.Pairs.{with_values}
-use Rattle.handle_map.proofs.Adding.{none_of, on_ok_is, with_new, with_put}
+use Rattle.handle_map.proofs.Adding.{greatest_so, none_of, on_ok_is, with_new, with_put}
 use Rattle.handle_map.proofs.map.HandleMap.insert.Goals as goal
 
 pub add-requires : goal.add-requires
@@ -21,3 +21,9 @@ returns-in-None-clause-ok g c =
     on_ok_is c.add.result _ _ _
     (with_new c.args.self.now.entries c.args.ty c.args.id c.args.values.now (rw (← c.self.view_is) (none_of c.self.inside.entries.items c.self.inside.values.items c.args.ty c.args.id (rw c.deref.ensures.value at c.in-None.ensures.none))))
     c.add.ensures.ok
+
+pub returns-in-Some-clause-greatest : goal.returns-in-Some-clause-greatest
+returns-in-Some-clause-greatest g c = greatest_so c.put.result c.put.new.self.entries c.args.self.now.entries c.args.ty c.args.id c.args.values.now (returns-in-Some-clause-ok g c)
+
+pub returns-in-None-clause-greatest : goal.returns-in-None-clause-greatest
+returns-in-None-clause-greatest g c = greatest_so c.add.result c.add.new.self.entries c.args.self.now.entries c.args.ty c.args.id c.args.values.now (returns-in-None-clause-ok g c)

@@ -1,0 +1,145 @@
+//! Maps over a table of operations, for one chain and for many.
+ghost use Rattle.std.specs.Prelude.{◌≤◌};
+
+use crate::HandleMap;
+use command_tables::ObjectType;
+use std::alloc::Global;
+use std::process::Abort;
+use std::test::Fail;
+
+#[test]
+fn one_entry_in_its_room(rt: HostRuntime) -> Result<(), Fail> {
+    let mut map: HandleMap<64> = HandleMap::new(rt.alloc());
+    assert_eq!(rt; map.next_id(), 1);
+    map.reserve(1, 1).ok().ok_or("memory")?;
+    map.insert(ObjectType::Buffer, 1, &[7])
+        .ok()
+        .ok_or("memory")?;
+    assert_eq!(rt; map.get(ObjectType::Buffer, 1), Some([7].as_slice()));
+    assert_eq!(rt; map.len(), 1);
+    Ok(())
+}
+
+// An insert, and what stands there then: the values of all pairs, in order of insertion.
+#[derive(Clone, Copy)]
+struct Step {
+    ty: ObjectType,
+    id: u64,
+    values: &'static [u64],
+    all: &'static [(ObjectType, u64, &'static [u64])],
+}
+
+const STEPS: [Step; 7] = [
+    Step {
+        ty: ObjectType::Buffer,
+        id: 1,
+        values: &[7],
+        all: &[(ObjectType::Buffer, 1, &[7])],
+    },
+    Step {
+        ty: ObjectType::Image,
+        id: 1,
+        values: &[8, 9],
+        all: &[
+            (ObjectType::Buffer, 1, &[7]),
+            (ObjectType::Image, 1, &[8, 9]),
+        ],
+    },
+    Step {
+        ty: ObjectType::Image,
+        id: 1,
+        values: &[],
+        all: &[(ObjectType::Buffer, 1, &[7]), (ObjectType::Image, 1, &[])],
+    },
+    Step {
+        ty: ObjectType::Buffer,
+        id: 1,
+        values: &[1, 2, 3],
+        all: &[
+            (ObjectType::Buffer, 1, &[1, 2, 3]),
+            (ObjectType::Image, 1, &[]),
+        ],
+    },
+    Step {
+        ty: ObjectType::Image,
+        id: 1,
+        values: &[4, 5],
+        all: &[
+            (ObjectType::Buffer, 1, &[1, 2, 3]),
+            (ObjectType::Image, 1, &[4, 5]),
+        ],
+    },
+    Step {
+        ty: ObjectType::Fence,
+        id: 70,
+        values: &[6],
+        all: &[
+            (ObjectType::Buffer, 1, &[1, 2, 3]),
+            (ObjectType::Image, 1, &[4, 5]),
+            (ObjectType::Fence, 70, &[6]),
+        ],
+    },
+    Step {
+        ty: ObjectType::Instance,
+        id: 0,
+        values: &[u64::MAX],
+        all: &[
+            (ObjectType::Buffer, 1, &[1, 2, 3]),
+            (ObjectType::Image, 1, &[4, 5]),
+            (ObjectType::Fence, 70, &[6]),
+            (ObjectType::Instance, 0, &[u64::MAX]),
+        ],
+    },
+];
+
+fn play<const S: usize>(rt: &impl Abort, alloc: Global) -> Result<(), Fail>
+    requires { 1 ≤ S }
+{
+    let mut map: HandleMap<S> = HandleMap::new(alloc);
+    for step in &STEPS {
+        map.insert(step.ty, step.id, step.values)
+            .ok()
+            .ok_or("memory")?;
+        assert_eq!(rt; map.len(), step.all.len());
+        for (ty, id, values) in step.all {
+            assert!(rt; map.get(*ty, *id) == Some(*values));
+        }
+        assert!(rt; map.get(ObjectType::Fence, 1).is_none());
+        assert!(rt; map.get(ObjectType::Buffer, 64 + 1).is_none());
+        assert!(rt; map.get(ObjectType::Buffer, u64::MAX).is_none());
+    }
+    Ok(())
+}
+
+#[test]
+fn maps_of_one_chain_and_of_many(rt: HostRuntime) -> Result<(), Fail> {
+    play::<1>(&rt, rt.alloc())?;
+    play::<64>(&rt, rt.alloc())
+}
+
+#[test]
+fn the_next_id_is_above_a_gap(rt: HostRuntime) -> Result<(), Fail> {
+    let mut map: HandleMap<64> = HandleMap::new(rt.alloc());
+    map.insert(ObjectType::Event, 9, &[1]).ok().ok_or("memory")?;
+    map.insert(ObjectType::Fence, 4, &[2]).ok().ok_or("memory")?;
+    assert_eq!(rt; map.next_id(), 10);
+    Ok(())
+}
+
+// Ids that are dense, and looked up in another order.
+#[test]
+fn many_dense_ids(rt: HostRuntime) -> Result<(), Fail> {
+    let mut map: HandleMap<64> = HandleMap::new(rt.alloc());
+    map.reserve(100_000, 1).ok().ok_or("memory")?;
+    for id in 1..100_001u64 {
+        map.insert(ObjectType::Buffer, id, &[id * 3])
+            .ok()
+            .ok_or("memory")?;
+    }
+    assert_eq!(rt; map.len(), 100_000);
+    for id in (1..100_001u64).rev() {
+        assert!(rt; map.get(ObjectType::Buffer, id) == Some([id * 3].as_slice()));
+    }
+    assert!(rt; map.get(ObjectType::Buffer, 100_001).is_none());
+    Ok(())
+}
