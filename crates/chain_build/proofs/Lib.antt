@@ -1,3 +1,4 @@
 pub mod Names
 pub mod Gathering
 pub mod Guarding
+pub mod Limits

@@ -7,3 +7,4 @@ pub mod Chain
 pub mod Answers
 pub mod Holding
 pub mod Knowing
+pub mod Causes
