@@ -21,6 +21,13 @@ pub const TWICE: &str =
 pub const TWICE_TEXT: &str =
     "ret 1 vkCreateInstance VK_SUCCESS born=1\nret 2 vkEnumeratePhysicalDevices VK_SUCCESS born=1\nret 3 vkCreateDevice VK_SUCCESS born=1\nret 4 vkDestroyDevice void\nreport 5 0 VUID-vkDestroyDevice-device-parameter %1.3\nret 5 vkDestroyDevice void\nend calls=5 skipped=1 reports=1\n";
 
+// A command pool is destroyed while another thread's call allocates of it.
+const POOL: &str =
+    "vktrace 1\nb 1 vkCreateInstance = %1.1 VK_SUCCESS\nr 1\nb 1 vkEnumeratePhysicalDevices %1.1 = %1.2 VK_SUCCESS\nr 1\nb 1 vkCreateDevice %1.2 = %1.3 VK_SUCCESS\nr 1\nb 1 vkCreateCommandPool %1.3 = %1.4 VK_SUCCESS\nr 1\nb 1 vkAllocateCommandBuffers %1.3 %1.4 = %1.5 VK_SUCCESS\nb 2 vkDestroyCommandPool %1.3 %1.4 void\nr 2\nr 1\nb 1 vkBeginCommandBuffer %1.5 VK_SUCCESS\nr 1\n";
+
+const POOL_TEXT: &str =
+    "ret 1 vkCreateInstance VK_SUCCESS born=1\nret 2 vkEnumeratePhysicalDevices VK_SUCCESS born=1\nret 3 vkCreateDevice VK_SUCCESS born=1\nret 4 vkCreateCommandPool VK_SUCCESS born=1\nret 6 vkDestroyCommandPool void\nret 5 vkAllocateCommandBuffers VK_SUCCESS born=0\nreport 7 0 VUID-vkBeginCommandBuffer-commandBuffer-parameter %1.5\nret 7 vkBeginCommandBuffer VK_ERROR_VALIDATION_FAILED_EXT\nend calls=7 skipped=1 reports=1\n";
+
 // The words, the trace, how many letters follow it, and the numbers of the first call of the source and the sink that
 // fails; and what the run must answer, print and say.
 #[derive(Clone, Copy)]
@@ -52,7 +59,7 @@ const MALFORMED: Run = Run {
     ..CLEAN
 };
 
-const RUNS: [Run; 22] = [
+const RUNS: [Run; 23] = [
     CLEAN,
     Run {
         trace: "vktrace 1",
@@ -93,6 +100,13 @@ const RUNS: [Run; 22] = [
         out: TWICE_TEXT,
         ..CLEAN
     },
+    // A pool is destroyed by another thread while it allocates: the command buffer is lost, and the loader reports its use.
+    Run {
+        trace: POOL,
+        status: Status::Reported,
+        out: POOL_TEXT,
+        ..CLEAN
+    },
     // A begin in place of a return that is due, and a trace that ends where one is due.
     Run {
         trace: "vktrace 1\nb 1 vkCreateInstance = %1.1 VK_SUCCESS\nb 1 vkEnumeratePhysicalDevices %1.1 = %1.2 VK_SUCCESS\nr 1\n",
@@ -102,7 +116,7 @@ const RUNS: [Run; 22] = [
     Run {
         trace: "vktrace 1\nb 1 vkCreateInstance = %1.1 VK_SUCCESS\nr 1\nb 1 vkEnumeratePhysicalDevices %1.1 = %1.2 VK_SUCCESS\nr 1\nb 1 vkCreateDevice %1.2 = %1.3 VK_SUCCESS\n",
         out: "ret 1 vkCreateInstance VK_SUCCESS born=1\nret 2 vkEnumeratePhysicalDevices VK_SUCCESS born=1\n",
-        errs: "vkreplay: line 7: NotBuilt\n",
+        errs: "vkreplay: line 7: OpenAtEnd\n",
         ..MALFORMED
     },
     Run {
@@ -122,23 +136,23 @@ const RUNS: [Run; 22] = [
     },
     Run {
         trace: "vktrace 1\nb 1 vkCreateInstance = %1.1 VK_SUCCESS\r\nr 1\n",
-        errs: "vkreplay: line 2: NotBuilt\n",
+        errs: "vkreplay: line 2: NotAscii\n",
         ..MALFORMED
     },
     Run {
         trace: "vktrace 1\nr 1\0\n",
-        errs: "vkreplay: line 2: NotBuilt\n",
+        errs: "vkreplay: line 2: NotAscii\n",
         ..MALFORMED
     },
     Run {
         trace: "vktrace 1\n\nb 1 vkCreateInstance = %1.1 VK_SUCCESS\nr 1\n",
-        errs: "vkreplay: line 2: NotBuilt\n",
+        errs: "vkreplay: line 2: Letter\n",
         ..MALFORMED
     },
-    // The greatest number is plainly spelled, and one above it isn't.
+    // The greatest number is spelled, and one above it isn't; what a line itself has comes before its place.
     Run {
         trace: "vktrace 1\nb 1 vkCreateInstance = %1.4194304 VK_SUCCESS\n",
-        errs: "vkreplay: line 2: NotBuilt\n",
+        errs: "vkreplay: line 2: Sequence\n",
         ..MALFORMED
     },
     Run {
@@ -148,7 +162,7 @@ const RUNS: [Run; 22] = [
     },
     Run {
         trace: "vktrace 1\nb 1 vkCreateInstance = %1.1 VK_SUCCESS\nb 1 vkCreateInstance = %1.4194305 VK_SUCCESS\n",
-        errs: "vkreplay: line 3: NotBuilt\n",
+        errs: "vkreplay: line 3: Results\n",
         ..MALFORMED
     },
     Run {
@@ -158,14 +172,14 @@ const RUNS: [Run; 22] = [
     },
     Run {
         trace: "vktrace 1\nb 1 vkCreateInstance = %1.1 VK_SUCCESS\nb 1 vkDestroyDevice %1.4194305 void\n",
-        errs: "vkreplay: line 3: NotBuilt\n",
+        errs: "vkreplay: line 3: Argument\n",
         ..MALFORMED
     },
     // 1,048,576 bytes are read line by line, and one more isn't.
     Run {
         trace: "vktrace 1\n",
         letters: 1_048_566,
-        errs: "vkreplay: line 2: NotBuilt\n",
+        errs: "vkreplay: line 2: Letter\n",
         ..MALFORMED
     },
     Run {
