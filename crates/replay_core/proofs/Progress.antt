@@ -173,18 +173,24 @@ on_ok P Q (Err e) p f = tt
 -- a line whose event was read and is in its place, by what its replay came to
 pub line_of_step : (l : LineStep) (e : TraceEvent) (n : ℕ) (r : Result (Unit {0}) ReplayError) → read_line l.text ≡ Ok e → ((before : List TraceEvent) → SumsUp l.old_state before → Accepted l.state before e n)
     → Steps (record { old = l.old; new = l.new; event = e; traffic = l.traffic }) r → PlaysLine l r
-line_of_step l e n (Ok done) read accepted steps =
-    (λ start events stands played.
-        let a : Accepted l.state events e n = accepted events stands in
-        record { event = e; here = line_placed events l.text e read a.fault a.names; stands = a.stands; played = steps.0 start events played }, steps.1)
-line_of_step l e n (Err error.Write) read accepted steps =
-    (λ start events stands played.
-        let a : Accepted l.state events e n = accepted events stands in
-        record { event = e; here = line_placed events l.text e read a.fault a.names; cut = steps.0 start events played }, steps.1)
-line_of_step l e n (Err error.NoMemory) read accepted steps =
-    (λ start events stands played.
-        let a : Accepted l.state events e n = accepted events stands in
-        inr (record { event = e; here = line_placed events l.text e read a.fault a.names; cut = steps.0 start events played }), steps.1)
+line_of_step l e n (Ok done) read accepted steps = (
+  λ start events stands played.
+      let a : Accepted l.state events e n = accepted events stands in
+      record { event = e; here = line_placed events l.text e read a.fault a.names; stands = a.stands; played = steps.0 start events played },
+  steps.1,
+)
+line_of_step l e n (Err error.Write) read accepted steps = (
+  λ start events stands played.
+      let a : Accepted l.state events e n = accepted events stands in
+      record { event = e; here = line_placed events l.text e read a.fault a.names; cut = steps.0 start events played },
+  steps.1,
+)
+line_of_step l e n (Err error.NoMemory) read accepted steps = (
+  λ start events stands played.
+      let a : Accepted l.state events e n = accepted events stands in
+      inr (record { event = e; here = line_placed events l.text e read a.fault a.names; cut = steps.0 start events played }),
+  steps.1,
+)
 line_of_step l e n (Err error.Read) read accepted steps = absurd steps
 line_of_step l e n (Err (error.Trace line f)) read accepted steps = absurd steps
 line_of_step l e n (Err (error.Limit w)) read accepted steps = absurd steps

@@ -9,8 +9,8 @@ ghost use Rattle.replay_core.specs.Lines.{loader_line, loader_report};
 ghost use Rattle.replay_core.specs.Setups.{one_driver};
 ghost use Rattle.replay_core.specs.Shown.{opened_of};
 
-use crate::call::OpenCall;
 use crate::bearing::effect_of;
+use crate::call::OpenCall;
 use crate::tally::Tally;
 use command_tables::{Code, CommandId, Param, row};
 use itoa::Buffer;

@@ -24,8 +24,7 @@ pub fn play<K: Sink, D: Driver>(
     requires session { Stands player.old.session [] [] }
     requires state { SumsUp player.old.state [] }
     requires size { length bytes.now ≤ MOST_BYTES }
-    ensures plays {
-        let sink = changed (K.held out.old) (K.held out.new) (K.faults out.old) (K.faults out.new) in
+    ensures plays { let sink = changed (K.held out.old) (K.held out.new) (K.faults out.old) (K.faults out.new) in
         Plays (script_from 2 [] (lines_of bytes.now)) player.new.session (traffic_of (D.log driver.old) (D.log driver.new) sink) result }
     ensures policy { D.answers_by driver.new ≡ D.answers_by driver.old }
 {

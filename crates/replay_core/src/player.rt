@@ -59,8 +59,7 @@ impl Player {
                     .begin(self.alloc, call, event, driver, &mut self.lines)
             }
             Event::Return { thread } => {
-                self.session
-                    .finish(self.alloc, *thread, &mut self.lines)?;
+                self.session.finish(self.alloc, *thread, &mut self.lines)?;
                 Ok(())
             }
         }
@@ -75,8 +74,7 @@ impl Player {
         out: &mut K,
     ) -> Result<(), ReplayError>
         requires { CanTake self.old.session (content event.now) call }
-        ensures steps {
-            let sink = changed (K.held out.old) (K.held out.new) (K.faults out.old) (K.faults out.new) in
+        ensures steps { let sink = changed (K.held out.old) (K.held out.new) (K.faults out.old) (K.faults out.new) in
             let traffic = traffic_of (D.log driver.old) (D.log driver.new) sink in
             Steps (record { old = self.old.session; new = self.new.session; event = content event.now; traffic = traffic }) result }
         ensures taken { OnOk result (HasTaken self.old.session self.new.session (content event.now) call) }
@@ -103,8 +101,7 @@ impl Player {
     ) -> Result<(), ReplayError>
         requires together { InStep self.old.state self.old.session }
         requires few { self.old.session.calls + 2 ≤ number }
-        ensures plays {
-            let sink = changed (K.held out.old) (K.held out.new) (K.faults out.old) (K.faults out.new) in
+        ensures plays { let sink = changed (K.held out.old) (K.held out.new) (K.faults out.old) (K.faults out.new) in
             let traffic = traffic_of (D.log driver.old) (D.log driver.new) sink in
             PlaysLine (record { text = text.now; number = number; old_state = self.old.state; state = self.new.state; old = self.old.session; new = self.new.session; traffic = traffic }) result }
         ensures calls { OnOk result (self.new.session.calls ≤ self.old.session.calls + 1) }

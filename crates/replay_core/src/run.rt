@@ -51,8 +51,7 @@ fn play_trace<K: Sink, D: Driver>(
     requires session { Stands player.old.session [] [] }
     requires state { SumsUp player.old.state [] }
     requires size { length bytes.now ≤ MOST_BYTES }
-    ensures plays {
-        let sink = changed (K.held out.old) (K.held out.new) (K.faults out.old) (K.faults out.new) in
+    ensures plays { let sink = changed (K.held out.old) (K.held out.new) (K.faults out.old) (K.faults out.new) in
         Plays (script_of bytes.now) player.new.session (traffic_of (D.log driver.old) (D.log driver.new) sink) result }
     ensures policy { D.answers_by driver.new ≡ D.answers_by driver.old }
 {
@@ -75,8 +74,7 @@ fn end_text(session: &Session, alloc: Global) -> Result<Vec<u8>, AllocError>
 
 // The end line.
 fn put_end<K: Sink>(session: &Session, alloc: Global, out: &mut K) -> Result<(), ReplayError>
-    ensures {
-        let sink = changed (K.held out.old) (K.held out.new) (K.faults out.old) (K.faults out.new) in
+    ensures { let sink = changed (K.held out.old) (K.held out.new) (K.faults out.old) (K.faults out.new) in
         PutsEnd session.now sink result }
 {
     match end_text(session, alloc) {
@@ -99,8 +97,7 @@ fn play_whole<K: Sink, D: Driver>(
     requires session { Stands player.old.session [] [] }
     requires state { SumsUp player.old.state [] }
     requires size { length bytes.now ≤ MOST_BYTES }
-    ensures plays {
-        let sink = changed (K.held out.old) (K.held out.new) (K.faults out.old) (K.faults out.new) in
+    ensures plays { let sink = changed (K.held out.old) (K.held out.new) (K.faults out.old) (K.faults out.new) in
         PlaysWhole (script_of bytes.now) player.new.session (traffic_of (D.log driver.old) (D.log driver.new) sink) result }
     ensures policy { D.answers_by driver.new ≡ D.answers_by driver.old }
 {
@@ -119,8 +116,7 @@ pub fn replay<S: Source, K: Sink, D: Driver>(
     out: &mut K,
     driver: &mut D,
 ) -> Result<Session, ReplayError>
-    ensures replays {
-        let source = changed (S.left trace.old) (S.left trace.new) (S.faults trace.old) (S.faults trace.new) in
+    ensures replays { let source = changed (S.left trace.old) (S.left trace.new) (S.faults trace.old) (S.faults trace.new) in
         let sink = changed (K.held out.old) (K.held out.new) (K.faults out.old) (K.faults out.new) in
         Replays (run_of source (D.log driver.old) (D.log driver.new) sink) result }
     ensures policy { D.answers_by driver.new ≡ D.answers_by driver.old }

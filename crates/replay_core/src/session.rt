@@ -15,12 +15,12 @@ ghost use Rattle.replay_core.specs.Shown.{opened_of, valued_with};
 ghost use Rattle.replay_core.specs.Stands.{Advances, MayTell, Stands};
 
 use crate::ask::ask;
+use crate::bearing::effect_of;
 use crate::begin::{Beginning, name_at_first, open_call};
 use crate::call::{OpenCall, close, find_open, has_open};
 use crate::error::SessionError;
-use crate::lines::{report, return_line};
-use crate::bearing::effect_of;
 use crate::keeping::{keep_names, keep_retrieved, keep_values};
+use crate::lines::{report, return_line};
 use crate::results::made;
 use crate::tally::Tally;
 use command_tables::NoMemory;

@@ -10,7 +10,7 @@ use model_driver::{AdverseDriver, Driver, DriverCall, ModelDriver, RecordingDriv
 use std::alloc::Global;
 use std::process::Abort;
 use std::test::Fail;
-use trace_format::{Event, read_event};
+use trace_format::{Event, parse_line};
 
 // A trace behind an instance, its physical device and a device. Each begin returns at once, unless the returns are written too.
 #[derive(Clone, Copy)]
@@ -285,7 +285,7 @@ fn play<D: Driver>(
 ) -> Result<Vec<u8>, Fail> {
     let mut lines = Vec::new(alloc);
     for line in events {
-        let event = read_event(alloc, line.as_bytes()).ok().ok_or("no event")?;
+        let event = parse_line(alloc, line.as_bytes()).ok().ok_or("no event")?;
         take(session, alloc, &event, returns, driver, &mut lines)?;
     }
     Ok(lines)

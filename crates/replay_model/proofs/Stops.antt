@@ -1,5 +1,5 @@
 -- A trace up to its stop: line by line, and that each of its events may follow those before it.
-use Rattle.std.proofs.Common.{◌≡◌, ◌∙◌, ℕ, ◌+◌, Option, Some, None, List, [], ◌∷◌, ◌++◌, refl, sym, ap, append_assoc, append-nil, length, map, reverse, nat_lt, if◌then◌else◌}
+use Rattle.std.proofs.Common.{◌≡◌, ◌∙◌, ℕ, ◌+◌, Option, Some, None, List, [], ◌∷◌, ◌++◌, refl, sym, ap, append_assoc, append-nil, length, map, reverse, nat_lt}
 use Rattle.std.proofs.lemmas.List.{map-append, reverse-append}
 use Rattle.std.specs.Prelude.{Bool, true, false, ◌&&◌, Result, Ok, Err, drop, cond}
 use Rattle.std.specs.Option.{is_none}
@@ -10,7 +10,7 @@ use Rattle.trace_format.specs.Accepting.{are_accepted, exceeds_names, fault_afte
 use Rattle.trace_format.specs.Content.{TraceEvent}
 use Rattle.trace_format.specs.Reading.{read_line}
 use Rattle.replay_model.specs.declared.TheConstants.{MOST_BYTES}
-use Rattle.replay_model.specs.Stop.{Cause, Fault, Names, Stop, at_fault, cause_after, events_behind, events_from, events_in, events_of, events_or, first_cause, line_after, placed, stop, stop_behind, stop_from, stop_in, stop_or, unless_stopped}
+use Rattle.replay_model.specs.Stop.{Cause, Fault, Names, at_fault, cause_after, events_behind, events_from, events_in, events_of, events_or, first_cause, line_after, placed, stop, stop_behind, stop_from, stop_in, stop_or, unless_stopped}
 
 -- ---- one line
 

@@ -83,9 +83,9 @@ ended_gives p k bs told done =
     of_run p bs (end_status k.reports) done.words (
     subst (λ (o : Option Stop). IsAnswer (output_at o (events_of bs)) (end_status k.reports) p.run.traffic.sink p.errs) (sym none)
     (subst Whole same (record {
-        status = ap end_status e.stands.reports;
-        wrote = e.wrote;
-        said = inl (record { stood = done.silent.stood; gained = done.silent.same ∙ sym (grown_nil p.errs.old) });
+      status = ap end_status e.stands.reports;
+      wrote = e.wrote;
+      said = inl (record { stood = done.silent.stood; gained = done.silent.same ∙ sym (grown_nil p.errs.old) });
     })))
 
 -- what is too large stops at its first line, and has no events

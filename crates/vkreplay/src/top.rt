@@ -77,8 +77,7 @@ pub fn replay_main<S: Source, K: Sink, L: Sink, D: Driver>(
 ) -> Finished
     // The promises of the program, each said where `Keeps` is defined: where nothing failed, the status, what is written and
     // what is said are a function of the words and the trace's bytes; and each status has its cause.
-    ensures promises {
-        let source = changed (S.left trace.old) (S.left trace.new) (S.faults trace.old) (S.faults trace.new) in
+    ensures promises { let source = changed (S.left trace.old) (S.left trace.new) (S.faults trace.old) (S.faults trace.new) in
         let sink = changed (K.held out.old) (K.held out.new) (K.faults out.old) (K.faults out.new) in
         let run = run_of source (D.log driver.old) (D.log driver.new) sink in
         let said = changed (L.held errs.old) (L.held errs.new) (L.faults errs.old) (L.faults errs.new) in

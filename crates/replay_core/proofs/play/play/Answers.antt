@@ -8,14 +8,14 @@ use Rattle.replay_core.proofs.play.play.Goals as goal
 pub returns-in-Err-clause-plays : goal.returns-in-Err-clause-plays
 returns-in-Err-clause-plays g c =
     far_ends (record {
-        text = c.split_line-split.result.line.now;
-        number = c.loop-rest.line;
-        old_state = c.loop-rest.player.state;
-        state = c.play_line.new.self.state;
-        old = c.loop-rest.player.session;
-        new = c.play_line.new.self.session;
-        traffic = traffic_of (g.D.Driver.log c.loop-rest.driver) (g.D.Driver.log c.play_line.new.driver)
-            (changed (g.K.Sink.held c.loop-rest.out) (g.K.Sink.held c.play_line.new.out) (g.K.Sink.faults c.loop-rest.out) (g.K.Sink.faults c.play_line.new.out));
+      text = c.split_line-split.result.line.now;
+      number = c.loop-rest.line;
+      old_state = c.loop-rest.player.state;
+      state = c.play_line.new.self.state;
+      old = c.loop-rest.player.session;
+      new = c.play_line.new.self.session;
+      traffic = traffic_of (g.D.Driver.log c.loop-rest.driver) (g.D.Driver.log c.play_line.new.driver)
+          (changed (g.K.Sink.held c.loop-rest.out) (g.K.Sink.held c.play_line.new.out) (g.K.Sink.faults c.loop-rest.out) (g.K.Sink.faults c.play_line.new.out));
     }) c.in-Err.error (record { log = g.D.Driver.log c.args.driver.now; held = g.K.Sink.held c.args.out.now; faults = g.K.Sink.faults c.args.out.now })
     (lines_of c.args.bytes.now) (lines_of c.split_line-split.result.rest.now) (lines_of c.loop-rest.rest.now) c.loop-rest.invariant.far c.split_line-split.ensures.lines c.loop-rest.invariant.stood
     c.in-Err.ensures.plays
@@ -27,14 +27,14 @@ loop-rest-preserved g c = record {
   policy = c.play_line.ensures.policy ∙ c.loop-rest.invariant.policy;
   few = omega (arith, c.in-Ok.ensures.calls, c.loop-rest.invariant.few);
   far = far_next (record {
-        text = c.split_line-split.result.line.now;
-        number = c.loop-rest.line;
-        old_state = c.loop-rest.player.state;
-        state = c.play_line.new.self.state;
-        old = c.loop-rest.player.session;
-        new = c.play_line.new.self.session;
-        traffic = traffic_of (g.D.Driver.log c.loop-rest.driver) (g.D.Driver.log c.play_line.new.driver)
-            (changed (g.K.Sink.held c.loop-rest.out) (g.K.Sink.held c.play_line.new.out) (g.K.Sink.faults c.loop-rest.out) (g.K.Sink.faults c.play_line.new.out));
-    }) (record { log = g.D.Driver.log c.args.driver.now; held = g.K.Sink.held c.args.out.now; faults = g.K.Sink.faults c.args.out.now })
-    (lines_of c.args.bytes.now) (lines_of c.split_line-split.result.rest.now) (lines_of c.loop-rest.rest.now) c.loop-rest.invariant.far c.split_line-split.ensures.lines c.in-Ok.ensures.plays;
+    text = c.split_line-split.result.line.now;
+    number = c.loop-rest.line;
+    old_state = c.loop-rest.player.state;
+    state = c.play_line.new.self.state;
+    old = c.loop-rest.player.session;
+    new = c.play_line.new.self.session;
+    traffic = traffic_of (g.D.Driver.log c.loop-rest.driver) (g.D.Driver.log c.play_line.new.driver)
+        (changed (g.K.Sink.held c.loop-rest.out) (g.K.Sink.held c.play_line.new.out) (g.K.Sink.faults c.loop-rest.out) (g.K.Sink.faults c.play_line.new.out));
+  }) (record { log = g.D.Driver.log c.args.driver.now; held = g.K.Sink.held c.args.out.now; faults = g.K.Sink.faults c.args.out.now })
+      (lines_of c.args.bytes.now) (lines_of c.split_line-split.result.rest.now) (lines_of c.loop-rest.rest.now) c.loop-rest.invariant.far c.split_line-split.ensures.lines c.in-Ok.ensures.plays;
 }

@@ -16,14 +16,14 @@ step-requires g c =
 pub returns-in-Ok-accept-clause-plays : goal.returns-in-Ok-accept-clause-plays
 returns-in-Ok-accept-clause-plays g c =
     line_of_step (record {
-        text = c.args.text.now;
-        number = c.args.number;
-        old_state = c.args.self.now.state;
-        state = c.step.new.self.state;
-        old = c.args.self.now.session;
-        new = c.step.new.self.session;
-        traffic = traffic_of (g.D.Driver.log c.args.driver.now) (g.D.Driver.log c.step.new.driver)
-            (changed (g.K.Sink.held c.args.out.now) (g.K.Sink.held c.step.new.out) (g.K.Sink.faults c.args.out.now) (g.K.Sink.faults c.step.new.out));
+      text = c.args.text.now;
+      number = c.args.number;
+      old_state = c.args.self.now.state;
+      state = c.step.new.self.state;
+      old = c.args.self.now.session;
+      new = c.step.new.self.session;
+      traffic = traffic_of (g.D.Driver.log c.args.driver.now) (g.D.Driver.log c.step.new.driver)
+          (changed (g.K.Sink.held c.args.out.now) (g.K.Sink.held c.step.new.out) (g.K.Sink.faults c.args.out.now) (g.K.Sink.faults c.step.new.out));
     }) (content c.in-Ok.event) c.in-Ok-accept.call c.step.result c.in-Ok.ensures.answer
     (λ before stands. subst (λ (s : TraceSeen). Accepted s before (content c.in-Ok.event) c.in-Ok-accept.call) (sym c.step.ensures.state) (c.in-Ok-accept.ensures.ok before stands))
     c.step.ensures.steps
@@ -37,15 +37,18 @@ returns-in-Ok-accept-clause-calls g c =
     (c.in-Ok-accept.ensures.ok c.requires.together.events c.requires.together.state_stands) few))
 
 pub returns-clause-plays : goal.returns-clause-plays
-returns-clause-plays g c =
-    (line_of_fault (record {
-        text = c.args.text.now;
-        number = c.args.number;
-        old_state = c.args.self.now.state;
-        state = c.accept.new.self;
-        old = c.args.self.now.session;
-        new = c.args.self.now.session;
-        traffic = traffic_of (g.D.Driver.log c.args.driver.now) (g.D.Driver.log c.args.driver.now)
-            (changed (g.K.Sink.held c.args.out.now) (g.K.Sink.held c.args.out.now) (g.K.Sink.faults c.args.out.now) (g.K.Sink.faults c.args.out.now));
-    }) (content c.in-Ok.event) c.in-Err-Fault-accept.fault c.in-Ok.ensures.answer
-    (c.accept.ensures.fault c.in-Err-Fault-accept.fault (c.in-Err-Fault-accept.is ∙ ap (λ e. Err e) c.in-Err-Fault-accept.field-0-is)) refl refl refl, refl, refl)
+returns-clause-plays g c = (
+  line_of_fault (record {
+    text = c.args.text.now;
+    number = c.args.number;
+    old_state = c.args.self.now.state;
+    state = c.accept.new.self;
+    old = c.args.self.now.session;
+    new = c.args.self.now.session;
+    traffic = traffic_of (g.D.Driver.log c.args.driver.now) (g.D.Driver.log c.args.driver.now)
+        (changed (g.K.Sink.held c.args.out.now) (g.K.Sink.held c.args.out.now) (g.K.Sink.faults c.args.out.now) (g.K.Sink.faults c.args.out.now));
+  }) (content c.in-Ok.event) c.in-Err-Fault-accept.fault c.in-Ok.ensures.answer
+      (c.accept.ensures.fault c.in-Err-Fault-accept.fault (c.in-Err-Fault-accept.is ∙ ap (λ e. Err e) c.in-Err-Fault-accept.field-0-is)) refl refl refl,
+  refl,
+  refl,
+)
