@@ -24,9 +24,9 @@ pub(crate) enum When {
     Without(Key),
     /// In an entry of another type than `DEVICE`.
     UnlessDevice,
-    /// The same, of an implicit layer.
+    /// In an entry of an implicit layer, of another type than `DEVICE`.
     Implicit,
-    /// The same, of the override layer.
+    /// In the entry of the override layer, of another type than `DEVICE`.
     Override,
 }
 
