@@ -198,11 +198,7 @@ fn list_at_each(
 }
 
 // An object is added that wasn't born before.
-fn add_fresh(
-    fresh: &mut Vec<Object>,
-    births: &BirthTable,
-    object: Object,
-) -> Result<(), AllocError>
+fn add_fresh(fresh: &mut Vec<Object>, births: &BirthTable, object: Object) -> Result<(), AllocError>
     ensures { OnOk result (fresh.new.items ≡ fresh.old.items ++ filter (λ o. not (born_in births.now o)) (object ∷ [])) }
 {
     if !births.is_born(object) {
@@ -212,11 +208,7 @@ fn add_fresh(
 }
 
 // Fills a list with the results' objects that weren't born before. What stood in the list before is gone.
-fn fill_fresh(
-    fresh: &mut Vec<Object>,
-    births: &BirthTable,
-    made: &[Born],
-) -> Result<(), AllocError>
+fn fill_fresh(fresh: &mut Vec<Object>, births: &BirthTable, made: &[Born]) -> Result<(), AllocError>
     ensures { OnOk result (fresh.new.items ≡ filter (λ o. not (born_in births.now o)) (objects_of made.now)) }
 {
     fresh.clear();
