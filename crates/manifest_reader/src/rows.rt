@@ -24,9 +24,9 @@ pub(crate) enum When {
     Without(Key),
     /// In an entry of another type than `DEVICE`.
     UnlessDevice,
-    /// In an entry of an implicit layer, of another type than `DEVICE`.
+    /// The same, of an implicit layer.
     Implicit,
-    /// In the entry of the override layer, of another type than `DEVICE`.
+    /// The same, of the override layer.
     Override,
 }
 
