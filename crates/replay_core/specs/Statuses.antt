@@ -3,6 +3,7 @@ use Rattle.std.specs.Prelude.{ℕ}
 use Rattle.replay_core.specs.declared.status.Status.{Status}
 use Rattle.replay_core.specs.declared.status.Status.TheVariants as status
 
+-- the number of a status
 abbrev pub status_code : Status → ℕ
 status_code status.Clean = 0
 status_code status.Reported = 1

@@ -21,7 +21,7 @@ fn argument(names: &NameTable, name: Option<Name>) -> Argument
     }
 }
 
-fn arguments_at(
+fn places_of(
     alloc: Global,
     names: &NameTable,
     at: &[Option<Name>],
@@ -41,7 +41,7 @@ pub fn arguments(
 {
     let mut all = Vec::new(alloc);
     for arg in args {
-        all.push(arguments_at(alloc, names, &arg.names)?)?;
+        all.push(places_of(alloc, names, &arg.names)?)?;
     }
     Ok(all)
 }

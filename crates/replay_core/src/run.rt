@@ -72,7 +72,7 @@ fn end_text(session: &Session, alloc: Global) -> Result<Vec<u8>, AllocError>
     Ok(line)
 }
 
-// The end line.
+// All memory of the end line is taken before any of it is written.
 fn put_end<K: Sink>(session: &Session, alloc: Global, out: &mut K) -> Result<(), ReplayError>
     ensures { let sink = changed (K.held out.old) (K.held out.new) (K.faults out.old) (K.faults out.new) in
         PutsEnd session.now sink result }

@@ -24,6 +24,7 @@ are_stored owners entries = list_all (λ e. is_within (length owners) e.start e.
 abbrev pub birth_of : List Object → BirthEntry → Birth
 birth_of owners e = record { object = e.object; created = e.created; owners = slice_range owners e.start e.end }
 
+-- all births, whose owners stand in a list of all owners
 abbrev pub births_shown : List Object → List BirthEntry → List Birth
 births_shown owners entries = map (birth_of owners) entries
 

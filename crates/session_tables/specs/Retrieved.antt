@@ -20,6 +20,7 @@ use Rattle.session_tables.specs.Filing.{kept}
 abbrev pub retrieval_of : RetrievedEntry → Retrieval
 retrieval_of r = record { owner = r.owner; place = r.place; payload = r.payload.items; object = r.object }
 
+-- all retrieved objects
 abbrev pub retrieved_shown : List RetrievedEntry → List Retrieval
 retrieved_shown entries = map retrieval_of entries
 

@@ -21,6 +21,7 @@ one_value value = record { driver = 0; value = value } ∷ []
 abbrev pub value_of : ValueEntry → Valued
 value_of v = record { object = v.object; values = one_value v.value }
 
+-- the values of all entries
 abbrev pub values_shown : List ValueEntry → List Valued
 values_shown values = map value_of values
 

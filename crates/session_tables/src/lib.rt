@@ -12,6 +12,8 @@ mod object_table;
 mod owners;
 mod retrieved_map;
 mod retrieved_table;
+#[cfg(test)]
+mod tests;
 mod value_table;
 
 pub use birth_table::BirthTable;

@@ -87,7 +87,7 @@ fn end(states: &mut ObjectMap<ObjectState>, object: Object)
     }
 }
 
-fn begin(states: &mut ObjectMap<ObjectState>, object: Object) -> Result<(), AllocError>
+fn let_live(states: &mut ObjectMap<ObjectState>, object: Object) -> Result<(), AllocError>
     ensures ok { OnOk result ((o : Object) → lives_in states.new o ≡ (lives_in states.old o || same object o)) }
     ensures err { OnErr result ((o : Object) → lives_in states.new o ≡ lives_in states.old o) }
     ensures lists { (o : Object) → list_by (kept states.new o) ≡ list_by (kept states.old o) }
@@ -348,7 +348,7 @@ impl ObjectTable {
     {
         list_at_each(alloc, &mut self.states, &mut self.lists, owners, object)?;
         self.births.push(object, created, owners)?;
-        begin(&mut self.states, object)?;
+        let_live(&mut self.states, object)?;
         Ok(())
     }
 

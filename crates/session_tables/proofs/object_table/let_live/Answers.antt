@@ -2,7 +2,7 @@ use Rattle.std.proofs.Common.{ap, ◌∙◌, true}
 use Rattle.session_tables.specs.Filing.{kept}
 use Rattle.session_tables.specs.Population.{list_by}
 use Rattle.session_tables.proofs.Living.{lists_stay}
-use Rattle.session_tables.proofs.object_table.begin.Goals as goal
+use Rattle.session_tables.proofs.object_table.let_live.Goals as goal
 
 pub returns-clause-lists : goal.returns-clause-lists
 returns-clause-lists c = λ o.
