@@ -24,9 +24,9 @@ pub(crate) enum When {
     Without(Key),
     /// In an entry of another type than `DEVICE`.
     UnlessDevice,
-    /// The same, of an implicit layer.
+    /// In an implicit layer's entry of another type than `DEVICE`.
     Implicit,
-    /// The same, of the override layer.
+    /// In the override's entry: that of an implicit meta-layer named `VK_LAYER_LUNARG_override`.
     Override,
 }
 

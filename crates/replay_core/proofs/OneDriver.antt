@@ -22,7 +22,7 @@ use Rattle.object_model.specs.Rules.{Failure, loader_failures}
 use Rattle.replay_model.specs.declared.Born.{Born}
 use Rattle.replay_model.specs.declared.Routed.{Routed}
 use Rattle.replay_model.specs.Past.{Opened, Began, Returned, Past, Retrieval, is_skipped, is_of, is_new, is_routed, open_calls, routed, routed_of, routed_by, named, calls_in, history, retrievals, arguments_in}
-use Rattle.replay_model.specs.Places.{Findings, checked, findings, parts_checked, parts_in_force, is_failing, at_place}
+use Rattle.replay_model.specs.ChainPlaces.{Findings, checked, findings, parts_checked, parts_in_force, is_failing, at_place}
 use Rattle.replay_model.specs.Births.{bears, bearable, made_by, result_object}
 use Rattle.replay_model.specs.Judged.{Begun, begun_of, made_of, returned_by, judge, judged, receivers, driver_in, is_refused}
 use Rattle.replay_core.specs.Setups.{one_driver}

@@ -10,7 +10,7 @@ use Rattle.object_model.specs.Rules.{Failure, loader_failures}
 use Rattle.replay_model.specs.declared.Named.{Named}
 use Rattle.replay_model.specs.declared.Born.{Born}
 use Rattle.replay_model.specs.Past.{Opened, Retrieval, is_skipped, is_of, named_of, objects_of, retrieved_by, arguments_in}
-use Rattle.replay_model.specs.Places.{is_failing, at_place}
+use Rattle.replay_model.specs.ChainPlaces.{is_failing, at_place}
 use Rattle.replay_model.specs.Births.{made_by}
 use Rattle.replay_model.specs.Judged.{Begun}
 use Rattle.replay_model.specs.Direct.{Answered, Sent, Valued, valued_of}

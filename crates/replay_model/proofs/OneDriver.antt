@@ -19,7 +19,7 @@ use Rattle.replay_model.specs.declared.Routed.{Routed}
 use Rattle.replay_model.specs.Setup.{Setup}
 use Rattle.replay_model.specs.Past.{Opened, Retrieval, is_of, open_calls, calls_in, named, arguments_in, history, retrievals, is_routed, is_new, driver_behind, routed_of, routed_by, routed}
 use Rattle.replay_model.specs.Births.{bears, born_with, bearable, made_by, result_object}
-use Rattle.replay_model.specs.Places.{checked, findings}
+use Rattle.replay_model.specs.ChainPlaces.{checked, findings}
 use Rattle.replay_model.specs.Judged.{driver_in, receivers, is_refused, begun_of, made_of, returned_by, judged}
 
 -- the first driver of a call, and 0 where it has none

@@ -16,7 +16,7 @@ use Rattle.replay_model.specs.declared.Routed.{Routed}
 use Rattle.replay_model.specs.Setup.{Setup, refusal_of}
 use Rattle.replay_model.specs.Past.{Opened, Report, Began, Returned, Past, calls_in, is_of, open_calls, named, arguments_in, history, retrievals, routed}
 use Rattle.replay_model.specs.Births.{made_by}
-use Rattle.replay_model.specs.Places.{Checked, checked, findings}
+use Rattle.replay_model.specs.ChainPlaces.{Checked, checked, findings}
 
 -- ---- which drivers a call goes to
 

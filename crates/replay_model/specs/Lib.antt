@@ -1,7 +1,7 @@
 pub mod Setup
 pub mod Past
 pub mod Births
-pub mod Places
+pub mod ChainPlaces
 pub mod Judged
 pub mod Direct
 pub mod Text

@@ -15,7 +15,7 @@ ghost use Rattle.trace_format.specs.Content.{TraceEvent};
 ghost use Rattle.replay_model.specs.Setup.{Setup};
 ghost use Rattle.replay_model.specs.Past.{Past, calls_in, is_of, open_calls, routed};
 ghost use Rattle.replay_model.specs.Judged.{driver_in, judge, judged};
-ghost use Rattle.replay_model.specs.Places.{parts_in_force};
+ghost use Rattle.replay_model.specs.ChainPlaces.{parts_in_force};
 ghost use Rattle.replay_model.specs.Direct.{direct, exchanges, exchanges_at, sends_at, sends_in};
 ghost use Rattle.replay_model.specs.Text.{lines, lines_at, skipped_in};
 ghost use Rattle.replay_model.specs.Less.{less, no_layers};

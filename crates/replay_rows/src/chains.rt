@@ -1,7 +1,7 @@
 //! Chains and their places: refusals, parts above and below each other, the chain in force.
 ghost use Rattle.std.specs.Prelude.{◌≡◌, [], ◌∷◌, ◌++◌, true, false, codes, reverse};
 ghost use Rattle.replay_model.specs.Judged.{judged};
-ghost use Rattle.replay_model.specs.Places.{seen_past};
+ghost use Rattle.replay_model.specs.ChainPlaces.{seen_past};
 ghost use Rattle.replay_rows.specs.Traces.{buffer_destroyed_twice, calls, events, said, skips, started, told};
 ghost use Rattle.replay_rows.specs.Setups.{device_start, layers_by_name, lifetimes_above_threads, lifetimes_twice, no_driver, unguarded, validation, validation_start};
 
