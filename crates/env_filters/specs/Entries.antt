@@ -9,3 +9,7 @@ entries_of separator text = filter (λ entry. not (length entry == 0)) (slice_sp
 -- the folders and files that a value names, between colons
 abbrev pub paths_of : List ℕ → List (List ℕ)
 paths_of text = entries_of 58 text
+
+-- the layers that an application names, between commas
+abbrev pub layer_names_of : List ℕ → List (List ℕ)
+layer_names_of text = entries_of 44 text

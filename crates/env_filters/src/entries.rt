@@ -1,6 +1,6 @@
 // Lists in the value of a variable.
 ghost use Rattle.std.specs.Prelude.{◌≡◌, ◌==◌, ◌<◌, length, not, IfOk, map, string_bytes};
-ghost use Rattle.env_filters.specs.Entries.{entries_of, paths_of};
+ghost use Rattle.env_filters.specs.Entries.{entries_of, layer_names_of, paths_of};
 
 use crate::NoMemory;
 use std::alloc::Global;
@@ -24,14 +24,29 @@ pub(crate) fn entries(alloc: Global, text: &str, separator: char) -> Result<Vec<
     Ok(entries)
 }
 
+// Entries as texts of their own.
+fn texts_of(alloc: Global, entries: &[&str]) -> Result<Vec<String>, NoMemory>
+    ensures { IfOk result (λ v. map string_bytes v.items ≡ map (λ entry. entry.now) entries.now) }
+{
+    let mut texts = Vec::new(alloc);
+    for entry in entries {
+        texts.push(String::from_str(alloc, entry)?)?;
+    }
+    Ok(texts)
+}
+
 /// The paths that a value names between colons, without empty ones: those of `XDG_DATA_DIRS` and its kin.
 pub fn split_paths(alloc: Global, text: &str) -> Result<Vec<String>, NoMemory>
     ensures { IfOk result (λ v. map string_bytes v.items ≡ paths_of text.now) }
 {
-    let mut paths = Vec::new(alloc);
-    let entries = entries(alloc, text, ':')?;
-    for entry in &entries {
-        paths.push(String::from_str(alloc, entry)?)?;
-    }
-    Ok(paths)
+    let paths = entries(alloc, text, ':')?;
+    texts_of(alloc, &paths)
+}
+
+/// The names of layers that an application gives between commas, without empty ones.
+pub fn split_layer_names(alloc: Global, text: &str) -> Result<Vec<String>, NoMemory>
+    ensures { IfOk result (λ v. map string_bytes v.items ≡ layer_names_of text.now) }
+{
+    let names = entries(alloc, text, ',')?;
+    texts_of(alloc, &names)
 }

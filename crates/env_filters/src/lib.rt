@@ -11,7 +11,7 @@ mod memory;
 mod tests;
 mod variables;
 
-pub use entries::split_paths;
+pub use entries::{split_layer_names, split_paths};
 pub use filters::{FilterList, LayerKindBit};
 pub use glob::Glob;
 pub use memory::NoMemory;

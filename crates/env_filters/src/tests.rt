@@ -1,5 +1,5 @@
 // What no clause says: that calls succeed with ample memory; and tables of expected answers, written by hand.
-use crate::{EnvList, FilterList, Glob, LayerKindBit, NoMemory, split_paths};
+use crate::{EnvList, FilterList, Glob, LayerKindBit, NoMemory, split_layer_names, split_paths};
 use std::alloc::Global;
 use std::test::Fail;
 
@@ -124,6 +124,20 @@ fn paths_stand_between_colons(rt: HostRuntime) -> Result<(), Fail> {
     assert_eq!(rt; paths[0].as_str(), "/a");
     assert_eq!(rt; paths[1].as_str(), "/b");
     let none = split_paths(alloc, "::").ok().ok_or("memory")?;
+    assert_eq!(rt; none.len(), 0);
+    Ok(())
+}
+
+#[test]
+fn names_stand_between_commas(rt: HostRuntime) -> Result<(), Fail> {
+    let alloc = rt.alloc();
+    let names = split_layer_names(alloc, ",VK_LAYER_a:b,,VK_LAYER_c")
+        .ok()
+        .ok_or("memory")?;
+    assert_eq!(rt; names.len(), 2);
+    assert_eq!(rt; names[0].as_str(), "VK_LAYER_a:b");
+    assert_eq!(rt; names[1].as_str(), "VK_LAYER_c");
+    let none = split_layer_names(alloc, ",").ok().ok_or("memory")?;
     assert_eq!(rt; none.len(), 0);
     Ok(())
 }
