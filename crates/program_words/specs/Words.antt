@@ -1,0 +1,76 @@
+-- Which lists of words are understood, and what they give. The code also goes through clap, which shows nowhere in these definitions but
+-- that a word is split at its first `=` as clap splits it. Source: this project.
+use Rattle.std.specs.Prelude.{ℕ, Bool, true, false, not, ◌==◌, ◌&&◌, List, [], ◌∷◌, ◌++◌, Option, Some, None}
+use Rattle.std.specs.Prelude.{if◌then◌else◌, find, codes, option_map, option_and_then, unwrap_or}
+use Rattle.std.specs.List.{list_any}
+use Rattle.std.specs.Str.{bytes_eq}
+use Rattle.clap.specs.Lexer.{long_of}
+
+-- a word, or a piece of one
+abbrev pub Word : Type 0
+Word = List ℕ
+
+-- the options that were read so far, as names with their values
+abbrev pub GivenOptions : Type 0
+GivenOptions = List (Word × Word)
+
+-- the name is one of these
+abbrev pub is_one_of : Word → List Word → Bool
+is_one_of name known = list_any (λ k. bytes_eq k name) known
+
+-- the option was read before
+abbrev pub is_given : Word → GivenOptions → Bool
+is_given name given = list_any (λ p. bytes_eq p.0 name) given
+
+-- the command has the option, and it stands for the first time
+abbrev pub may_stand : List Word → GivenOptions → Word → Bool
+may_stand known given name = is_one_of name known && not (is_given name given)
+
+-- a word of its own is a value where it isn't empty and doesn't begin with `-` (45)
+abbrev pub is_value : Word → Bool
+is_value [] = false
+is_value (b ∷ bs) = not (b == 45)
+
+-- `--name` waits for its value, and `--name=value` has it, where that isn't empty
+abbrev pub named_option : Word → GivenOptions → Option Word → (GivenOptions → Option Word → Option GivenOptions) → Option GivenOptions
+named_option name given None more = more given (Some name)
+named_option name given (Some []) more = None
+named_option name given (Some (b ∷ bs)) more = more (given ++ (name, b ∷ bs) ∷ []) None
+
+-- a word where no value is awaited: it has to be an option that may stand
+abbrev pub option_met : List Word → GivenOptions → Option (Word × Option Word) → (GivenOptions → Option Word → Option GivenOptions) → Option GivenOptions
+option_met known given None more = None
+option_met known given (Some p) more = if may_stand known given p.0 then named_option p.0 given p.1 more else None
+
+-- the options of a list of words, after `given`, where `waiting` is the name that wants its value
+unfoldable pub options_from : List Word → GivenOptions → Option Word → List Word → Option GivenOptions
+options_from known given None [] = Some given
+options_from known given (Some name) [] = None
+options_from known given None (word ∷ rest) =
+    option_met known given (long_of word) (λ now waiting. options_from known now waiting rest)
+options_from known given (Some name) (word ∷ rest) =
+    if is_value word then options_from known (given ++ (name, word) ∷ []) None rest else None
+
+-- the commands and their options
+abbrev pub commands : List (Word × List Word)
+commands = (codes "run", codes "root" ∷ codes "driver" ∷ codes "exe" ∷ [])
+    ∷ (codes "chain", codes "root" ∷ codes "exe" ∷ codes "layers" ∷ [])
+    ∷ []
+
+-- the options of a command
+abbrev pub options_of : Word → Option (List Word)
+options_of command = option_map (λ p. p.1) (find (λ p. bytes_eq p.0 command) commands)
+
+-- the first word is the command and the others are its options, or the words aren't understood
+abbrev pub understood : List Word → Option (Word × GivenOptions)
+understood [] = None
+understood (command ∷ rest) = option_and_then (λ known.
+    option_map (λ given. (command, given)) (options_from known [] None rest)) (options_of command)
+
+-- the value of an option
+abbrev pub value_given : Word → GivenOptions → Option Word
+value_given name given = option_map (λ p. p.1) (find (λ p. bytes_eq p.0 name) given)
+
+-- the value of an option, empty where it isn't given
+abbrev pub value_or_empty : Word → GivenOptions → Word
+value_or_empty name given = unwrap_or (value_given name given) []

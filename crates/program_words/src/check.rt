@@ -1,0 +1,130 @@
+// Whether words are understood.
+ghost use Rattle.std.specs.Prelude.{◌≡◌, ◌&&◌, [], None, not, IfOk, option_map};
+ghost use Rattle.clap.specs.Lexer.{long_of, name_and_value, strip_byte};
+ghost use Rattle.program_words.specs.Content.{given_pairs, known_of, word_if_any, words_of};
+ghost use Rattle.program_words.specs.Words.{is_given, is_one_of, is_value, may_stand, options_from, options_of};
+
+use std::alloc::{AllocError, Global};
+
+pub(crate) static RUN_OPTIONS: [&str; 3] = ["root", "driver", "exe"];
+
+pub(crate) static CHAIN_OPTIONS: [&str; 3] = ["root", "exe", "layers"];
+
+/// The options of a command.
+pub(crate) fn options_of(command: &str) -> Option<&'static [&'static str]>
+    ensures { option_map (λ s. known_of s.now) result ≡ options_of command.now }
+{
+    if command == "run" {
+        Some(RUN_OPTIONS.as_slice())
+    } else if command == "chain" {
+        Some(CHAIN_OPTIONS.as_slice())
+    } else {
+        None
+    }
+}
+
+// What follows a first hyphen.
+fn strip_dash(word: &str) -> Option<&str>
+    ensures { word_if_any result ≡ strip_byte 45 word.now }
+{
+    word.strip_prefix('-')
+}
+
+// What stands before the first `=`, and what stands after it if there is one.
+fn split_value(text: &str) -> (&str, Option<&str>)
+    ensures { (result.0.now, word_if_any result.1) ≡ name_and_value text.now }
+{
+    match text.split_once('=') {
+        Some((name, value)) => (name, Some(value)),
+        None => (text, None),
+    }
+}
+
+// `--name` or `--name=value`, as the name and the value.
+fn split_word(word: &str) -> Option<(&str, Option<&str>)>
+    ensures { option_map (λ p. (p.0.now, word_if_any p.1)) result ≡ long_of word.now }
+{
+    let rest = strip_dash(strip_dash(word)?)?;
+    if rest.is_empty() {
+        return None;
+    }
+    Some(split_value(rest))
+}
+
+fn is_value(word: &str) -> bool
+    ensures { result ≡ is_value word.now }
+{
+    !word.is_empty() && strip_dash(word).is_none()
+}
+
+fn is_one_of(name: &str, known: &[&str]) -> bool
+    ensures { result ≡ is_one_of name.now (known_of known.now) }
+{
+    for other in known {
+        if *other == name {
+            return true;
+        }
+    }
+    false
+}
+
+fn is_given(name: &str, given: &[(&str, &str)]) -> bool
+    ensures { result ≡ is_given name.now (given_pairs given.now) }
+{
+    for option in given {
+        if option.0 == name {
+            return true;
+        }
+    }
+    false
+}
+
+fn may_stand(known: &[&str], given: &[(&str, &str)], name: &str) -> bool
+    ensures { result ≡ may_stand (known_of known.now) (given_pairs given.now) name.now }
+{
+    is_one_of(name, known) && !is_given(name, given)
+}
+
+/// The options of the words with their values, or none where the words are not understood.
+pub(crate) fn options_from<'a>(
+    alloc: Global,
+    known: &[&str],
+    words: &'a [String],
+) -> Result<Option<Vec<(&'a str, &'a str)>>, AllocError>
+    ensures { IfOk result (λ r. option_map (λ v. given_pairs v.items) r ≡ options_from (known_of known.now) [] None (words_of words.now)) }
+{
+    let mut given: Vec<(&'a str, &'a str)> = Vec::new(alloc);
+    let mut waiting: Option<&'a str> = None;
+    for word in words {
+        match waiting {
+            Some(name) => {
+                if !is_value(word) {
+                    return Ok(None);
+                }
+                given.push((name, word.as_str()))?;
+                waiting = None;
+            }
+            None => {
+                let Some((name, value)) = split_word(word) else {
+                    return Ok(None);
+                };
+                if !may_stand(known, &given, name) {
+                    return Ok(None);
+                }
+                match value {
+                    None => waiting = Some(name),
+                    Some(value) => {
+                        if value.is_empty() {
+                            return Ok(None);
+                        }
+                        given.push((name, value))?;
+                    }
+                }
+            }
+        }
+    }
+    match waiting {
+        Some(_) => Ok(None),
+        None => Ok(Some(given)),
+    }
+}

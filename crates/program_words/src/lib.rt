@@ -1,0 +1,11 @@
+//! The words of a command line.
+//! Promises what each list of words asks for, and which aren't understood; `clap` reads what passes a check of this crate's own.
+//! Leaves to others what a command does.
+#![tactic(auto)]
+
+mod check;
+mod read;
+#[cfg(test)]
+mod tests;
+
+pub use read::{ChainWords, Request, RunWords, WordsError, read_words};
