@@ -1,11 +1,10 @@
 -- A command that is made option by option.
-use Rattle.std.proofs.Common.{◌≡◌, ◌∙◌, ◌<◌, ◌≤◌, ◌+◌, ◌^◌, ◌&&◌, not, ℕ, Bool, cond, true, false, refl, sym, ap, ap₂, arith, List, [], ◌∷◌, ◌++◌, map, length, take, drop, get_or, Option, Some, None}
-use Rattle.std.specs.Prelude.{slice_index, ◌==◌}
+use Rattle.std.proofs.Common.{◌≡◌, ◌∙◌, ◌<◌, ◌+◌, ℕ, sym, ap, ap₂, List, [], ◌∷◌, length, take, get_or}
 use Rattle.std.specs.Borrow.{Bor}
 use Rattle.std.proofs.lemmas.List.{map-append, take_more}
 use Rattle.clap.specs.Walk.{Rule}
 use Rattle.clap.specs.Simple.{App}
-use Rattle.clap.specs.Words.{Accepts, with_rule}
+use Rattle.clap.specs.Words.{with_rule}
 use Rattle.program_words.specs.Words.{Word}
 use Rattle.program_words.specs.Content.{known_of}
 use Rattle.program_words.specs.Program.{alone, long_rule}

@@ -1,17 +1,17 @@
 -- `clap`'s answer on the words that the definition reads.
-use Rattle.std.proofs.Common.{◌≡◌, ◌∙◌, ◌&&◌, ◌||◌, ◌++◌, not, ℕ, Bool, cond, true, false, refl, sym, ap, ap₂, subst, List, [], ◌∷◌, map, find, codes, Option, Some, None, true≢false}
+use Rattle.std.proofs.Common.{◌≡◌, ◌∙◌, ◌&&◌, ◌||◌, ◌++◌, not, Bool, cond, true, false, refl, sym, ap, subst, List, [], ◌∷◌, map, find, Option, Some, None, true≢false}
 use Rattle.std.specs.Prelude.{is_some, option_map, unwrap_or}
 use Rattle.std.specs.List.{fold, list_all, list_any}
 use Rattle.std.specs.Option.{option_map_or, option_and_then}
 use Rattle.std.specs.Str.{bytes_eq}
 use Rattle.std.specs.Cmp.Lexicographic.{bytes_decides}
-use Rattle.clap.specs.Walk.{Held, Names, Row, Rule, Walk, answers_to, finished, idle, nothing_held, rows_after, settled, subcommand, subcommand_met, subcommand_or_other, walk, walk_from, walked, after_step, with_default}
-use Rattle.clap.specs.Simple.{App, Shape, built, entered, is_simple, label_of, names_of, new_shape, rows_at, subcommand_of}
-use Rattle.clap.specs.Takes.{built_takes, default_passes, entered_passes, is_valid, level_passes, settle_passes, step_passes, takes, turn_passes, walk_passes, is_given, other_passes}
+use Rattle.clap.specs.Walk.{Names, Row, Rule, Walk, answers_to, finished, idle, nothing_held, subcommand_met, subcommand_or_other, walk, walk_from, walked, after_step, with_default}
+use Rattle.clap.specs.Simple.{App, Shape, built, entered, label_of, names_of, rows_at, subcommand_of}
+use Rattle.clap.specs.Takes.{default_passes, entered_passes, is_valid, level_passes, settle_passes, step_passes, takes, turn_passes, walk_passes, is_given, other_passes}
 use Rattle.clap.proofs.WalkLemmas.{walk_stopped}
-use Rattle.program_words.specs.Words.{GivenOptions, Word, options_from, options_of, understood, commands}
-use Rattle.program_words.proofs.Options.{Follows, Rests, Stands, follows, leaf, resting, walk_at}
-use Rattle.program_words.specs.Program.{long_rule, new_leaf, value_rule, program, option_row}
+use Rattle.program_words.specs.Words.{GivenOptions, Word, options_from, understood, commands}
+use Rattle.program_words.proofs.Options.{Follows, follows, leaf, resting}
+use Rattle.program_words.specs.Program.{value_rule, program, option_row}
 
 abbrev a : App
 a = built program

@@ -1,23 +1,21 @@
 -- How `clap` walks over the words that the definition reads.
-use Rattle.std.proofs.Common.{◌≡◌, ◌∙◌, ◌+◌, ◌==◌, ◌&&◌, ◌||◌, not, ℕ, Bool, cond, true, false, refl, sym, ap, ap₂, subst, arith, List, [], ◌∷◌, ◌++◌, map, length, find, Option, Some, None, true≢false, append-nil}
-use Rattle.std.specs.Prelude.{min, is_some, nat_lt, option_map, unwrap_or}
-use Rattle.std.specs.List.{fold, list_all, list_any}
+use Rattle.std.proofs.Common.{◌≡◌, ◌∙◌, ◌==◌, ◌&&◌, ◌||◌, not, ℕ, Bool, cond, true, false, refl, sym, ap, ap₂, subst, List, [], ◌∷◌, ◌++◌, map, Option, Some, None, true≢false, append-nil}
+use Rattle.std.specs.Prelude.{is_some, unwrap_or}
+use Rattle.std.specs.List.{fold}
 use Rattle.std.specs.Option.{option_map_or, option_and_then}
 use Rattle.std.specs.Str.{bytes_eq}
 use Rattle.std.specs.Cmp.Lexicographic.{bytes_decides}
 use Rattle.std.proofs.lemmas.List.{map-append}
 use Rattle.clap.specs.Lexer.{long_of, short_of}
 use Rattle.clap.specs.Values.{}
-use Rattle.clap.specs.Walk.{Held, Row, Rule, Step, Waiting, Walk, after_flag, after_step, finished, long_met, long_or_other, more_values, option_word, next, plain_word, reacted, settled, short_or_plain, trailing, value, arg_by_id, arg_by_long, at_row, has_row, idle, option, settled_rows, used, used_by_id, walked, with_values, without, first_of}
-use Rattle.clap.specs.Simple.{Shape, new_rule, new_shape}
+use Rattle.clap.specs.Walk.{Held, Row, Rule, Step, Waiting, Walk, after_flag, after_step, long_met, long_or_other, more_values, option_word, next, reacted, settled, short_or_plain, trailing, arg_by_id, arg_by_long, at_row, has_row, idle, option, settled_rows, used, used_by_id, walked, with_values, without, first_of}
+use Rattle.clap.specs.Simple.{Shape, new_shape}
 use Rattle.clap.specs.Takes.{bundle_passes, flag_word_passes, long_passes, settle_passes, step_passes, turn_passes, use_passes, walk_passes}
 use Rattle.clap.proofs.WalkLemmas.{both, list_any-map}
-use Rattle.clap.specs.declared.builder.action.ArgAction.TheVariants.{Set}
 use Rattle.clap.specs.declared.builder.value_parser.Reading.TheVariants as reading
-use Rattle.clap.specs.declared.builder.value_parser.ValueParser.TheVariants as vp
 use Rattle.clap.specs.declared.parser.matches.ValueSource.TheVariants.{CommandLine}
-use Rattle.program_words.specs.Program.{long_rule, value_rule, option_row}
-use Rattle.program_words.specs.Words.{GivenOptions, Word, is_given, is_one_of, is_value, may_stand, named_option, option_met, options_from, value_given}
+use Rattle.program_words.specs.Program.{value_rule, option_row}
+use Rattle.program_words.specs.Words.{GivenOptions, Word, is_given, is_one_of, is_value, awaited, is_empty_value, may_stand, options_from, value_given, with_option}
 
 -- ---- rules and rows
 
@@ -258,8 +256,8 @@ module _ (title : Word) (known : List Word) where
   abbrev More : Word → List Word → GivenOptions → Type 0
   More word rest out = (now : GivenOptions) (waiting : Option Word) (w : Walk) → Stands now waiting w → options_from known now waiting rest ≡ Some out → Follows w rest out
 
-  abbrev after : List Word → GivenOptions → Option Word → Option GivenOptions
-  after rest now waiting = options_from known now waiting rest
+  abbrev after : List Word → GivenOptions → Word × Option Word → Option GivenOptions
+  after rest given p = options_from known (with_option given p) (awaited p) rest
 
   none≢some : (out : GivenOptions) → None ≡ Some out → ⊥
   none≢some out e = true≢false (sym (ap is_some e))
@@ -270,35 +268,40 @@ module _ (title : Word) (known : List Word) where
       (parts.0, is_not (is_given name given) parts.1)
 
   follows_long : (given : GivenOptions) (h : Held) (n : ℕ) (word : Word) (rest : List Word) (out : GivenOptions) (name : Word) (v : Option Word) → Rests given h
-      → long_of word ≡ Some (name, v) → may_stand known given name ≡ true → named_option name given v (after rest) ≡ Some out → More word rest out
+      → long_of word ≡ Some (name, v) → may_stand known given name ≡ true → is_empty_value v ≡ false → after rest given (name, v) ≡ Some out → More word rest out
       → Follows (walk_at h idle n) (word ∷ rest) out
-  follows_long given h n word rest out name None r is can e more =
+  follows_long given h n word rest out name None r is can full e more =
       let in_table = stands_in given name can in
       first_word (walk_at h idle n) word rest out (named_passes given h n word name r is in_table.0)
       (subst (λ w. Follows w rest out) (sym (named_walks h n word name is in_table.0 ∙ ap (λ rows. walk_at (wants rows h.skip name) (option name) n) r.rows))
       (more given (Some name) _ (wanting given h.skip n name can) e))
-  follows_long given h n word rest out name (Some []) r is can e more = absurd (none≢some out e)
-  follows_long given h n word rest out name (Some (b ∷ bs)) r is can e more =
+  follows_long given h n word rest out name (Some []) r is can full e more = absurd (true≢false full)
+  follows_long given h n word rest out name (Some (b ∷ bs)) r is can full e more =
       let in_table = stands_in given name can in
       first_word (walk_at h idle n) word rest out (valued_passes given h n word name (b ∷ bs) r is in_table.0 in_table.1)
       (subst (λ w. Follows w rest out) (sym (valued_walks h n word name (b ∷ bs) is in_table.0))
       (more (given ++ (name, b ∷ bs) ∷ []) None _ (resting _ _ n (valued_rests given h name (b ∷ bs) r in_table.1)) e))
 
+  abbrev where_named : GivenOptions → Option (Word × Option Word) → Option (Word × Option Word)
+  where_named given long = option_and_then (λ p. cond (may_stand known given p.0 && not (is_empty_value p.1)) (Some p) None) long
+
   follows_option : (given : GivenOptions) (h : Held) (n : ℕ) (word : Word) (rest : List Word) (out : GivenOptions) (long : Option (Word × Option Word)) → Rests given h
-      → long_of word ≡ long → option_met known given long (after rest) ≡ Some out → More word rest out → Follows (walk_at h idle n) (word ∷ rest) out
+      → long_of word ≡ long → option_and_then (after rest given) (where_named given long) ≡ Some out → More word rest out → Follows (walk_at h idle n) (word ∷ rest) out
   follows_option given h n word rest out None r is e more = absurd (none≢some out e)
-  follows_option given h n word rest out (Some (name, v)) r is e more = go (may_stand known given name) refl e
+  follows_option given h n word rest out (Some (name, v)) r is e more = go (may_stand known given name) (is_empty_value v) refl refl e
     where
-      go : (b : Bool) → may_stand known given name ≡ b → cond b (named_option name given v (after rest)) None ≡ Some out → Follows (walk_at h idle n) (word ∷ rest) out
-      go true can f = follows_long given h n word rest out name v r is can f more
-      go false can f = absurd (none≢some out f)
+      go : (b c : Bool) → may_stand known given name ≡ b → is_empty_value v ≡ c → option_and_then (after rest given) (cond (b && not c) (Some (name, v)) None) ≡ Some out
+          → Follows (walk_at h idle n) (word ∷ rest) out
+      go true false can full f = follows_long given h n word rest out name v r is can full f more
+      go true true can full f = absurd (none≢some out f)
+      go false c can full f = absurd (none≢some out f)
 
   follows_value : (given : GivenOptions) (k n : ℕ) (name word : Word) (rest : List Word) (out : GivenOptions) → may_stand known given name ≡ true
-      → cond (is_value word) (options_from known (given ++ (name, word) ∷ []) None rest) None ≡ Some out → More word rest out
+      → option_and_then (after rest given) (cond (is_value word) (Some (name, Some word)) None) ≡ Some out → More word rest out
       → Follows (walk_at (wants (map option_row given) k name) (option name) n) (word ∷ rest) out
   follows_value given k n name word rest out can e more = go (is_value word) refl e
     where
-      go : (b : Bool) → is_value word ≡ b → cond b (options_from known (given ++ (name, word) ∷ []) None rest) None ≡ Some out
+      go : (b : Bool) → is_value word ≡ b → option_and_then (after rest given) (cond b (Some (name, Some word)) None) ≡ Some out
           → Follows (walk_at (wants (map option_row given) k name) (option name) n) (word ∷ rest) out
       go false is f = absurd (none≢some out f)
       go true is f =

@@ -1,6 +1,6 @@
 -- What words ask for, with what is left out filled in: an empty root, the driver that gives fresh handles, an empty path, no layers.
 -- Source: this project.
-use Rattle.std.specs.Prelude.{ℕ, List, Option, Some, None, if◌then◌else◌, codes, option_map, option_and_then}
+use Rattle.std.specs.Prelude.{List, Option, Some, None, if◌then◌else◌, codes, option_map, option_and_then}
 use Rattle.std.specs.Str.{bytes_eq}
 use Rattle.model_driver.specs.declared.driver.Policy.{Policy}
 use Rattle.model_driver.specs.declared.driver.Policy.TheVariants.{Fresh, Reuse, Share}

@@ -1,5 +1,5 @@
 -- The lists behind the references of the code's types. Source: this project.
-use Rattle.std.specs.Prelude.{ℕ, List, map, Option, option_map, String, string_bytes}
+use Rattle.std.specs.Prelude.{List, map, Option, option_map, String, string_bytes}
 use Rattle.std.specs.Borrow.{Bor}
 use Rattle.std.specs.declared.alloc.Global.{Global}
 use Rattle.program_words.specs.Words.{GivenOptions, Word}

@@ -1,5 +1,5 @@
 -- What `clap` is given, and the rows that it answers with. Source: this project; clap's documentation.
-use Rattle.std.specs.Prelude.{ℕ, true, false, List, [], ◌∷◌, map, codes, Option, Some, None}
+use Rattle.std.specs.Prelude.{true, false, List, [], ◌∷◌, map, codes, Some, None}
 use Rattle.clap.specs.Walk.{Row, Rule}
 use Rattle.clap.specs.Simple.{App, Shape, new_rule, new_shape}
 use Rattle.clap.specs.declared.builder.action.ArgAction.TheVariants.{Set}

@@ -1,6 +1,6 @@
 -- Which lists of words are understood, and what they give. The code also goes through clap, which shows nowhere in these definitions but
 -- that a word is split at its first `=` as clap splits it. Source: this project.
-use Rattle.std.specs.Prelude.{ℕ, Bool, true, false, not, ◌==◌, ◌&&◌, List, [], ◌∷◌, ◌++◌, Option, Some, None}
+use Rattle.std.specs.Prelude.{ℕ, Bool, false, not, ◌==◌, ◌&&◌, List, [], ◌∷◌, ◌++◌, length, Option, Some, None}
 use Rattle.std.specs.Prelude.{if◌then◌else◌, find, codes, option_map, option_and_then, unwrap_or}
 use Rattle.std.specs.List.{list_any}
 use Rattle.std.specs.Str.{bytes_eq}
@@ -31,25 +31,36 @@ abbrev pub is_value : Word → Bool
 is_value [] = false
 is_value (b ∷ bs) = not (b == 45)
 
--- `--name` waits for its value, and `--name=value` has it, where that isn't empty
-abbrev pub named_option : Word → GivenOptions → Option Word → (GivenOptions → Option Word → Option GivenOptions) → Option GivenOptions
-named_option name given None more = more given (Some name)
-named_option name given (Some []) more = None
-named_option name given (Some (b ∷ bs)) more = more (given ++ (name, b ∷ bs) ∷ []) None
+-- an empty value after `=`
+abbrev pub is_empty_value : Option Word → Bool
+is_empty_value None = false
+is_empty_value (Some text) = length text == 0
 
--- a word where no value is awaited: it has to be an option that may stand
-abbrev pub option_met : List Word → GivenOptions → Option (Word × Option Word) → (GivenOptions → Option Word → Option GivenOptions) → Option GivenOptions
-option_met known given None more = None
-option_met known given (Some p) more = if may_stand known given p.0 then named_option p.0 given p.1 more else None
+-- the option that a word names, where it may stand, with its value if the word has one: `--name` or `--name=value`
+abbrev pub option_named : List Word → GivenOptions → Word → Option (Word × Option Word)
+option_named known given word = option_and_then (λ p. if may_stand known given p.0 && not (is_empty_value p.1) then Some p else None) (long_of word)
 
--- the options of a list of words, after `given`, where `waiting` is the name that wants its value
+-- the option that a word gives, where a name may wait for its value
+abbrev pub next_option : List Word → GivenOptions → Option Word → Word → Option (Word × Option Word)
+next_option known given None word = option_named known given word
+next_option known given (Some name) word = if is_value word then Some (name, Some word) else None
+
+-- an option with its value is given
+abbrev pub with_option : GivenOptions → Word × Option Word → GivenOptions
+with_option given (name, None) = given
+with_option given (name, Some value) = given ++ (name, value) ∷ []
+
+-- an option without its value waits for it
+abbrev pub awaited : Word × Option Word → Option Word
+awaited (name, None) = Some name
+awaited (name, Some value) = None
+
+-- the options of a list of words, after those that are given, where a name may wait for its value
 unfoldable pub options_from : List Word → GivenOptions → Option Word → List Word → Option GivenOptions
+options_from known given waiting (word ∷ rest) =
+    option_and_then (λ p. options_from known (with_option given p) (awaited p) rest) (next_option known given waiting word)
 options_from known given None [] = Some given
 options_from known given (Some name) [] = None
-options_from known given None (word ∷ rest) =
-    option_met known given (long_of word) (λ now waiting. options_from known now waiting rest)
-options_from known given (Some name) (word ∷ rest) =
-    if is_value word then options_from known (given ++ (name, word) ∷ []) None rest else None
 
 -- the commands and their options
 abbrev pub commands : List (Word × List Word)

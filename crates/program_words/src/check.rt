@@ -2,7 +2,7 @@
 ghost use Rattle.std.specs.Prelude.{◌≡◌, ◌&&◌, [], None, not, IfOk, option_map};
 ghost use Rattle.clap.specs.Lexer.{long_of, name_and_value, strip_byte};
 ghost use Rattle.program_words.specs.Content.{given_pairs, known_of, word_if_any, words_of};
-ghost use Rattle.program_words.specs.Words.{is_given, is_one_of, is_value, may_stand, options_from, options_of};
+ghost use Rattle.program_words.specs.Words.{is_empty_value, is_given, is_one_of, is_value, may_stand, next_option, option_named, options_from, options_of};
 
 use std::alloc::{AllocError, Global};
 
@@ -85,6 +85,47 @@ fn may_stand(known: &[&str], given: &[(&str, &str)], name: &str) -> bool
     is_one_of(name, known) && !is_given(name, given)
 }
 
+fn is_empty_value(value: Option<&str>) -> bool
+    ensures { result ≡ is_empty_value (word_if_any value.entry) }
+{
+    match value {
+        Some(text) => text.is_empty(),
+        None => false,
+    }
+}
+
+// The option that a word names, where it may stand, with its value if the word has one.
+fn option_named<'a>(
+    known: &[&str],
+    given: &[(&str, &str)],
+    word: &'a str,
+) -> Option<(&'a str, Option<&'a str>)>
+    ensures { option_map (λ p. (p.0.now, word_if_any p.1)) result ≡ option_named (known_of known.now) (given_pairs given.now) word.now }
+{
+    let (name, value) = split_word(word)?;
+    if may_stand(known, given, name) && !is_empty_value(value) {
+        Some((name, value))
+    } else {
+        None
+    }
+}
+
+// The option that a word gives, where a name may wait for its value.
+fn next_option<'a>(
+    known: &[&str],
+    given: &[(&str, &str)],
+    waiting: Option<&'a str>,
+    word: &'a str,
+) -> Option<(&'a str, Option<&'a str>)>
+    ensures { option_map (λ p. (p.0.now, word_if_any p.1)) result ≡ next_option (known_of known.now) (given_pairs given.now) (word_if_any waiting.entry) word.now }
+{
+    match waiting {
+        Some(name) if is_value(word) => Some((name, Some(word))),
+        Some(_) => None,
+        None => option_named(known, given, word),
+    }
+}
+
 /// The options of the words with their values, or none where the words are not understood.
 pub(crate) fn options_from<'a>(
     alloc: Global,
@@ -96,32 +137,16 @@ pub(crate) fn options_from<'a>(
     let mut given: Vec<(&'a str, &'a str)> = Vec::new(alloc);
     let mut waiting: Option<&'a str> = None;
     for word in words {
-        match waiting {
-            Some(name) => {
-                if !is_value(word) {
-                    return Ok(None);
-                }
-                given.push((name, word.as_str()))?;
-                waiting = None;
+        let Some((name, value)) = next_option(known, &given, waiting, word) else {
+            return Ok(None);
+        };
+        waiting = match value {
+            Some(value) => {
+                given.push((name, value))?;
+                None
             }
-            None => {
-                let Some((name, value)) = split_word(word) else {
-                    return Ok(None);
-                };
-                if !may_stand(known, &given, name) {
-                    return Ok(None);
-                }
-                match value {
-                    None => waiting = Some(name),
-                    Some(value) => {
-                        if value.is_empty() {
-                            return Ok(None);
-                        }
-                        given.push((name, value))?;
-                    }
-                }
-            }
-        }
+            None => Some(name),
+        };
     }
     match waiting {
         Some(_) => Ok(None),

@@ -1,4 +1,4 @@
-use Rattle.std.proofs.Common.{◌≡◌, ◌∙◌, ap₂, refl, false, Bool, ◌||◌}
+use Rattle.std.proofs.Common.{◌∙◌, ap₂, Bool, ◌||◌}
 use Rattle.clap.specs.Words.{app_of, rule_of}
 use Rattle.program_words.proofs.Builds.{more_rules}
 use Rattle.program_words.proofs.read.command_of.Goals as goal

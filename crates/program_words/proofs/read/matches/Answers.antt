@@ -1,7 +1,6 @@
-use Rattle.std.proofs.Common.{◌≡◌, ◌∙◌, ap, sym, refl}
+use Rattle.std.proofs.Common.{◌∙◌, ap}
 use Rattle.clap.specs.Words.{is_simple, subcommand_of, takes}
 use Rattle.program_words.specs.Content.{words_of}
-use Rattle.program_words.specs.Program.{program}
 use Rattle.program_words.proofs.Clap.{read_taken}
 use Rattle.program_words.proofs.read.matches.Goals as goal
 
