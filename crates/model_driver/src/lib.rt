@@ -9,7 +9,7 @@ mod due;
 mod laws;
 mod model_driver;
 mod recording_driver;
-mod seat;
+mod given_values;
 mod shape;
 #[cfg(test)]
 mod tests;
