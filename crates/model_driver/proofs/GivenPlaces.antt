@@ -1,5 +1,5 @@
 -- What drivers have given, by their places in the list.
-use Rattle.std.proofs.Common.{◌≡◌, ◌≤◌, ◌<◌, ◌+◌, ◌-◌, ℕ, zero, suc, ◌∙◌, Bool, true, false, cond, Option, Some, None, List, [], ◌∷◌, ◌++◌, length, get_or, refl, ap, sym, subst, arith}
+use Rattle.std.proofs.Common.{◌≡◌, ◌≤◌, ◌+◌, ◌-◌, ℕ, suc, ◌∙◌, Bool, true, false, cond, Some, None, List, [], ◌∷◌, ◌++◌, get_or, refl, ap, sym, arith}
 use Rattle.std.specs.Prelude.{nat_eq, Result, Ok, Err, OnOk, position}
 use Rattle.std.specs.List.{position_from}
 use Rattle.std.proofs.Math.ListN.{set}
@@ -9,7 +9,7 @@ use Rattle.command_tables.specs.Calls.{DriverCallContent}
 use Rattle.model_driver.specs.declared.driver.Policy.{Policy}
 use Rattle.model_driver.specs.Driver.{handles_due}
 use Rattle.model_driver.specs.Policies.{after_giving, values_ended, values_given, with_all_back}
-use Rattle.model_driver.specs.GivenValues.{ModelState, GivenState, after_call, back_after, back_of, handles_for, with_back_of}
+use Rattle.model_driver.specs.GivenValues.{GivenState, back_after, back_of, handles_for, with_back_of}
 
 -- what the first place of a driver says of what it has given, in a list whose first place is this number
 record IsAt (given : List GivenState) (d first i : ℕ) : Type 0 where

@@ -1,4 +1,3 @@
-use Rattle.std.proofs.Common.{refl}
 use Rattle.model_driver.specs.Driver.{call_shown}
 use Rattle.model_driver.proofs.GivenPlaces.{handles_at, given_at}
 use Rattle.model_driver.proofs.model_driver.serve_at.Goals as goal
