@@ -1,8 +1,7 @@
 -- A table with an entry more, and the entries of pairs.
-use Rattle.std.proofs.Common.{◌≡◌, ◌≢◌, ◌≤◌, ◌<◌, ◌⊎◌, ◌+◌, ◌-◌, ◌∙◌, ◌&&◌, ◌||◌, ◌==◌, ℕ, zero, suc, max, cond, Bool, true, false, Option, Some, None, List, [], ◌∷◌, ◌++◌, length, map, take, drop, get_or, refl, ap, sym, subst, arith, inl, inr, eq-eqb, length-append, get_or-set_same, get_or-set_other}
+use Rattle.std.proofs.Common.{◌≡◌, ◌≢◌, ◌≤◌, ◌<◌, ◌⊎◌, ◌+◌, ◌-◌, ◌∙◌, ◌&&◌, ◌||◌, ◌==◌, ℕ, zero, suc, max, cond, Bool, true, false, Some, None, List, [], ◌∷◌, ◌++◌, length, take, drop, get_or, refl, ap, sym, subst, arith, inl, inr, eq-eqb, length-append, get_or-set_same, get_or-set_other}
 use Rattle.std.specs.Prelude.{nat_eq, nat_lt, find, replicate, Result, Ok, Err, OnOk}
 use Rattle.std.specs.Option.{option_map}
-use Rattle.std.specs.List.{list_any}
 use Rattle.std.proofs.Math.ListN.{set, length-set, get_or-append}
 use Rattle.std.proofs.Math.Seq.{get_or-append_seam}
 use Rattle.std.proofs.lemmas.Bool.{eqb-true, ltb-true}
@@ -11,7 +10,7 @@ use Rattle.command_tables.specs.declared.types.ObjectType.{ObjectType}
 use Rattle.command_tables.specs.Tests.{same_type}
 use Rattle.handle_map.specs.declared.entry.Entry.{Entry}
 use Rattle.handle_map.specs.Pairs.{AreDistinct, MapEntry, greatest_id, has_pair, is_pair, values_of, with_values}
-use Rattle.handle_map.specs.Chains.{AreApart, AreFirst, AreLinked, HasNoPlace, chains_made, IsLink, IsPlace, IsTable, IsWithin, chain_of, entries_of, entry_of, is_at, put_at, values_at}
+use Rattle.handle_map.specs.Chains.{AreApart, AreFirst, HasNoPlace, chains_made, IsLink, IsPlace, IsTable, IsWithin, chain_of, entries_of, entry_of, is_at, put_at, values_at}
 use Rattle.handle_map.proofs.Links.{type_is}
 use Rattle.handle_map.proofs.Flat.{added_own, kept_before}
 

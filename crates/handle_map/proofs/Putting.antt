@@ -1,9 +1,8 @@
 -- Other values for an entry, in its room or behind all others.
-use Rattle.std.proofs.Common.{◌≡◌, ◌≢◌, ◌≤◌, ◌<◌, ◌⊎◌, ◌+◌, ◌∙◌, ℕ, List, [], ◌∷◌, ◌++◌, length, map, take, drop, get_or, refl, ap, sym, subst, arith, inl, inr, length-append}
+use Rattle.std.proofs.Common.{◌≡◌, ◌≢◌, ◌≤◌, ◌<◌, ◌+◌, ◌∙◌, ℕ, List, ◌++◌, length, get_or, ap, sym, subst, arith, inl, inr, length-append}
 use Rattle.std.proofs.Math.ListN.{set}
 use Rattle.std.proofs.lemmas.List.{length-map}
 use Rattle.handle_map.specs.declared.entry.Entry.{Entry}
-use Rattle.handle_map.specs.Pairs.{MapEntry}
 use Rattle.handle_map.specs.Chains.{AreApart, IsTable, IsWithin, entries_of, entry_of, put_at, values_at, written}
 use Rattle.handle_map.proofs.Flat.{added_own, kept_before, length-written, written_other, written_own}
 use Rattle.handle_map.proofs.Links.{default_free}

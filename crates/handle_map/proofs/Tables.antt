@@ -1,11 +1,10 @@
 -- A table with an entry changed in its place.
-use Rattle.std.proofs.Common.{◌≡◌, ◌≢◌, ◌≤◌, ◌<◌, ◌⊎◌, ◌+◌, ◌-◌, ◌∙◌, ◌&&◌, ◌||◌, ◌==◌, ℕ, zero, suc, max, Bool, true, false, List, [], ◌∷◌, ◌++◌, length, map, get_or, refl, ap, sym, subst, arith, inl, inr, get_or-set_same, get_or-set_other}
+use Rattle.std.proofs.Common.{◌≡◌, ◌≢◌, ◌<◌, ◌⊎◌, ◌∙◌, ◌||◌, ℕ, zero, suc, max, Bool, true, false, List, [], ◌∷◌, length, get_or, refl, ap, sym, subst, arith, inl, inr, get_or-set_same, get_or-set_other}
 use Rattle.std.specs.Prelude.{nat_eq}
 use Rattle.std.proofs.Math.ListN.{set, length-set}
 use Rattle.std.proofs.lemmas.Bool.{eqb-true}
 use Rattle.std.proofs.Common.{eq-eqb}
 use Rattle.command_tables.specs.declared.types.ObjectType.{ObjectType}
-use Rattle.command_tables.specs.Tests.{same_type}
 use Rattle.handle_map.specs.declared.entry.Entry.{Entry}
 use Rattle.handle_map.specs.Pairs.{AreDistinct, MapEntry, greatest_id, has_pair, is_pair}
 use Rattle.handle_map.specs.Chains.{AreApart, AreFirst, AreLinked, IsLink, IsTable, IsWithin, chain_of, entries_of, entry_of, put_at, values_at}

@@ -1,5 +1,5 @@
 -- The handles that the model drivers answer: as many as are due, and none of them 0.
-use Rattle.std.proofs.Common.{◌≡◌, ℕ, zero, suc, ◌+◌, ◌-◌, ◌∙◌, Bool, true, false, List, [], ◌∷◌, ◌++◌, length, take, drop, refl, ap, arith, add-one, length-append, append_assoc, append-nil, sym}
+use Rattle.std.proofs.Common.{◌≡◌, ℕ, zero, suc, ◌-◌, ◌∙◌, Bool, true, false, List, [], ◌∷◌, ◌++◌, length, take, drop, refl, ap, arith, length-append}
 use Rattle.std.specs.Prelude.{replicate, ◌&&◌, nat_le}
 use Rattle.std.proofs.lemmas.List.{length-replicate, length-take}
 use Rattle.std.proofs.lemmas.List.Folds.{list_all-append}
@@ -8,7 +8,7 @@ use Rattle.command_tables.specs.Calls.{DriverCallContent, ReplyContent}
 use Rattle.model_driver.specs.declared.driver.Policy.{Policy}
 use Rattle.model_driver.specs.declared.driver.Policy.TheVariants as policy
 use Rattle.model_driver.specs.Policies.{given_from, least_not_out, next_value, values_ended, values_given, with_all_back, with_given}
-use Rattle.model_driver.specs.Seats.{ModelState, back_of, handles_for}
+use Rattle.model_driver.specs.GivenValues.{ModelState, back_of, handles_for}
 
 pub given_count : (values : List ℕ) (n : ℕ) → length (given_from values n) ≡ n
 given_count values n = simp (length-append, length-replicate, length-take) (omega arith)
@@ -80,6 +80,6 @@ values_positive p back (suc n) = both _ _ (next_positive p back) (values_positiv
 pub answers_so : (m : ModelState) (c : DriverCallContent) (r : ReplyContent) → r.code ≡ c.code → r.handles ≡ handles_for m c → IsAnsweredBy c r
 answers_so m c r code handles = record {
   code = code;
-  count = ap length handles ∙ values_count m.policy (with_all_back (back_of m.seats c.driver) (values_ended c)) (handles_due c);
-  handles = ap are_handles handles ∙ values_positive m.policy (with_all_back (back_of m.seats c.driver) (values_ended c)) (handles_due c);
+  count = ap length handles ∙ values_count m.policy (with_all_back (back_of m.given c.driver) (values_ended c)) (handles_due c);
+  handles = ap are_handles handles ∙ values_positive m.policy (with_all_back (back_of m.given c.driver) (values_ended c)) (handles_due c);
 }

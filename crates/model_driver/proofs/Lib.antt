@@ -3,4 +3,4 @@ pub mod Copies
 pub mod Handles
 pub mod Outs
 pub mod Rows
-pub mod Seating
+pub mod GivenPlaces

@@ -1,12 +1,12 @@
 -- What is out.
-use Rattle.std.proofs.Common.{◌≡◌, ◌≢◌, ◌≤◌, ◌<◌, ◌↔◌, ◌⊎◌, ℕ, zero, suc, ◌+◌, ◌-◌, ◌∙◌, Bool, true, false, cond, List, [], ◌∷◌, ◌++◌, length, get_or, refl, ap, sym, subst, arith, eq-eqb, inl, inr, length-append}
+use Rattle.std.proofs.Common.{◌≡◌, ◌≢◌, ◌≤◌, ◌<◌, ◌↔◌, ◌⊎◌, ℕ, zero, suc, ◌+◌, ◌-◌, ◌∙◌, Bool, true, false, cond, List, [], ◌∷◌, ◌++◌, length, refl, ap, sym, subst, arith, eq-eqb, inl, inr, length-append}
 use Rattle.std.specs.Prelude.{nat_le, nat_eq}
 use Rattle.std.proofs.Math.ListN.{set, length-set}
-use Rattle.std.proofs.lemmas.Bool.{eqb-true, le-leb, leb-true}
+use Rattle.std.proofs.lemmas.Bool.{eqb-true, leb-true}
 use Rattle.model_driver.specs.declared.driver.Policy.{Policy}
 use Rattle.model_driver.specs.declared.driver.Policy.TheVariants as policy
 use Rattle.model_driver.specs.Laws.{BackIsNotOut, FreshIsNew, GivenIsOut, IsLeastNotOut, IsOut, ReusedIsLeast}
-use Rattle.model_driver.specs.Policies.{is_back, least_not_out, next_value, with_back, with_given}
+use Rattle.model_driver.specs.Policies.{is_back, least_not_out, next_value, with_given}
 use Rattle.model_driver.proofs.Backs.{back_within, more_out, set_here, set_other}
 
 pub fresh_is_new : FreshIsNew

@@ -1,5 +1,5 @@
 -- The shape of a call, parameter by parameter.
-use Rattle.std.proofs.Common.{◌≡◌, ◌<◌, ◌↔◌, ℕ, zero, suc, ◌+◌, ◌∙◌, List, [], ◌∷◌, length, map, drop, get_or, refl, ap, sym, subst, arith, add-one}
+use Rattle.std.proofs.Common.{◌≡◌, ◌<◌, ◌↔◌, ℕ, zero, suc, ◌+◌, List, [], ◌∷◌, length, map, drop, get_or, refl, ap, sym, subst, arith, add-one}
 use Rattle.command_tables.specs.declared.types.Param.{Param}
 use Rattle.command_tables.specs.Handles.{list_at}
 use Rattle.command_tables.specs.Table.{seen_param}

@@ -1,6 +1,6 @@
 pub mod Driver
 pub mod Logs
 pub mod Policies
-pub mod Seats
+pub mod GivenValues
 pub mod Books
 pub mod Laws

@@ -10,7 +10,6 @@ use Rattle.command_tables.specs.Handles.{list_at}
 use Rattle.command_tables.specs.Table.{row_of}
 use Rattle.model_driver.specs.declared.driver.Policy.{Policy}
 use Rattle.model_driver.specs.declared.driver.Policy.TheVariants as policy
-use Rattle.model_driver.specs.Driver.{handles_due}
 
 -- the value was given, and has come back
 abbrev pub is_back : List Bool → ℕ → Bool

@@ -6,10 +6,10 @@
 mod adverse_driver;
 mod driver;
 mod due;
+mod given_values;
 mod laws;
 mod model_driver;
 mod recording_driver;
-mod seat;
 mod shape;
 #[cfg(test)]
 mod tests;

@@ -4,11 +4,11 @@ ghost use Rattle.command_tables.specs.Handles.{list_at};
 ghost use Rattle.model_driver.specs.declared.driver.Policy.TheVariants as policy;
 ghost use Rattle.model_driver.specs.Driver.{call_shown, reply_shown, HasShape, IsAnsweredBy};
 ghost use Rattle.model_driver.specs.Policies.{values_ended};
-ghost use Rattle.model_driver.specs.Seats.{after_call, handles_for};
+ghost use Rattle.model_driver.specs.GivenValues.{after_call, handles_for};
 
 use crate::driver::{Driver, DriverCall, DriverReply, Policy};
 use crate::due::handles_due;
-use crate::seat::Seat;
+use crate::given_values::GivenValues;
 use command_tables::{Effect, HandleArgs, NoMemory, row};
 use std::alloc::Global;
 use std::marker::Model;
@@ -17,24 +17,24 @@ use std::marker::Model;
 #[derive(Drop)]
 pub struct ModelDriver {
     policy: Policy,
-    seats: Vec<Seat>,
+    given: Vec<GivenValues>,
 }
 
 impl Model for ModelDriver {
-    ghost use Rattle.model_driver.specs.Seats.{ModelState};
+    ghost use Rattle.model_driver.specs.GivenValues.{ModelState};
 
     ghost Value = { ModelState };
 
-    ghost view = { λ d. record { policy = d.policy; seats = d.seats.items } };
+    ghost view = { λ d. record { policy = d.policy; given = d.given.items } };
 }
 
 impl ModelDriver {
     pub fn new(alloc: Global) -> ModelDriver
-        ensures { result ≡ record { policy = policy.Fresh; seats = [] } }
+        ensures { result ≡ record { policy = policy.Fresh; given = [] } }
     {
         ModelDriver {
             policy: Policy::Fresh,
-            seats: Vec::new(alloc),
+            given: Vec::new(alloc),
         }
     }
 }
@@ -56,71 +56,71 @@ fn list_of(args: &HandleArgs<6>, p: usize) -> &[u64]
     if p < args.len() { args.param(p) } else { &[] }
 }
 
-// Where the seat of a driver stands.
-fn place_of(seats: &[Seat], driver: u32) -> Option<usize>
-    ensures { result ≡ position (λ s. s.driver == driver) seats.now }
+// Where what a driver has given stands.
+fn place_of(given: &[GivenValues], driver: u32) -> Option<usize>
+    ensures { result ≡ position (λ s. s.driver == driver) given.now }
 {
-    seats.iter().position(|s| s.driver() == driver)
+    given.iter().position(|s| s.driver() == driver)
 }
 
 // Answers a call of a driver that was called before.
 fn serve_at(
-    seats: &mut Vec<Seat>,
+    given: &mut Vec<GivenValues>,
     place: usize,
     policy: Policy,
     call: &DriverCall,
     handles: &mut Vec<u64>,
 ) -> Result<(), NoMemory>
-    requires { position (λ s. s.driver == call.now.driver) seats.old.items ≡ Some place }
-    ensures handles { OnOk result (handles.new.items ≡ handles_for (record { policy = policy; seats = seats.old.items }) (call_shown call.now)) }
-    ensures ok { OnOk result (seats.new.items ≡ (after_call (record { policy = policy; seats = seats.old.items }) (call_shown call.now)).seats) }
-    ensures err { OnErr result (seats.new.items ≡ seats.old.items) }
+    requires { position (λ s. s.driver == call.now.driver) given.old.items ≡ Some place }
+    ensures handles { OnOk result (handles.new.items ≡ handles_for (record { policy = policy; given = given.old.items }) (call_shown call.now)) }
+    ensures ok { OnOk result (given.new.items ≡ (after_call (record { policy = policy; given = given.old.items }) (call_shown call.now)).given) }
+    ensures err { OnErr result (given.new.items ≡ given.old.items) }
 {
-    let seat = &mut seats[place];
-    seat.serve(policy, ended(call), handles_due(call), handles)
+    let values = &mut given[place];
+    values.serve(policy, ended(call), handles_due(call), handles)
 }
 
 // Answers a driver's first call.
 fn serve_first(
     alloc: Global,
-    seats: &mut Vec<Seat>,
+    given: &mut Vec<GivenValues>,
     policy: Policy,
     call: &DriverCall,
     handles: &mut Vec<u64>,
 ) -> Result<(), NoMemory>
-    requires { position (λ s. s.driver == call.now.driver) seats.old.items ≡ None }
-    ensures handles { OnOk result (handles.new.items ≡ handles_for (record { policy = policy; seats = seats.old.items }) (call_shown call.now)) }
-    ensures ok { OnOk result (seats.new.items ≡ (after_call (record { policy = policy; seats = seats.old.items }) (call_shown call.now)).seats) }
-    ensures err { OnErr result (seats.new.items ≡ seats.old.items) }
+    requires { position (λ s. s.driver == call.now.driver) given.old.items ≡ None }
+    ensures handles { OnOk result (handles.new.items ≡ handles_for (record { policy = policy; given = given.old.items }) (call_shown call.now)) }
+    ensures ok { OnOk result (given.new.items ≡ (after_call (record { policy = policy; given = given.old.items }) (call_shown call.now)).given) }
+    ensures err { OnErr result (given.new.items ≡ given.old.items) }
 {
-    let mut seat = Seat::new(alloc, call.driver);
-    seat.serve(policy, ended(call), handles_due(call), handles)?;
-    seats.push(seat)?;
+    let mut values = GivenValues::new(alloc, call.driver);
+    values.serve(policy, ended(call), handles_due(call), handles)?;
+    given.push(values)?;
     Ok(())
 }
 
 fn serve(
-    seats: &mut Vec<Seat>,
+    given: &mut Vec<GivenValues>,
     policy: Policy,
     call: &DriverCall,
     handles: &mut Vec<u64>,
 ) -> Result<(), NoMemory>
-    ensures handles { OnOk result (handles.new.items ≡ handles_for (record { policy = policy; seats = seats.old.items }) (call_shown call.now)) }
-    ensures ok { OnOk result (seats.new.items ≡ (after_call (record { policy = policy; seats = seats.old.items }) (call_shown call.now)).seats) }
-    ensures err { OnErr result (seats.new.items ≡ seats.old.items) }
+    ensures handles { OnOk result (handles.new.items ≡ handles_for (record { policy = policy; given = given.old.items }) (call_shown call.now)) }
+    ensures ok { OnOk result (given.new.items ≡ (after_call (record { policy = policy; given = given.old.items }) (call_shown call.now)).given) }
+    ensures err { OnErr result (given.new.items ≡ given.old.items) }
 {
-    match place_of(seats, call.driver) {
-        Some(place) => serve_at(seats, place, policy, call, handles),
+    match place_of(given, call.driver) {
+        Some(place) => serve_at(given, place, policy, call, handles),
         None => {
-            let alloc = *seats.allocator();
-            serve_first(alloc, seats, policy, call, handles)
+            let alloc = *given.allocator();
+            serve_first(alloc, given, policy, call, handles)
         }
     }
 }
 
 impl Driver for ModelDriver {
     ghost use Rattle.std.specs.Prelude.{◌≡◌, Option, Some, None};
-    ghost use Rattle.model_driver.specs.Seats.{handles_for, after_call};
+    ghost use Rattle.model_driver.specs.GivenValues.{handles_for, after_call};
 
     ghost log = { λ _. None };
 
@@ -143,7 +143,7 @@ impl Driver for ModelDriver {
         ensures ok { OnOk result (self.new ≡ after_call self.old (call_shown call.now)) }
         ensures err { OnErr result (self.new ≡ self.old) }
     {
-        serve(&mut self.seats, self.policy, call, &mut reply.handles)?;
+        serve(&mut self.given, self.policy, call, &mut reply.handles)?;
         reply.code = call.body.code;
         Ok(())
     }

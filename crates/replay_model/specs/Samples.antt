@@ -1,10 +1,13 @@
--- A call, a name and two drivers' answers. Source: this project.
+-- A call, a name and two drivers' answers, and a past in which a device was made. Source: this project.
 use Rattle.std.specs.Prelude.{false, Some, None, List, [], ◌∷◌}
 use Rattle.command_tables.specs.declared.types.CommandId.{CommandId}
+use Rattle.command_tables.specs.declared.types.CommandId.TheVariants as cmd
 use Rattle.command_tables.specs.declared.types.Code.TheVariants as code
 use Rattle.trace_format.specs.declared.event.Name.{Name}
 use Rattle.object_model.specs.declared.Argument.{Argument}
-use Rattle.replay_model.specs.Past.{Opened}
+use Rattle.object_model.specs.declared.Argument.TheVariants.{The}
+use Rattle.object_model.specs.Samples.{device, physical_device}
+use Rattle.replay_model.specs.Past.{Opened, Past, Returned}
 use Rattle.replay_model.specs.Direct.{Answered}
 
 -- the name %1.4
@@ -18,3 +21,7 @@ opened c args = record { number = 4; thread = 1; cmd = c; args = args; results =
 -- what the two answered
 abbrev pub answers : List Answered
 answers = record { driver = 0; handles = 7 ∷ [] } ∷ record { driver = 1; handles = 8 ∷ [] } ∷ []
+
+-- a device was made, and nothing else
+abbrev pub device_made : Past
+device_made = Returned (opened cmd.CreateDevice ((The physical_device ∷ []) ∷ [])) (record { place = 0; name = name; object = device } ∷ []) ∷ []

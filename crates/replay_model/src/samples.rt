@@ -1,20 +1,37 @@
-//! Births and values by computation.
-ghost use Rattle.std.specs.Prelude.{◌≡◌, [], ◌∷◌, true, false, None, map};
+//! Births, ends, what the loader checks, and values by computation.
+ghost use Rattle.std.specs.Prelude.{◌≡◌, [], ◌∷◌, true, false, None, Some, map};
 ghost use Rattle.command_tables.specs.Calls.{ReplyContent};
 ghost use Rattle.command_tables.specs.declared.types.CommandId.TheVariants as cmd;
 ghost use Rattle.command_tables.specs.declared.types.ObjectType.TheVariants as ty;
-ghost use Rattle.object_model.specs.History.{births};
-ghost use Rattle.object_model.specs.Samples.{device, instance, sample};
+ghost use Rattle.command_tables.specs.declared.types.Rule.TheVariants as rule;
+ghost use Rattle.object_model.specs.History.{alive, births};
+ghost use Rattle.object_model.specs.Rules.{failure};
+ghost use Rattle.object_model.specs.Samples.{buffer, call, device, instance, sample};
 ghost use Rattle.object_model.specs.declared.Argument.TheVariants.{The};
 ghost use Rattle.replay_model.specs.Births.{made_by, own_object};
 ghost use Rattle.replay_model.specs.Direct.{answers_to, own_replies, value_for, value_in, values_given};
-ghost use Rattle.replay_model.specs.Samples.{answers, name, opened};
+ghost use Rattle.replay_model.specs.Past.{Began, history};
+ghost use Rattle.replay_model.specs.Places.{loader_checked};
+ghost use Rattle.replay_model.specs.Samples.{answers, device_made, name, opened};
+ghost use Rattle.trace_format.specs.Content.{BeginEvent};
 
 /// A result is born where its owner lives at the return, and is lost where it doesn't.
 pub fn a_lost_result_is_not_born()
     ensures born { map (λ b. b.object) (made_by 2 (births sample) (λ o. true) [] (opened cmd.CreateBuffer ((The device ∷ []) ∷ [])))
         ≡ own_object ty.Buffer name ∷ [] }
     ensures lost { made_by 2 (births sample) (λ o. false) [] (opened cmd.CreateBuffer ((The device ∷ []) ∷ [])) ≡ [] }
+{}
+
+/// A destroy ends what it names at its begin, unless a place stops it.
+pub fn a_skipped_destroy_ends_nothing()
+    ensures sent { (e : BeginEvent) → alive (history (Began e (opened cmd.DestroyDevice ((The device ∷ []) ∷ [])) [] ∷ device_made)) device ≡ false }
+    ensures skipped { (e : BeginEvent) → alive (history (Began e (record (opened cmd.DestroyDevice ((The device ∷ []) ∷ [])) { stop = Some 0 }) [] ∷ device_made)) device ≡ true }
+{}
+
+/// The loader checks a call's first argument alone: it finds a device that doesn't live, and no buffer behind one that does.
+pub fn the_loader_checks_the_first_argument_alone()
+    ensures dead { (loader_checked [] (call 2 1 cmd.DestroyBuffer (device ∷ buffer ∷ []))).failures ≡ failure 0 0 rule.Parameter 0 ∷ [] }
+    ensures living { (loader_checked device_made (call 2 1 cmd.DestroyBuffer (device ∷ buffer ∷ []))).failures ≡ [] }
 {}
 
 /// A physical device has the one handle of its own driver, any other object the handle in its place of each driver that answered.

@@ -93,6 +93,81 @@ buffer_destroyed = started ++ calls (codes "b 1 vkCreateBuffer %1.3 = %1.4 VK_SU
 abbrev pub buffer_destroyed_twice : List TraceEvent
 buffer_destroyed_twice = buffer_destroyed ++ calls (codes "b 1 vkDestroyBuffer %1.3 %1.4 void" ∷ [])
 
+-- a device that is destroyed before its image, and again behind it
+abbrev pub device_before_its_image : List TraceEvent
+device_before_its_image = started ++ calls (
+    codes "b 1 vkCreateImage %1.3 = %1.4 VK_SUCCESS"
+    ∷ codes "b 1 vkDestroyDevice %1.3 void"
+    ∷ codes "b 1 vkDestroyImage %1.3 %1.4 void"
+    ∷ codes "b 1 vkDestroyDevice %1.3 void"
+    ∷ []
+    )
+
+-- submits to a queue by its two names, at once
+abbrev pub submits_by_two_names : List TraceEvent
+submits_by_two_names =
+    started ++ calls (codes "b 1 vkGetDeviceQueue %1.3 = %1.4 void : 0,0" ∷ codes "b 1 vkGetDeviceQueue %1.3 = %1.5 void : 0,0" ∷ []) ++ events (
+    codes "b 1 vkQueueSubmit %1.4 [] [] [] null VK_SUCCESS"
+    ∷ codes "b 2 vkQueueSubmit %1.5 [] [] [] null VK_SUCCESS"
+    ∷ codes "r 1"
+    ∷ codes "r 2"
+    ∷ []
+    )
+
+-- a submit with a destroyed fence, and one with no fence
+abbrev pub destroyed_fence_submitted : List TraceEvent
+destroyed_fence_submitted = started ++ calls (
+    codes "b 1 vkGetDeviceQueue %1.3 = %1.4 void : 0,0"
+    ∷ codes "b 1 vkCreateFence %1.3 = %1.5 VK_SUCCESS"
+    ∷ codes "b 1 vkDestroyFence %1.3 %1.5 void"
+    ∷ codes "b 1 vkQueueSubmit %1.4 [] [] [] %1.5 VK_SUCCESS"
+    ∷ codes "b 1 vkQueueSubmit %1.4 [] [] [] null VK_SUCCESS"
+    ∷ []
+    )
+
+-- a command pool that is destroyed while a command buffer of it is made, which is recorded then
+abbrev pub pool_destroyed_while_it_allocates : List TraceEvent
+pool_destroyed_while_it_allocates =
+    started ++ calls (codes "b 1 vkCreateCommandPool %1.3 = %1.4 VK_SUCCESS" ∷ []) ++ events (
+    codes "b 1 vkAllocateCommandBuffers %1.3 %1.4 = %1.5 VK_SUCCESS"
+    ∷ codes "b 2 vkDestroyCommandPool %1.3 %1.4 void"
+    ∷ codes "r 2"
+    ∷ codes "r 1"
+    ∷ []
+    ) ++ calls (codes "b 1 vkBeginCommandBuffer %1.5 VK_SUCCESS" ∷ [])
+
+-- two command buffers of one pool that are recorded at once
+abbrev pub two_buffers_recorded : List TraceEvent
+two_buffers_recorded =
+    started
+    ++ calls (codes "b 1 vkCreateCommandPool %1.3 = %1.4 VK_SUCCESS" ∷ codes "b 1 vkAllocateCommandBuffers %1.3 %1.4 = %1.5,%1.6 VK_SUCCESS" ∷ [])
+    ++ events (codes "b 1 vkBeginCommandBuffer %1.5 VK_SUCCESS" ∷ codes "b 2 vkBeginCommandBuffer %1.6 VK_SUCCESS" ∷ codes "r 1" ∷ codes "r 2" ∷ [])
+
+-- a command buffer that is recorded, submitted and waited for, and all destroyed in order
+abbrev pub dispatch : List TraceEvent
+dispatch = started ++ calls (
+    codes "b 1 vkGetDeviceQueue %1.3 = %1.4 void : 0,0"
+    ∷ codes "b 1 vkCreateCommandPool %1.3 = %1.5 VK_SUCCESS"
+    ∷ codes "b 1 vkAllocateCommandBuffers %1.3 %1.5 = %1.6 VK_SUCCESS"
+    ∷ codes "b 1 vkCreateFence %1.3 = %1.7 VK_SUCCESS"
+    ∷ codes "b 1 vkBeginCommandBuffer %1.6 VK_SUCCESS"
+    ∷ codes "b 1 vkCmdDispatch %1.6 void"
+    ∷ codes "b 1 vkEndCommandBuffer %1.6 VK_SUCCESS"
+    ∷ codes "b 1 vkQueueSubmit %1.4 [] [%1.6] [] %1.7 VK_SUCCESS"
+    ∷ codes "b 1 vkWaitForFences %1.3 [%1.7] VK_SUCCESS"
+    ∷ codes "b 1 vkDestroyFence %1.3 %1.7 void"
+    ∷ codes "b 1 vkDestroyCommandPool %1.3 %1.5 void"
+    ∷ codes "b 1 vkDestroyDevice %1.3 void"
+    ∷ codes "b 1 vkDestroyInstance %1.1 void"
+    ∷ []
+    )
+
+-- a buffer that is destroyed through another device than its own
+abbrev pub buffer_of_another_device : List TraceEvent
+buffer_of_another_device = started ++ calls (
+    codes "b 1 vkCreateDevice %1.2 = %1.4 VK_SUCCESS" ∷ codes "b 1 vkCreateBuffer %1.3 = %1.5 VK_SUCCESS" ∷ codes "b 1 vkDestroyBuffer %1.4 %1.5 void" ∷ []
+    )
+
 -- an instance and one name for a physical device
 abbrev pub instance_and_device : List TraceEvent
 instance_and_device = calls (codes "b 1 vkCreateInstance = %1.1 VK_SUCCESS" ∷ codes "b 1 vkEnumeratePhysicalDevices %1.1 = %1.2 VK_SUCCESS" ∷ [])

@@ -6,7 +6,7 @@ ghost use Rattle.replay_model.specs.Direct.{exchanges};
 ghost use Rattle.replay_model.specs.Judged.{judged};
 ghost use Rattle.replay_model.specs.Less.{less};
 ghost use Rattle.replay_rows.specs.Setups.{bare, two_drivers, validation, validation_start};
-ghost use Rattle.replay_rows.specs.Traces.{asked, buffer_destroyed, buffer_destroyed_twice, buffers_and_memory, calls, driver_and_args, driver_call, each, events, instance_and_device, replies, said, started, told};
+ghost use Rattle.replay_rows.specs.Traces.{asked, buffer_destroyed, buffer_destroyed_twice, buffers_and_memory, calls, driver_and_args, driver_call, each, events, instance_and_device, replies, said, started, submits_by_two_names, told};
 
 /// A device and then its instance are destroyed: the driver is told the handles that it answered.
 pub fn the_calls_of_a_clean_run()
@@ -44,16 +44,7 @@ pub fn a_skipped_call_is_not_sent()
 
 /// A threads report skips nothing: the driver is told of both submits that overlap.
 pub fn a_reported_overlap_is_sent()
-    ensures { length (asked validation (started
-        ++ calls (codes "b 1 vkGetDeviceQueue %1.3 = %1.4 void : 0,0"
-        ∷ codes "b 1 vkGetDeviceQueue %1.3 = %1.5 void : 0,0"
-        ∷ [])
-        ++ events (codes "b 1 vkQueueSubmit %1.4 [] [] [] null VK_SUCCESS"
-        ∷ codes "b 2 vkQueueSubmit %1.5 [] [] [] null VK_SUCCESS"
-        ∷ codes "r 1"
-        ∷ codes "r 2"
-        ∷ [])) [])
-        ≡ 7 }
+    ensures { length (asked validation submits_by_two_names []) ≡ 7 }
 {}
 
 /// Two drivers: both are told of the instance and are asked for one physical device each, with their own values; an enumeration

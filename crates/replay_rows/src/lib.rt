@@ -5,6 +5,7 @@
 
 mod chains;
 mod drivers;
+mod loader;
 mod objects;
 mod stops;
 mod threads;

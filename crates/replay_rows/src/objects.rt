@@ -1,6 +1,6 @@
 //! Births, ends, owners and children: what is reported and answered.
 ghost use Rattle.std.specs.Prelude.{◌≡◌, [], ◌∷◌, ◌++◌, codes};
-ghost use Rattle.replay_rows.specs.Traces.{calls, events, started, told, said};
+ghost use Rattle.replay_rows.specs.Traces.{buffer_destroyed_twice, buffer_of_another_device, calls, destroyed_fence_submitted, device_before_its_image, dispatch, events, started, told, said};
 ghost use Rattle.replay_rows.specs.Setups.{bare, bare_start, two_drivers, validation, validation_start};
 
 /// A device and then its instance are destroyed: nothing is reported, and each call answers what the trace says.
@@ -18,11 +18,7 @@ pub fn a_clean_run()
 
 /// A buffer is destroyed twice: the lifetimes part reports the second destroy and skips it.
 pub fn a_buffer_destroyed_twice()
-    ensures { told validation (started
-        ++ calls (codes "b 1 vkCreateBuffer %1.3 = %1.4 VK_SUCCESS"
-        ∷ codes "b 1 vkDestroyBuffer %1.3 %1.4 void"
-        ∷ codes "b 1 vkDestroyBuffer %1.3 %1.4 void"
-        ∷ []))
+    ensures { told validation buffer_destroyed_twice
         ≡ said (validation_start
         ++ codes "ret 4 vkCreateBuffer VK_SUCCESS born=1"
         ∷ codes "ret 5 vkDestroyBuffer void"
@@ -34,12 +30,7 @@ pub fn a_buffer_destroyed_twice()
 
 /// A device is destroyed while an image of it lives, and again after the image.
 pub fn a_device_with_a_living_image()
-    ensures { told validation (started
-        ++ calls (codes "b 1 vkCreateImage %1.3 = %1.4 VK_SUCCESS"
-        ∷ codes "b 1 vkDestroyDevice %1.3 void"
-        ∷ codes "b 1 vkDestroyImage %1.3 %1.4 void"
-        ∷ codes "b 1 vkDestroyDevice %1.3 void"
-        ∷ []))
+    ensures { told validation device_before_its_image
         ≡ said (validation_start
         ++ codes "ret 4 vkCreateImage VK_SUCCESS born=1"
         ∷ codes "report 5 2 VKR-vkDestroyDevice-device-children %1.3 children=1"
@@ -52,13 +43,7 @@ pub fn a_device_with_a_living_image()
 
 /// A destroyed fence stands where null is allowed: it is reported, and the call fails; null is not.
 pub fn a_dead_fence_is_no_null()
-    ensures { told validation (started
-        ++ calls (codes "b 1 vkGetDeviceQueue %1.3 = %1.4 void : 0,0"
-        ∷ codes "b 1 vkCreateFence %1.3 = %1.5 VK_SUCCESS"
-        ∷ codes "b 1 vkDestroyFence %1.3 %1.5 void"
-        ∷ codes "b 1 vkQueueSubmit %1.4 [] [] [] %1.5 VK_SUCCESS"
-        ∷ codes "b 1 vkQueueSubmit %1.4 [] [] [] null VK_SUCCESS"
-        ∷ []))
+    ensures { told validation destroyed_fence_submitted
         ≡ said (validation_start
         ++ codes "ret 4 vkGetDeviceQueue void born=1"
         ∷ codes "ret 5 vkCreateFence VK_SUCCESS born=1"
@@ -72,21 +57,7 @@ pub fn a_dead_fence_is_no_null()
 
 /// A command buffer is recorded, submitted and waited for, and all is destroyed in order: nothing is reported.
 pub fn a_dispatch_from_start_to_end()
-    ensures { told validation (started
-        ++ calls (codes "b 1 vkGetDeviceQueue %1.3 = %1.4 void : 0,0"
-        ∷ codes "b 1 vkCreateCommandPool %1.3 = %1.5 VK_SUCCESS"
-        ∷ codes "b 1 vkAllocateCommandBuffers %1.3 %1.5 = %1.6 VK_SUCCESS"
-        ∷ codes "b 1 vkCreateFence %1.3 = %1.7 VK_SUCCESS"
-        ∷ codes "b 1 vkBeginCommandBuffer %1.6 VK_SUCCESS"
-        ∷ codes "b 1 vkCmdDispatch %1.6 void"
-        ∷ codes "b 1 vkEndCommandBuffer %1.6 VK_SUCCESS"
-        ∷ codes "b 1 vkQueueSubmit %1.4 [] [%1.6] [] %1.7 VK_SUCCESS"
-        ∷ codes "b 1 vkWaitForFences %1.3 [%1.7] VK_SUCCESS"
-        ∷ codes "b 1 vkDestroyFence %1.3 %1.7 void"
-        ∷ codes "b 1 vkDestroyCommandPool %1.3 %1.5 void"
-        ∷ codes "b 1 vkDestroyDevice %1.3 void"
-        ∷ codes "b 1 vkDestroyInstance %1.1 void"
-        ∷ []))
+    ensures { told validation dispatch
         ≡ said (validation_start
         ++ codes "ret 4 vkGetDeviceQueue void born=1"
         ∷ codes "ret 5 vkCreateCommandPool VK_SUCCESS born=1"
@@ -107,11 +78,7 @@ pub fn a_dispatch_from_start_to_end()
 
 /// A buffer is destroyed through another device than its own.
 pub fn a_buffer_of_another_device()
-    ensures { told validation (started
-        ++ calls (codes "b 1 vkCreateDevice %1.2 = %1.4 VK_SUCCESS"
-        ∷ codes "b 1 vkCreateBuffer %1.3 = %1.5 VK_SUCCESS"
-        ∷ codes "b 1 vkDestroyBuffer %1.4 %1.5 void"
-        ∷ []))
+    ensures { told validation buffer_of_another_device
         ≡ said (validation_start
         ++ codes "ret 4 vkCreateDevice VK_SUCCESS born=1"
         ∷ codes "ret 5 vkCreateBuffer VK_SUCCESS born=1"

@@ -1,19 +1,11 @@
 //! Uses that overlap, and uses that do not.
 ghost use Rattle.std.specs.Prelude.{◌≡◌, [], ◌∷◌, ◌++◌, codes};
-ghost use Rattle.replay_rows.specs.Traces.{calls, events, started, told, said};
+ghost use Rattle.replay_rows.specs.Traces.{calls, events, pool_destroyed_while_it_allocates, started, submits_by_two_names, told, two_buffers_recorded, said};
 ghost use Rattle.replay_rows.specs.Setups.{device_start, threads_alone, validation, validation_start};
 
 /// A queue was retrieved twice with one payload: submits by its two names overlap, and neither is skipped.
 pub fn one_queue_by_two_names()
-    ensures { told validation (started
-        ++ calls (codes "b 1 vkGetDeviceQueue %1.3 = %1.4 void : 0,0"
-        ∷ codes "b 1 vkGetDeviceQueue %1.3 = %1.5 void : 0,0"
-        ∷ [])
-        ++ events (codes "b 1 vkQueueSubmit %1.4 [] [] [] null VK_SUCCESS"
-        ∷ codes "b 2 vkQueueSubmit %1.5 [] [] [] null VK_SUCCESS"
-        ∷ codes "r 1"
-        ∷ codes "r 2"
-        ∷ []))
+    ensures { told validation submits_by_two_names
         ≡ said (validation_start
         ++ codes "ret 4 vkGetDeviceQueue void born=1"
         ∷ codes "ret 5 vkGetDeviceQueue void born=1"
@@ -27,16 +19,7 @@ pub fn one_queue_by_two_names()
 /// A command pool is destroyed by another thread while it allocates: the buffer is lost, and the loader reports
 /// its use.
 pub fn a_pool_destroyed_while_it_allocates()
-    ensures { told validation (started
-        ++ calls (codes "b 1 vkCreateCommandPool %1.3 = %1.4 VK_SUCCESS"
-        ∷ [])
-        ++ events (codes "b 1 vkAllocateCommandBuffers %1.3 %1.4 = %1.5 VK_SUCCESS"
-        ∷ codes "b 2 vkDestroyCommandPool %1.3 %1.4 void"
-        ∷ codes "r 2"
-        ∷ codes "r 1"
-        ∷ [])
-        ++ calls (codes "b 1 vkBeginCommandBuffer %1.5 VK_SUCCESS"
-        ∷ []))
+    ensures { told validation pool_destroyed_while_it_allocates
         ≡ said (validation_start
         ++ codes "ret 4 vkCreateCommandPool VK_SUCCESS born=1"
         ∷ codes "report 6 1 VKR-vkDestroyCommandPool-commandPool-overlap %1.4 with=5"
@@ -50,15 +33,7 @@ pub fn a_pool_destroyed_while_it_allocates()
 
 /// Two command buffers of one pool are recorded at once: each use writes the pool.
 pub fn two_buffers_of_one_pool()
-    ensures { told validation (started
-        ++ calls (codes "b 1 vkCreateCommandPool %1.3 = %1.4 VK_SUCCESS"
-        ∷ codes "b 1 vkAllocateCommandBuffers %1.3 %1.4 = %1.5,%1.6 VK_SUCCESS"
-        ∷ [])
-        ++ events (codes "b 1 vkBeginCommandBuffer %1.5 VK_SUCCESS"
-        ∷ codes "b 2 vkBeginCommandBuffer %1.6 VK_SUCCESS"
-        ∷ codes "r 1"
-        ∷ codes "r 2"
-        ∷ []))
+    ensures { told validation two_buffers_recorded
         ≡ said (validation_start
         ++ codes "ret 4 vkCreateCommandPool VK_SUCCESS born=1"
         ∷ codes "ret 5 vkAllocateCommandBuffers VK_SUCCESS born=2"

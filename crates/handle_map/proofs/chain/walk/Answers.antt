@@ -1,4 +1,4 @@
-use Rattle.std.proofs.Common.{sym, ◌∙◌}
+use Rattle.std.proofs.Common.{sym}
 use Rattle.handle_map.proofs.Links.{way_in, way_next}
 use Rattle.handle_map.proofs.chain.walk.Goals as goal
 

@@ -1,5 +1,5 @@
-use Rattle.std.proofs.Common.{◌≡◌, ◌<◌, arith}
-use Rattle.handle_map.specs.Chains.{IsPlace, entries_of, put_at}
+use Rattle.std.proofs.Common.{◌≡◌, arith}
+use Rattle.handle_map.specs.Chains.{IsPlace, put_at}
 use Rattle.handle_map.specs.declared.entry.Entry.{Entry}
 use Rattle.handle_map.specs.Pairs.{with_values}
 use Rattle.handle_map.proofs.Adding.{greatest_so, none_of, on_ok_is, with_new, with_put}

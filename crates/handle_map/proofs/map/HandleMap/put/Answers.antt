@@ -1,5 +1,4 @@
-use Rattle.std.proofs.Common.{◌≡◌, ◌<◌, ◌++◌, length, ap, sym, subst, arith, ◌∙◌}
-use Rattle.handle_map.specs.Chains.{entries_of}
+use Rattle.std.proofs.Common.{◌<◌, ◌++◌, length, ap, sym, subst, arith, ◌∙◌}
 use Rattle.handle_map.specs.Pairs.{MapState}
 use Rattle.handle_map.proofs.Flat.{length-written}
 use Rattle.handle_map.proofs.Putting.{end_entries, end_table, room_entries, room_table, shown_below}

@@ -2,7 +2,7 @@ use Rattle.std.proofs.Common.{◌≡◌, ◌≤◌, ◌+◌, ◌-◌, ◌++◌, 
 use Rattle.std.specs.BinaryHeap.{heap_capacity, heap_items, heap_len}
 use Rattle.model_driver.specs.Books.{IsBook}
 use Rattle.model_driver.specs.Policies.{after_giving, values_given}
-use Rattle.model_driver.proofs.seat.give.Given as goal
+use Rattle.model_driver.proofs.given_values.give.Given as goal
 
 abbrev pub invariant-loop-turn : goal.invariant-loop-turn
 invariant-loop-turn l = record {

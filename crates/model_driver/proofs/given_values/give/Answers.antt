@@ -1,6 +1,6 @@
 use Rattle.std.proofs.Common.{◌≡◌, ◌+◌, ◌-◌, ◌∷◌, [], length, ap, arith, length-append}
 use Rattle.model_driver.proofs.Backs.{behind_more, values_more}
-use Rattle.model_driver.proofs.seat.give.Goals as goal
+use Rattle.model_driver.proofs.given_values.give.Goals as goal
 
 pub loop-turn-preserved : goal.loop-turn-preserved
 loop-turn-preserved c =

@@ -1,8 +1,8 @@
-use Rattle.std.proofs.Common.{◌≡◌, ◌-◌, ◌<◌, ◌≤◌, Bool, true, false, length, get_or, vec_len, sym, ◌∙◌, arith}
+use Rattle.std.proofs.Common.{◌≡◌, ◌-◌, ◌<◌, false, length, get_or, ◌∙◌, arith}
 use Rattle.std.specs.BinaryHeap.{heap_items, heap_len}
 use Rattle.model_driver.proofs.Backs.{back_already, book_back_at, never_given, null_back, room_for, seen}
-use Rattle.model_driver.proofs.seat.take_back_one.Goals as goal
-use Rattle.model_driver.proofs.seat.take_back_one.Goals.{else-value-ne0-via-then-value-ne0+then-value-len+else-not-index, else-value-ne0-via-then-value-ne0+else-value-len, else-value-ne0-via-else-value-ne0}
+use Rattle.model_driver.proofs.given_values.take_back_one.Goals as goal
+use Rattle.model_driver.proofs.given_values.take_back_one.Goals.{else-value-ne0-via-then-value-ne0+then-value-len+else-not-index, else-value-ne0-via-then-value-ne0+else-value-len, else-value-ne0-via-else-value-ne0}
 
 pub unwrap-requires : goal.unwrap-requires
 unwrap-requires c =

@@ -2,7 +2,7 @@ use Rattle.std.proofs.Common.{◌≡◌, ◌≤◌, length, drop, vec_capacity}
 use Rattle.std.specs.BinaryHeap.{heap_capacity, heap_items, heap_len}
 use Rattle.model_driver.specs.Books.{IsBook}
 use Rattle.model_driver.specs.Policies.{with_all_back}
-use Rattle.model_driver.proofs.seat.take_back.Given as goal
+use Rattle.model_driver.proofs.given_values.take_back.Given as goal
 
 abbrev pub invariant-loop-value : goal.invariant-loop-value
 invariant-loop-value l = record {

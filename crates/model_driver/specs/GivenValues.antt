@@ -6,24 +6,24 @@ use Rattle.model_driver.specs.Driver.{handles_due}
 use Rattle.model_driver.specs.Policies.{after_giving, values_ended, values_given, with_all_back}
 
 -- a driver by its number in the chain, and which of the values that it gave have come back
-pub record SeatState : Type 0 where
+pub record GivenState : Type 0 where
   pub driver : ℕ
   pub back : List Bool
 
 -- the policy by which handles are answered, and the drivers that were called, in the order of their first calls
 pub record ModelState : Type 0 where
   pub policy : Policy
-  pub seats : List SeatState
+  pub given : List GivenState
 
 -- what a driver has given: nothing before its first call
-abbrev pub back_of : List SeatState → ℕ → List Bool
+abbrev pub back_of : List GivenState → ℕ → List Bool
 back_of [] driver = []
-back_of (s ∷ seats) driver = if s.driver == driver then s.back else back_of seats driver
+back_of (s ∷ given) driver = if s.driver == driver then s.back else back_of given driver
 
--- the driver has given this now
-abbrev pub with_seat : List SeatState → ℕ → List Bool → List SeatState
-with_seat [] driver back = record { driver = driver; back = back } ∷ []
-with_seat (s ∷ seats) driver back = if s.driver == driver then record { driver = driver; back = back } ∷ seats else s ∷ with_seat seats driver back
+-- the driver has this list now
+abbrev pub with_back_of : List GivenState → ℕ → List Bool → List GivenState
+with_back_of [] driver back = record { driver = driver; back = back } ∷ []
+with_back_of (s ∷ given) driver back = if s.driver == driver then record { driver = driver; back = back } ∷ given else s ∷ with_back_of given driver back
 
 -- what a call leaves of what its driver has given: what it destroys or frees has come back, and then what it asks for is given
 abbrev pub back_after : Policy → List Bool → DriverCallContent → List Bool
@@ -31,8 +31,8 @@ back_after policy back c = after_giving policy (with_all_back back (values_ended
 
 -- the handles that a call is answered
 abbrev pub handles_for : ModelState → DriverCallContent → List ℕ
-handles_for m c = values_given m.policy (with_all_back (back_of m.seats c.driver) (values_ended c)) (handles_due c)
+handles_for m c = values_given m.policy (with_all_back (back_of m.given c.driver) (values_ended c)) (handles_due c)
 
--- what is kept behind a call: only the seat of its driver changes
+-- what is kept behind a call: only what its driver has given changes
 abbrev pub after_call : ModelState → DriverCallContent → ModelState
-after_call m c = record m { seats = with_seat m.seats c.driver (back_after m.policy (back_of m.seats c.driver) c) }
+after_call m c = record m { given = with_back_of m.given c.driver (back_after m.policy (back_of m.given c.driver) c) }

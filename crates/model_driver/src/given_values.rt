@@ -14,20 +14,20 @@ use std::marker::Model;
 /// The values that a driver has given, from 1 on. Each takes its memory when it is first given, so that none is needed
 /// when it comes back.
 #[derive(Drop)]
-pub struct Seat {
+pub struct GivenValues {
     driver: u32,
     // Of each value whether it has come back, and those that have, the least first.
     back: Vec<bool>,
     free: BinaryHeap<Reverse<u64>>,
 }
 
-impl Model for Seat {
+impl Model for GivenValues {
     ghost use Rattle.std.specs.Prelude.{◌≤◌, length};
     ghost use Rattle.std.specs.BinaryHeap.{heap_capacity, heap_items, heap_len};
-    ghost use Rattle.model_driver.specs.Seats.{SeatState};
+    ghost use Rattle.model_driver.specs.GivenValues.{GivenState};
     ghost use Rattle.model_driver.specs.Books.{IsBook};
 
-    ghost Value = { SeatState };
+    ghost Value = { GivenState };
 
     ghost view = { λ s. record { driver = s.driver; back = s.back.items } };
 
@@ -142,11 +142,11 @@ fn give(
     }
 }
 
-impl Seat {
-    pub fn new(alloc: Global, driver: u32) -> Seat
+impl GivenValues {
+    pub fn new(alloc: Global, driver: u32) -> GivenValues
         ensures { result ≡ record { driver = driver; back = [] } }
     {
-        Seat {
+        GivenValues {
             driver,
             back: Vec::new(alloc),
             free: BinaryHeap::new(alloc),

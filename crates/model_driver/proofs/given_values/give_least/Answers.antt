@@ -1,9 +1,7 @@
-use Rattle.std.proofs.Common.{◌≡◌, ◌+◌, ◌≤◌, ℕ, length, sym, ap, ◌∙◌, arith, set}
+use Rattle.std.proofs.Common.{sym, ◌∙◌, arith}
 use Rattle.std.specs.BinaryHeap.{heap_items, heap_len}
-use Rattle.std.specs.Prelude.{true}
-use Rattle.model_driver.specs.Policies.{is_back, with_given}
 use Rattle.model_driver.proofs.Backs.{back_within, book_less, given_again, least_new, top_back, top_least}
-use Rattle.model_driver.proofs.seat.give_least.Goals as goal
+use Rattle.model_driver.proofs.given_values.give_least.Goals as goal
 
 pub overflow_sub-value : goal.overflow_sub-value
 overflow_sub-value c =

@@ -1,0 +1,9 @@
+-- By computation.
+use Rattle.std.proofs.Common.{refl}
+use Rattle.command_tables.specs.Table.{row_of}
+use Rattle.command_tables.specs.Tests.{same_type, same_command, same_code}
+use Rattle.replay_model.proofs.samples.the_loader_checks_the_first_argument_alone.Goals as goal
+
+pub returns : goal.returns
+unfolding row_of same_type same_command same_code
+returns c = record { dead = refl; living = refl }
