@@ -11,7 +11,7 @@ ghost use Rattle.object_model.specs.declared.Argument.TheVariants.{The};
 ghost use Rattle.replay_model.specs.Births.{made_by, own_object};
 ghost use Rattle.replay_model.specs.Direct.{answers_to, own_replies, value_for, value_in, values_given};
 ghost use Rattle.replay_model.specs.Past.{Began, history};
-ghost use Rattle.replay_model.specs.Places.{loader_checked};
+ghost use Rattle.replay_model.specs.ChainPlaces.{loader_checked};
 ghost use Rattle.replay_model.specs.Samples.{answers, device_made, name, opened};
 ghost use Rattle.trace_format.specs.Content.{BeginEvent};
 
