@@ -1,0 +1,4 @@
+pub mod Pieces
+pub mod Folders
+pub mod Numbers
+pub mod Printing

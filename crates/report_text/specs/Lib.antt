@@ -1,0 +1,4 @@
+pub mod Notes
+pub mod Libraries
+pub mod Chains
+pub mod Examples

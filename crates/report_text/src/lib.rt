@@ -1,0 +1,17 @@
+//! Prints what a setup and a chain of layers come to, a line for each note, layer, part and driver.
+//! Promises that what is appended is the definition's text, byte for byte; the one refusal is want of memory.
+//! Leaves to others what the manifests and the chain are (`layer_search`, `chain_build`), and where the text goes.
+#![tactic(auto)]
+
+#[cfg(test)]
+mod chain_tests;
+mod chains;
+mod libraries;
+#[cfg(test)]
+mod note_tests;
+mod notes;
+mod put;
+mod rows;
+
+pub use chains::chain_lines;
+pub use notes::note_line;
