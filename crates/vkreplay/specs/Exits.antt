@@ -1,15 +1,27 @@
 -- The exit status of the process. Source: this project.
-use Rattle.std.specs.Prelude.{◌≡◌, ℕ, Option, List, String, Vec, Result, Ok, Err}
-use Rattle.std.specs.declared.alloc.Global.{Global}
+use Rattle.std.specs.Prelude.{◌≡◌, ℕ, Option, List, Result, Ok, Err}
+use Rattle.env_filters.specs.Variables.{Variable}
+use Rattle.program_words.specs.Content.{words_of}
+use Rattle.program_words.specs.declared.read.WordsError.{WordsError}
 use Rattle.replay_base.specs.Changes.{Change}
 use Rattle.replay_core.specs.Kept.{Kept}
 use Rattle.replay_core.specs.Replayed.{Run}
 use Rattle.replay_core.specs.Statuses.{status_code}
 use Rattle.replay_core.specs.declared.status.Status.{Status}
-use Rattle.vkreplay.specs.declared.process.Wordless.{Wordless}
-use Rattle.vkreplay.specs.Outcome.{DidNothing, Keeps, Process}
-use Rattle.vkreplay.specs.Said.{Said}
-use Rattle.vkreplay.specs.Statuses.{wordless_status, wordless_line}
+use Rattle.vkreplay.specs.declared.process.Invocation.{Invocation}
+use Rattle.vkreplay.specs.Outcome.{Keeps, Process, SaidOnly}
+use Rattle.vkreplay.specs.Showing.{TreeSeen}
+use Rattle.vkreplay.specs.Statuses.{words_line, words_status}
+
+-- what went through the process
+pub record Outside : Type 0 where
+  pub tree : TreeSeen
+  pub run : Run
+  pub errs : Change
+
+-- what the program was given with these words and variables
+abbrev pub process_of : Invocation → Outside → Process
+process_of given o = record { words = words_of given.words.items; env = given.env; tree = o.tree; run = o.run; errs = o.errs }
 
 -- the exit status is the number of a status that keeps the promises of the program
 pub record ExitsWith (p : Process) (code : ℕ) : Type 0 where
@@ -18,13 +30,12 @@ pub record ExitsWith (p : Process) (code : ℕ) : Type 0 where
   pub keeps : Keeps p status session
   pub is : code ≡ status_code status
 
--- the words couldn't be had: nothing is done but that the status's line is said
-pub record ExitsWordless (why : Wordless) (run : Run) (errs : Change) (code : ℕ) : Type 0 where
-  pub nothing : DidNothing run
-  pub said : Said (wordless_line why) errs
-  pub is : code ≡ status_code (wordless_status why)
+-- the words or the variables couldn't be had: nothing is done but that the status's line is said
+pub record ExitsAtOnce (why : WordsError) (o : Outside) (code : ℕ) : Type 0 where
+  pub only : SaidOnly (words_line why) o.run o.errs
+  pub is : code ≡ status_code (words_status why)
 
--- the exit status, by the process's words or why they can't be had
-abbrev pub Exits : Result (Vec (String Global) Global) Wordless → Run → Change → ℕ → Type 0
-Exits (Ok words) run errs code = ExitsWith (record { words = words.items; run = run; errs = errs }) code
-Exits (Err why) run errs code = ExitsWordless why run errs code
+-- the exit status, by what the process was started with or why that can't be had
+abbrev pub Exits : Result Invocation WordsError → Outside → ℕ → Type 0
+Exits (Ok given) o code = ExitsWith (process_of given o) code
+Exits (Err why) o code = ExitsAtOnce why o code

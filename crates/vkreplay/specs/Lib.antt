@@ -1,6 +1,6 @@
-pub mod Words
 pub mod Said
+pub mod Showing
 pub mod Output
-pub mod Outcome
 pub mod Statuses
+pub mod Outcome
 pub mod Exits

@@ -1,24 +1,36 @@
 -- The cause of each status, and what then was read, told, written and said. Source: this project.
-use Rattle.std.specs.Prelude.{◌≡◌, ◌≢◌, ◌⊎◌, ℕ, true, false, Option, Some, None, List, String}
-use Rattle.std.specs.declared.alloc.Global.{Global}
+use Rattle.std.specs.Prelude.{◌≡◌, ◌≢◌, ◌×◌, ◌⊎◌, ℕ, ⊥, ⊤, Option, Some, None, List, Result, Ok, Err}
+use Rattle.env_filters.specs.Variables.{Variable}
+use Rattle.model_driver.specs.Driver.{prepared}
+use Rattle.model_driver.specs.declared.driver.Policy.{Policy}
+use Rattle.program_words.specs.Asked.{Asked, AsksChain, AsksRun, words_ask}
+use Rattle.program_words.specs.Words.{Word}
 use Rattle.replay_base.specs.Changes.{Change, Stood, IsUnmoved}
+use Rattle.replay_base.specs.Faults.{Rose}
+use Rattle.replay_base.specs.Files.{File}
 use Rattle.replay_base.specs.declared.limit.Which.TheVariants as which
 use Rattle.trace_format.specs.declared.fault.TraceFault.{TraceFault}
 use Rattle.replay_model.specs.Stop.{at_fault}
 use Rattle.replay_core.specs.Kept.{Kept}
 use Rattle.replay_core.specs.Replayed.{Run, Ended, StoppedAt, StoppedByNames, NotRead, BrokeIn, RanOutOf, IsUntouched}
+use Rattle.replay_core.specs.declared.error.ReplayError.{ReplayError}
+use Rattle.replay_core.specs.declared.error.ReplayError.TheVariants as error
 use Rattle.replay_core.specs.declared.status.Status.{Status}
 use Rattle.replay_core.specs.declared.status.Status.TheVariants as status
-use Rattle.replay_base.specs.Faults.{Rose}
 use Rattle.vkreplay.specs.Output.{IsAnswer, output}
 use Rattle.vkreplay.specs.Said.{Said, IsSilent, fault_line, limit_line, usage_line, read_fault_line, write_fault_line, no_memory_line}
-use Rattle.vkreplay.specs.Words.{is_run}
+use Rattle.vkreplay.specs.Showing.{ChainRun, Shows, TreeSeen, chain_run}
+use Rattle.vkreplay.specs.Statuses.{line_of}
 
--- what the program was given and what went through it: its words, the run, and the error sink
+-- what the program was given and what went through it: its words and variables, the tree of manifests, the run, and the error sink
 pub record Process : Type 0 where
-  pub words : List (String Global)
+  pub words : List Word
+  pub env : List Variable
+  pub tree : TreeSeen
   pub run : Run
   pub errs : Change
+
+-- ---- words that aren't understood
 
 -- nothing was read, told or written
 pub record DidNothing (run : Run) : Type 0 where
@@ -26,49 +38,120 @@ pub record DidNothing (run : Run) : Type 0 where
   pub stood : Stood run.source
   pub untouched : IsUntouched run.traffic
 
--- the words were `run`, and the replay ended with this session; nothing was said
-pub record Completed (p : Process) (session : Kept) : Type 0 where
-  pub words : is_run p.words ≡ true
-  pub ended : Ended session p.run
-  pub silent : IsSilent p.errs
+-- a line was said, and nothing else was done
+pub record SaidOnly (line : List ℕ) (run : Run) (errs : Change) : Type 0 where
+  pub nothing : DidNothing run
+  pub said : Said line errs
 
--- the words weren't understood, which was said, and nothing else was done
-pub record NotUnderstood (p : Process) : Type 0 where
-  pub words : is_run p.words ≡ false
-  pub nothing : DidNothing p.run
-  pub said : Said usage_line p.errs
+-- how words end that aren't understood: that is said, or memory ran out before
+abbrev pub EndsUsage : Run → Change → Status → Option Kept → Type 0
+EndsUsage run errs status.Usage None = SaidOnly usage_line run errs
+EndsUsage run errs status.NoMemory None = SaidOnly no_memory_line run errs
+EndsUsage run errs other session = ⊥
 
--- the words were `run`, the replay was cut so, and this line was said of it
-pub record CutShort (p : Process) (Cut : Run → Type 0) (line : List ℕ) : Type 0 where
-  pub words : is_run p.words ≡ true
-  pub cut : Cut p.run
-  pub said : Said line p.errs
+-- ---- a replay
+
+-- the replay ended with this session; nothing was said
+pub record Completed (session : Kept) (run : Run) (errs : Change) : Type 0 where
+  pub ended : Ended session run
+  pub silent : IsSilent errs
+
+-- the replay was cut so, and this line was said of it
+pub record CutShort (Cut : Run → Type 0) (line : List ℕ) (run : Run) (errs : Change) : Type 0 where
+  pub cut : Cut run
+  pub said : Said line errs
 
 -- the trace has a fault, which was said
-pub record IsMalformed (p : Process) : Type 0 where
+pub record IsMalformed (run : Run) (errs : Change) : Type 0 where
   pub line : ℕ
   pub fault : TraceFault
-  pub stopped : CutShort p (StoppedAt (at_fault line fault)) (fault_line line fault)
+  pub stopped : CutShort (StoppedAt (at_fault line fault)) (fault_line line fault) run errs
 
--- A session comes back exactly where the replay ended. Without a report the status is Clean, else Reported. Any other status has its cause.
-abbrev pub Finishes : Process → Status → Option Kept → Type 0
-Finishes p status.Clean (Some session) = Completed p session × (session.reports ≡ 0)
-Finishes p status.Reported (Some session) = Completed p session × (session.reports ≢ 0)
-Finishes p status.Usage None = NotUnderstood p
-Finishes p status.Malformed None = IsMalformed p
-Finishes p status.ReadFault None = CutShort p NotRead read_fault_line
-Finishes p status.WriteFault None = CutShort p BrokeIn write_fault_line
-Finishes p status.Limit None = CutShort p StoppedByNames (limit_line which.Names)
-Finishes p status.NoMemory None = CutShort p RanOutOf no_memory_line
-Finishes p other session = ⊥
+-- How a replay ends. A session comes back exactly where it came to its end: without a report the status is Clean, else Reported. Any other status has its cause.
+abbrev pub EndsRun : Run → Change → Status → Option Kept → Type 0
+EndsRun run errs status.Clean (Some session) = Completed session run errs × (session.reports ≡ 0)
+EndsRun run errs status.Reported (Some session) = Completed session run errs × (session.reports ≢ 0)
+EndsRun run errs status.Malformed None = IsMalformed run errs
+EndsRun run errs status.ReadFault None = CutShort NotRead read_fault_line run errs
+EndsRun run errs status.WriteFault None = CutShort BrokeIn write_fault_line run errs
+EndsRun run errs status.Limit None = CutShort StoppedByNames (limit_line which.Names) run errs
+EndsRun run errs status.NoMemory None = CutShort RanOutOf no_memory_line run errs
+EndsRun run errs other session = ⊥
 
--- neither the source nor the sink failed
-pub record NothingRose (run : Run) : Type 0 where
-  pub source : Rose run.source.faults_before run.source.faults → ⊥
-  pub sink : Rose run.traffic.sink.faults_before run.traffic.sink.faults → ⊥
+-- ---- a chain that is shown
 
--- The promises of the program: where the source tells its bytes and nothing failed, the status, what is written and what is said are a function of
--- the words and these bytes, and memory alone is free; and each status has its cause.
+-- the trace wasn't read, and the driver wasn't called
+pub record LeftTrace (run : Run) : Type 0 where
+  pub unread : IsUnmoved run.source
+  pub stood : Stood run.source
+  pub driver : run.traffic.log ≡ run.traffic.old_log
+
+-- the chain was shown to its end, and nothing was said
+pub record ShowedAll (chain : ChainRun) (sink errs : Change) : Type 0 where
+  pub shows : Shows chain sink (Ok unit)
+  pub silent : IsSilent errs
+
+-- an error cut it short, and its line was said
+pub record ShowedCut (chain : ChainRun) (e : ReplayError) (sink errs : Change) : Type 0 where
+  pub shows : Shows chain sink (Err e)
+  pub said : Said (line_of e) errs
+
+-- how the showing of a chain ends
+abbrev pub ShowEnds : ChainRun → Change → Change → Status → Type 0
+ShowEnds chain sink errs status.Clean = ShowedAll chain sink errs
+ShowEnds chain sink errs status.ReadFault = ShowedCut chain error.Read sink errs
+ShowEnds chain sink errs status.WriteFault = ShowedCut chain error.Write sink errs
+ShowEnds chain sink errs status.Limit = ShowedCut chain (error.Limit which.Manifests) sink errs ⊎ ShowedCut chain (error.Limit which.Chain) sink errs
+ShowEnds chain sink errs status.NoMemory = ShowedCut chain error.NoMemory sink errs
+ShowEnds chain sink errs other = ⊥
+
+-- the chain was shown, never with a session, and nothing else was done
+abbrev pub EndsChain : ChainRun → Run → Change → Status → Option Kept → Type 0
+EndsChain chain run errs s None = LeftTrace run × ShowEnds chain run.traffic.sink errs s
+EndsChain chain run errs s (Some session) = ⊥
+
+-- ---- the program
+
+-- how the program ends, by what the words ask for
+abbrev pub EndsAs : Option Asked → Process → Status → Option Kept → Type 0
+EndsAs None p s session = EndsUsage p.run p.errs s session
+EndsAs (Some (AsksRun asked)) p s session = EndsRun p.run p.errs s session
+EndsAs (Some (AsksChain asked)) p s session = EndsChain (chain_run asked p.env p.tree) p.run p.errs s session
+
+-- a count of faults didn't rise
+abbrev pub NeverRose : ℕ → ℕ → Type 0
+NeverRose before now = Rose before now → ⊥
+
+-- the sink didn't fail
+abbrev pub SinkStood : Process → Type 0
+SinkStood p = NeverRose p.run.traffic.sink.faults_before p.run.traffic.sink.faults
+
+-- a trace's source tells these bytes, and neither it nor the sink failed
+pub record TellsTrace (p : Process) (bytes : List ℕ) : Type 0 where
+  pub told : p.run.source.old ≡ Some bytes
+  pub source : NeverRose p.run.source.faults_before p.run.source.faults
+  pub sink : SinkStood p
+
+-- the tree tells these files, and neither it nor the sink failed
+pub record TellsFiles (p : Process) (files : List File) : Type 0 where
+  pub told : p.tree.files ≡ Some files
+  pub tree : NeverRose p.tree.faults_before p.tree.faults
+  pub sink : SinkStood p
+
+-- what the words ask to be read is told, and nothing failed: the trace for a replay, the files for a chain, and nothing for words that aren't understood
+abbrev pub Tells : Option Asked → Process → List File → List ℕ → Type 0
+Tells None p files bytes = ⊤
+Tells (Some (AsksRun asked)) p files bytes = TellsTrace p bytes
+Tells (Some (AsksChain asked)) p files bytes = TellsFiles p files
+
+-- The promises of the program: where what the words ask for is told and nothing failed, the status, what is written and what is said are a function of the
+-- words, the variables, the files and the trace's bytes, and memory alone is free; and each status has its cause.
 pub record Keeps (p : Process) (s : Status) (session : Option Kept) : Type 0 where
-  pub function : (bytes : List ℕ) → p.run.source.old ≡ Some bytes → NothingRose p.run → IsAnswer (output p.words bytes) s p.run.traffic.sink p.errs ⊎ (s ≡ status.NoMemory)
-  pub causes : Finishes p s session
+  pub function : (files : List File) (bytes : List ℕ) → Tells (words_ask p.words) p files bytes
+      → IsAnswer (output p.words p.env files bytes) s p.run.traffic.sink p.errs ⊎ (s ≡ status.NoMemory)
+  pub causes : EndsAs (words_ask p.words) p s session
+
+-- The driver is prepared once, with the policy that the words choose for a replay, unless memory ran out before; otherwise no method of it is called.
+abbrev pub IsPrepared : Option Asked → Status → Option Policy → Option Policy → Type 0
+IsPrepared (Some (AsksRun asked)) s old new = (new ≡ prepared old asked.policy) ⊎ ((s ≡ status.NoMemory) × (new ≡ old))
+IsPrepared other s old new = new ≡ old

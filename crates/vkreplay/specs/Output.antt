@@ -1,6 +1,14 @@
--- What the program writes, how it ends and what it says, as a function of its words and the trace's bytes. Source: this project.
-use Rattle.std.specs.Prelude.{◌≡◌, ◌++◌, ◌==◌, ℕ, if◌then◌else◌, Option, Some, None, List, [], String}
-use Rattle.std.specs.declared.alloc.Global.{Global}
+-- What the program writes, how it ends and what it says, as a function of its words, the variables, the files and the trace's bytes.
+-- Source: this project.
+use Rattle.std.specs.Prelude.{◌≡◌, ◌++◌, ◌==◌, nat_le, Bool, true, false, ℕ, if◌then◌else◌, Option, Some, None, List, []}
+use Rattle.std.specs.List.{concat}
+use Rattle.env_filters.specs.Variables.{Variable}
+use Rattle.layer_search.specs.Paths.{most_paths}
+use Rattle.chain_build.specs.Override.{most_met, setup_of}
+use Rattle.chain_build.specs.Setup.{SetupContent}
+use Rattle.program_words.specs.Asked.{Asked, AsksChain, AsksRun, ChainAsked, words_ask}
+use Rattle.program_words.specs.Words.{Word}
+use Rattle.replay_base.specs.Files.{File}
 use Rattle.trace_format.specs.Content.{TraceEvent}
 use Rattle.replay_base.specs.Changes.{Change, Gained}
 use Rattle.replay_base.specs.declared.limit.Which.TheVariants as which
@@ -12,7 +20,7 @@ use Rattle.replay_core.specs.Traffic.{text_of, end_line_of}
 use Rattle.replay_core.specs.declared.status.Status.{Status}
 use Rattle.replay_core.specs.declared.status.Status.TheVariants as status
 use Rattle.vkreplay.specs.Said.{Said, fault_line, limit_line, usage_line}
-use Rattle.vkreplay.specs.Words.{is_run}
+use Rattle.vkreplay.specs.Showing.{is_too_long, shown_lines, shown_outcome}
 
 -- the bytes that are written, the status, and the line on the error sink, which is empty where nothing is said
 pub record Answer : Type 0 where
@@ -42,9 +50,37 @@ output_at (Some s) events = stopped_output s.line s.cause events
 abbrev pub usage_output : Answer
 usage_output = record { bytes = []; status = status.Usage; said = usage_line }
 
--- the answer to these words and a trace of these bytes
-abbrev pub output : List (String Global) → List ℕ → Answer
-output words bytes = if is_run words then output_at (stop bytes) (events_of bytes) else usage_output
+-- the answer to a trace of these bytes
+abbrev pub run_output : List ℕ → Answer
+run_output bytes = output_at (stop bytes) (events_of bytes)
+
+-- a chain is shown, or it is too long
+abbrev pub shown_so : Bool → List ℕ → Answer
+shown_so false bytes = record { bytes = bytes; status = status.Clean; said = [] }
+shown_so true bytes = record { bytes = bytes; status = status.Limit; said = limit_line which.Chain }
+
+-- a setup is shown: its notes, and then its chain where it isn't too long
+abbrev pub shown_output : SetupContent → ChainAsked → Answer
+shown_output setup asked = shown_so (is_too_long (shown_outcome setup asked)) (concat (shown_lines setup asked))
+
+-- a search met too many manifest files
+abbrev pub manifests_output : Answer
+manifests_output = record { bytes = []; status = status.Limit; said = limit_line which.Manifests }
+
+-- the answer where a chain is asked for
+abbrev pub chain_output : List File → List Variable → ChainAsked → Answer
+chain_output files env asked =
+    if nat_le (most_met files env asked.root asked.exe) most_paths then shown_output (setup_of files env asked.root asked.exe) asked else manifests_output
+
+-- the answer to what is asked for
+abbrev pub output_of : Option Asked → List Variable → List File → List ℕ → Answer
+output_of None env files bytes = usage_output
+output_of (Some (AsksRun asked)) env files bytes = run_output bytes
+output_of (Some (AsksChain asked)) env files bytes = chain_output files env asked
+
+-- the answer to these words, with these variables and files, and a trace of these bytes
+abbrev pub output : List Word → List Variable → List File → List ℕ → Answer
+output words env files bytes = output_of (words_ask words) env files bytes
 
 -- the program ended so: with this status, these bytes written, and this line said
 pub record IsAnswer (a : Answer) (s : Status) (sink errs : Change) : Type 0 where

@@ -4,8 +4,8 @@ use Rattle.replay_core.specs.declared.status.Status.{Status}
 use Rattle.replay_core.specs.declared.status.Status.TheVariants as status
 use Rattle.replay_core.specs.declared.error.ReplayError.{ReplayError}
 use Rattle.replay_core.specs.declared.error.ReplayError.TheVariants as error
-use Rattle.vkreplay.specs.declared.process.Wordless.{Wordless}
-use Rattle.vkreplay.specs.declared.process.Wordless.TheVariants as wordless
+use Rattle.program_words.specs.declared.read.WordsError.{WordsError}
+use Rattle.program_words.specs.declared.read.WordsError.TheVariants as words
 use Rattle.vkreplay.specs.Said.{fault_line, limit_line, usage_line, read_fault_line, write_fault_line, no_memory_line}
 
 -- the status of an error
@@ -24,12 +24,12 @@ line_of (error.Trace line fault) = fault_line line fault
 line_of (error.Limit which) = limit_line which
 line_of error.NoMemory = no_memory_line
 
--- the status where the process's words can't be had
-abbrev pub wordless_status : Wordless → Status
-wordless_status wordless.NotText = status.Usage
-wordless_status wordless.NoMemory = status.NoMemory
+-- the status of words that can't be read
+abbrev pub words_status : WordsError → Status
+words_status words.Usage = status.Usage
+words_status words.NoMemory = status.NoMemory
 
 -- the line that is said then
-abbrev pub wordless_line : Wordless → List ℕ
-wordless_line wordless.NotText = usage_line
-wordless_line wordless.NoMemory = no_memory_line
+abbrev pub words_line : WordsError → List ℕ
+words_line words.Usage = usage_line
+words_line words.NoMemory = no_memory_line

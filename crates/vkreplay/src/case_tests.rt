@@ -2,9 +2,10 @@
 use crate::tests::{sink, words_of};
 use crate::top::replay_main;
 use command_tables::{Code, row};
+use env_filters::EnvList;
 use itoa::Buffer;
 use model_driver::{DriverCall, DriverReply, ModelDriver, RecordingDriver};
-use replay_base::MemSource;
+use replay_base::{MemSource, MemTree};
 use replay_core::Status;
 use std::alloc::Global;
 use std::process::Abort;
@@ -150,7 +151,16 @@ fn runs_as_stored(rt: &impl Abort, alloc: Global, case: &Case) -> Result<(), Fai
     let mut out = sink(alloc, 0)?;
     let mut errs = sink(alloc, 0)?;
     let mut driver = RecordingDriver::new(alloc, ModelDriver::new(alloc));
-    let finished = replay_main(alloc, &words, &mut trace, &mut out, &mut errs, &mut driver);
+    let finished = replay_main(
+        alloc,
+        &words,
+        &EnvList::new(alloc),
+        &mut MemTree::new(alloc),
+        &mut trace,
+        &mut out,
+        &mut errs,
+        &mut driver,
+    );
     let mut calls = Vec::new(alloc);
     for (call, reply) in driver.log() {
         put_call(&mut calls, call, reply)?;

@@ -3,8 +3,9 @@ ghost use Rattle.std.specs.Prelude.{None};
 
 use crate::tests::{TWICE, TWICE_TEXT, sink, words_of};
 use crate::top::{Finished, replay_main};
+use env_filters::EnvList;
 use model_driver::{ModelDriver, RecordingDriver};
-use replay_base::{Failed, Sink, Source};
+use replay_base::{Failed, MemTree, Sink, Source};
 use replay_core::Status;
 use std::alloc::Global;
 use std::process::Abort;
@@ -88,6 +89,8 @@ fn cut_run(alloc: Global, read: usize, written: usize) -> Result<Cut, Fail> {
     let Finished { status, .. } = replay_main(
         alloc,
         &words,
+        &EnvList::new(alloc),
+        &mut MemTree::new(alloc),
         &mut trace,
         &mut out,
         &mut errs,

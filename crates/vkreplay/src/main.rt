@@ -1,10 +1,15 @@
-//! `vkreplay run` replays a recorded Vulkan trace from standard input against a model driver.
-//! Its public call `replay_main` has the promises; `main` hands it the process's words and streams.
-//! What a trace means and how it is replayed is left to the crates below.
+//! `vkreplay run` replays a recorded Vulkan trace from standard input against a model driver, and `vkreplay chain` shows which
+//! layers and drivers the manifests on this machine come to.
+//! Its public call `replay_main` has the promises; `main` hands it the process's words, variables and streams.
+//! What a trace means, how it is replayed and how a chain is built is left to the crates below.
 #![tactic(auto)]
 
 #[cfg(test)]
 mod case_tests;
+mod chain;
+#[cfg(test)]
+mod chain_tests;
+mod environment;
 #[cfg(test)]
 mod fault_tests;
 mod process;
@@ -12,31 +17,53 @@ mod say;
 #[cfg(test)]
 mod tests;
 mod top;
-mod words;
 
+use environment::variables_of;
 use model_driver::ModelDriver;
-use process::{Wordless, exit_status};
-use replay_base::{ReadSource, WriteSink};
+use process::{Invocation, exit_status};
+use program_words::WordsError;
+use replay_base::{FsTree, ReadSource, WriteSink};
 use std::alloc::Global;
 use std::env;
 use std::io::ErrorKind;
 use std::process::ExitCode;
 
 // The process's words without the program's name. A word that isn't UTF-8 is one that isn't understood.
-fn process_words(rt: &HostRuntime, alloc: Global) -> Result<Vec<String>, Wordless> {
+fn process_words(rt: &HostRuntime, alloc: Global) -> Result<Vec<String>, WordsError> {
     match env::args(rt) {
-        Ok(args) => args.skip(1).collect(alloc).map_err(|_| Wordless::NoMemory),
-        Err(error) if error.kind() == ErrorKind::OutOfMemory => Err(Wordless::NoMemory),
-        Err(_) => Err(Wordless::NotText),
+        Ok(args) => args
+            .skip(1)
+            .collect(alloc)
+            .map_err(|_| WordsError::NoMemory),
+        Err(error) if error.kind() == ErrorKind::OutOfMemory => Err(WordsError::NoMemory),
+        Err(_) => Err(WordsError::Usage),
+    }
+}
+
+// What the process was started with.
+fn invocation(rt: &HostRuntime, alloc: Global) -> Result<Invocation, WordsError> {
+    let words = process_words(rt, alloc)?;
+    match variables_of(rt, alloc) {
+        Ok(env) => Ok(Invocation { words, env }),
+        Err(_) => Err(WordsError::NoMemory),
     }
 }
 
 fn main(rt: HostRuntime) -> ExitCode {
     let alloc = rt.alloc();
-    let words = process_words(&rt, alloc);
+    let given = invocation(&rt, alloc);
+    let mut tree = FsTree::new(&rt);
     let mut trace = ReadSource::new(rt.stdin());
     let mut out = WriteSink::new(rt.stdout());
     let mut errs = WriteSink::new(rt.stderr());
     let mut driver = ModelDriver::new(alloc);
-    ExitCode::from(exit_status(alloc, words, &mut trace, &mut out, &mut errs, &mut driver))
+    ExitCode::from(exit_status(
+        alloc,
+        given,
+        &mut tree,
+        &mut trace,
+        &mut out,
+        &mut errs,
+        &mut driver,
+    ))
 }

@@ -1,8 +1,9 @@
 // Whole runs over memory: what each prints, says and asks the driver.
 use crate::top::{Finished, replay_main};
 use command_tables::CommandId;
+use env_filters::EnvList;
 use model_driver::{AdverseDriver, Driver, DriverCall, ModelDriver, RecordingDriver};
-use replay_base::{MemSink, MemSource};
+use replay_base::{MemSink, MemSource, MemTree};
 use replay_core::Status;
 use std::alloc::Global;
 use std::process::Abort;
@@ -220,6 +221,8 @@ fn ends_as_it_must(rt: &impl Abort, alloc: Global, run: &Run) -> Result<(), Fail
     let Finished { status, session } = replay_main(
         alloc,
         &words,
+        &EnvList::new(alloc),
+        &mut MemTree::new(alloc),
         &mut trace,
         &mut out,
         &mut errs,
@@ -265,7 +268,16 @@ fn told_by<D: Driver + Drop>(
     let mut out = sink(alloc, 0)?;
     let mut errs = sink(alloc, 0)?;
     let mut driver = RecordingDriver::new(alloc, inner);
-    replay_main(alloc, &words, &mut source, &mut out, &mut errs, &mut driver);
+    replay_main(
+        alloc,
+        &words,
+        &EnvList::new(alloc),
+        &mut MemTree::new(alloc),
+        &mut source,
+        &mut out,
+        &mut errs,
+        &mut driver,
+    );
     assert!(rt; out.bytes().ends_with(end.as_bytes()), "{end}");
     let mut calls = Vec::new(alloc);
     for (call, _) in driver.log() {

@@ -1,0 +1,239 @@
+// Chains that are shown: what each tree with its variables prints, says and answers.
+use crate::tests::{sink, words_of};
+use crate::top::{Finished, replay_main};
+use env_filters::EnvList;
+use model_driver::ModelDriver;
+use replay_base::{MemSource, MemTree};
+use replay_core::Status;
+use std::alloc::Global;
+use std::process::Abort;
+use std::test::Fail;
+
+type Pairs = &'static [(&'static str, &'static str)];
+
+const DRIVER: (&str, &str) = (
+    "/etc/vulkan/icd.d/a.json",
+    r#"{"file_format_version":"1.0.1","ICD":{"library_path":"libvulkan_a.so","api_version":"1.3.275"}}"#,
+);
+
+const VALIDATION: (&str, &str) = (
+    "/usr/share/vulkan/explicit_layer.d/v.json",
+    r#"{"file_format_version":"1.2.0","layer":{"name":"VK_LAYER_KHRONOS_validation","type":"GLOBAL","library_path":"libVkLayer_khronos_validation.so","api_version":"1.3.275","implementation_version":"1","description":"Khronos Validation Layer","platforms":["LINUX"],"features":{"presets":[]}}}"#,
+);
+
+const VALIDATION_TEXT: &str =
+    "chain 0 ok layers=1 parts=3 drivers=1\nlayer 1 VK_LAYER_KHRONOS_validation /usr/share/vulkan/explicit_layer.d/v.json\npart 1 threads VK_LAYER_KHRONOS_validation\npart 2 lifetimes VK_LAYER_KHRONOS_validation\npart 3 unique VK_LAYER_KHRONOS_validation\ndriver 1 /etc/vulkan/icd.d/a.json libvulkan_a.so\n";
+
+const NO_LAYERS_TEXT: &str =
+    "chain 0 ok layers=0 parts=0 drivers=1\ndriver 1 /etc/vulkan/icd.d/a.json libvulkan_a.so\n";
+
+// An implicit layer of another library, without variables but the one that turns it off.
+const OVERLAY: (&str, &str) = (
+    "/usr/share/vulkan/implicit_layer.d/o.json",
+    r#"{"file_format_version":"1.2.0","layer":{"name":"VK_LAYER_own_overlay","type":"GLOBAL","library_path":"libown_overlay.so","api_version":"1.3.275","implementation_version":"1","description":"own","disable_environment":{"NO_OVERLAY":"1"}}}"#,
+);
+
+// An override of the validation layer that searches a folder which isn't there.
+const OVERRIDE: (&str, &str) = (
+    "/usr/share/vulkan/implicit_layer.d/override.json",
+    r#"{"file_format_version":"1.2.0","layer":{"name":"VK_LAYER_LUNARG_override","type":"GLOBAL","component_layers":["VK_LAYER_KHRONOS_validation"],"api_version":"1.3.275","implementation_version":"1","description":"override","disable_environment":{"NO_OVERRIDE":"1"},"override_paths":["/opt/l"]}}"#,
+);
+
+// An implicit layer with a variable that turns it on and one that turns it off.
+const SWITCHED: (&str, &str) = (
+    "/usr/share/vulkan/implicit_layer.d/s.json",
+    r#"{"file_format_version":"1.2.0","layer":{"name":"VK_LAYER_own_switched","type":"GLOBAL","library_path":"libown_switched.so","api_version":"1.3.275","implementation_version":"1","description":"own","disable_environment":{"D_OVL":"1"},"enable_environment":{"E_OVL":"1"}}}"#,
+);
+
+// An explicit layer that checks and wraps nothing.
+const LIFETIMES: (&str, &str) = (
+    "/usr/share/vulkan/explicit_layer.d/l.json",
+    r#"{"file_format_version":"1.2.0","layer":{"name":"VK_LAYER_own_life","type":"GLOBAL","library_path":"libVkLayer_object_lifetimes.so","api_version":"1.3.275","implementation_version":"1","description":"own"}}"#,
+);
+
+const HOME: (&str, &str) = ("HOME", "/home/u");
+
+// The words, the files and the variables; and what must be answered, printed and said.
+#[derive(Clone, Copy)]
+struct Shown {
+    words: &'static str,
+    files: Pairs,
+    env: Pairs,
+    status: Status,
+    out: &'static str,
+    errs: &'static str,
+}
+
+const EMPTY: Shown = Shown {
+    words: "chain",
+    files: &[],
+    env: &[HOME],
+    status: Status::Clean,
+    out: "chain 0 no-driver\n",
+    errs: "",
+};
+
+const CASES: [Shown; 11] = [
+    EMPTY,
+    Shown {
+        files: &[DRIVER, VALIDATION],
+        env: &[HOME, ("VK_INSTANCE_LAYERS", "VK_LAYER_KHRONOS_validation")],
+        out: VALIDATION_TEXT,
+        ..EMPTY
+    },
+    // All layers are disabled, and one is enabled all the same.
+    Shown {
+        files: &[DRIVER, VALIDATION, OVERLAY],
+        env: &[
+            HOME,
+            ("VK_LOADER_LAYERS_DISABLE", "~all~"),
+            ("VK_LOADER_LAYERS_ENABLE", "*validation"),
+        ],
+        out: VALIDATION_TEXT,
+        ..EMPTY
+    },
+    // The override's folder is absent, so that the environment's layer is missing, and then the application's.
+    Shown {
+        files: &[DRIVER, VALIDATION, OVERRIDE],
+        env: &[HOME, ("VK_INSTANCE_LAYERS", "VK_LAYER_KHRONOS_validation")],
+        out: "chain 0 ok layers=0 parts=0 drivers=1\nnote EnvMissing VK_LAYER_KHRONOS_validation\ndriver 1 /etc/vulkan/icd.d/a.json libvulkan_a.so\n",
+        ..EMPTY
+    },
+    Shown {
+        words: "chain --layers VK_LAYER_KHRONOS_validation",
+        files: &[DRIVER, VALIDATION, OVERRIDE],
+        env: &[HOME, ("VK_INSTANCE_LAYERS", "VK_LAYER_KHRONOS_validation")],
+        out: "chain 0 layer-not-present VK_LAYER_KHRONOS_validation\n",
+        ..EMPTY
+    },
+    Shown {
+        files: &[DRIVER, SWITCHED],
+        env: &[HOME, ("E_OVL", "1")],
+        out: "chain 0 ok layers=1 parts=0 drivers=1\nlayer 1 VK_LAYER_own_switched /usr/share/vulkan/implicit_layer.d/s.json\ndriver 1 /etc/vulkan/icd.d/a.json libvulkan_a.so\n",
+        ..EMPTY
+    },
+    Shown {
+        files: &[DRIVER, SWITCHED],
+        env: &[HOME, ("E_OVL", "1"), ("D_OVL", "")],
+        out: NO_LAYERS_TEXT,
+        ..EMPTY
+    },
+    Shown {
+        files: &[DRIVER, SWITCHED],
+        out: NO_LAYERS_TEXT,
+        ..EMPTY
+    },
+    Shown {
+        words: "chain --layers VK_LAYER_own_life",
+        files: &[DRIVER, LIFETIMES],
+        out: "chain 0 unguarded VK_LAYER_own_life\n",
+        ..EMPTY
+    },
+    // Two drivers, of which one has its library beside its manifest, and a manifest without a version.
+    Shown {
+        files: &[
+            DRIVER,
+            (
+                "/etc/vulkan/icd.d/b.json",
+                r#"{"file_format_version":"1.0.1","ICD":{"library_path":"./libb.so","api_version":"1.3.275"}}"#,
+            ),
+            ("/etc/vulkan/icd.d/c.json", "{}"),
+        ],
+        out: "note NoVersion /etc/vulkan/icd.d/c.json\nchain 0 ok layers=0 parts=0 drivers=2\ndriver 1 /etc/vulkan/icd.d/a.json libvulkan_a.so\ndriver 2 /etc/vulkan/icd.d/b.json /etc/vulkan/icd.d/./libb.so\n",
+        ..EMPTY
+    },
+    Shown {
+        words: "chain --driver fresh",
+        status: Status::Usage,
+        out: "",
+        errs: "vkreplay: words not understood\n",
+        ..EMPTY
+    },
+];
+
+// The variables of these pairs.
+fn variables(alloc: Global, pairs: Pairs) -> Result<EnvList, Fail> {
+    let mut env = EnvList::new(alloc);
+    for (name, value) in pairs {
+        env.put(name, value).ok().ok_or("no memory")?;
+    }
+    Ok(env)
+}
+
+// A tree of these files.
+fn tree_of(alloc: Global, files: Pairs) -> Result<MemTree, Fail> {
+    let mut tree = MemTree::new(alloc);
+    for (path, text) in files {
+        tree.put(path, text.as_bytes()).ok().ok_or("no memory")?;
+    }
+    Ok(tree)
+}
+
+// What is shown of a tree, with its status and what is said.
+struct Seen {
+    status: Status,
+    out: Vec<u8>,
+    errs: Vec<u8>,
+}
+
+// Runs the program over a tree with an empty trace.
+fn shown(alloc: Global, words: &str, env: &EnvList, tree: &mut MemTree) -> Result<Seen, Fail> {
+    let words = words_of(alloc, words)?;
+    let mut trace = MemSource::new(Vec::new(alloc), Vec::new(alloc));
+    let mut out = sink(alloc, 0)?;
+    let mut errs = sink(alloc, 0)?;
+    let mut driver = ModelDriver::new(alloc);
+    let Finished { status, .. } = replay_main(
+        alloc,
+        &words,
+        env,
+        tree,
+        &mut trace,
+        &mut out,
+        &mut errs,
+        &mut driver,
+    );
+    Ok(Seen {
+        status,
+        out: Vec::from_slice(alloc, out.bytes())?,
+        errs: Vec::from_slice(alloc, errs.bytes())?,
+    })
+}
+
+fn is_shown(rt: &impl Abort, alloc: Global, case: &Shown) -> Result<(), Fail> {
+    let env = variables(alloc, case.env)?;
+    let mut tree = tree_of(alloc, case.files)?;
+    let seen = shown(alloc, case.words, &env, &mut tree)?;
+    assert_eq!(rt; seen.status, case.status);
+    assert!(rt; seen.out.as_slice() == case.out.as_bytes(), "{}", case.out);
+    assert!(rt;
+        seen.errs.as_slice() == case.errs.as_bytes(),
+        "{}",
+        case.out
+    );
+    Ok(())
+}
+
+#[test]
+fn chains_are_shown_as_they_must_be(rt: HostRuntime) -> Result<(), Fail> {
+    let alloc = rt.alloc();
+    for case in &CASES {
+        is_shown(&rt, alloc, case)?;
+    }
+    Ok(())
+}
+
+#[test]
+fn a_tree_that_fails_at_each_of_its_calls_shows_nothing(rt: HostRuntime) -> Result<(), Fail> {
+    let alloc = rt.alloc();
+    let env = variables(alloc, &[HOME])?;
+    for call in 1..21 {
+        let mut tree = tree_of(alloc, &[DRIVER, VALIDATION])?;
+        tree.fail_at(call).ok().ok_or("no memory")?;
+        let seen = shown(alloc, "chain", &env, &mut tree)?;
+        assert_eq!(rt; seen.status, Status::ReadFault);
+        assert!(rt; seen.out.is_empty());
+        assert!(rt; seen.errs.as_slice() == b"vkreplay: read fault\n");
+    }
+    Ok(())
+}
