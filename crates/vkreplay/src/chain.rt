@@ -23,6 +23,7 @@ use report_text::{chain_lines, note_line};
 use std::alloc::Global;
 
 // A text as one piece.
+#[tactic(auto, using(crate::proofs::Writing::one_piece))]
 fn put_piece<K: Sink>(out: &mut K, piece: &[u8]) -> Result<(), ReplayError>
     ensures { Writes (piece.now ∷ []) false (changed (K.held out.old) (K.held out.new) (K.faults out.old) (K.faults out.new)) result }
 {
@@ -33,7 +34,7 @@ fn put_piece<K: Sink>(out: &mut K, piece: &[u8]) -> Result<(), ReplayError>
 }
 
 // The line of a note.
-#[tactic(auto, using(crate::proofs::Writing::nothing_yet))]
+#[tactic(auto, using(crate::proofs::Writing::none_of, crate::proofs::Writing::nothing_yet))]
 fn put_note<K: Sink>(out: &mut K, note: &Note, line: &mut Vec<u8>) -> Result<(), ReplayError>
     requires { IsOfFile note.now.kind }
     ensures { Writes (note_text (note_content note.now) ∷ []) false (changed (K.held out.old) (K.held out.new) (K.faults out.old) (K.faults out.new)) result }
@@ -46,7 +47,7 @@ fn put_note<K: Sink>(out: &mut K, note: &Note, line: &mut Vec<u8>) -> Result<(),
 }
 
 // The lines of notes, each by itself.
-#[tactic(auto, using(crate::proofs::Writing::nothing_yet))]
+#[tactic(auto, using(crate::proofs::Writing::none_of, crate::proofs::Writing::nothing_yet))]
 fn put_notes<K: Sink>(out: &mut K, notes: &[Note], line: &mut Vec<u8>) -> Result<(), ReplayError>
     requires { AllOfFiles notes.now }
     ensures { Writes (map note_text (map note_content notes.now)) false (changed (K.held out.old) (K.held out.new) (K.faults out.old) (K.faults out.new)) result }
@@ -58,12 +59,8 @@ fn put_notes<K: Sink>(out: &mut K, notes: &[Note], line: &mut Vec<u8>) -> Result
 }
 
 // The lines of a chain, or of its refusal, as at a call with number 0.
-#[tactic(auto, using(crate::proofs::Writing::nothing_yet, crate::proofs::Built::is_no_excess, crate::proofs::Built::text_of_answer))]
-fn put_answer<K: Sink>(
-    out: &mut K,
-    answer: &ChainAnswer,
-    text: &mut Vec<u8>,
-) -> Result<(), ReplayError>
+#[tactic(auto, using(crate::proofs::Writing::none_of))]
+fn put_answer<K: Sink>(out: &mut K, answer: &ChainAnswer, text: &mut Vec<u8>) -> Result<(), ReplayError>
     requires { IsPrintable (answer_content answer.now) }
     ensures { let outcome = outcome_of (answer_content answer.now) in
         Writes (outcome_text outcome 0 ∷ []) (is_too_long outcome) (changed (K.held out.old) (K.held out.new) (K.faults out.old) (K.faults out.new)) result }
@@ -76,6 +73,7 @@ fn put_answer<K: Sink>(
 }
 
 // What comes of the layers that the application names.
+#[tactic(auto, using(crate::proofs::Writing::none_of, crate::proofs::Built::printable))]
 fn put_chain<K: Sink>(
     alloc: Global,
     out: &mut K,
@@ -144,7 +142,7 @@ pub(crate) fn show_chain<T: Tree, K: Sink>(
     out: &mut K,
 ) -> Result<(), ReplayError>
     ensures { let seen = tree_seen (T.files tree.old) (T.faults tree.old) (T.faults tree.new) in
-        Shows (chain_run (chain_meant words) env.now seen) (changed (K.held out.old) (K.held out.new) (K.faults out.old) (K.faults out.new)) result }
+        Shows (chain_run (chain_meant words.entry) env.now seen) (changed (K.held out.old) (K.held out.new) (K.faults out.old) (K.faults out.new)) result }
 {
     let setup = match read_setup(alloc, tree, env, words.root, words.exe) {
         Ok(setup) => setup,
