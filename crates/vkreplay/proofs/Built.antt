@@ -1,6 +1,6 @@
 -- What comes of building a chain can be printed, and its lines are those of the outcome by which traces are judged.
 use Rattle.std.proofs.Common.{◌≡◌, ◌∙◌, ◌+◌, ◌-◌, ◌*◌, ◌^◌, ◌<◌, ◌≤◌, ℕ, Bool, true, false, cond, refl, sym, ap, subst, arith, List, [], ◌∷◌, ◌++◌, length, map, find, Option, Some, None, true≢false, length-append}
-use Rattle.std.specs.Prelude.{All, nat_le, ⊤}
+use Rattle.std.specs.Prelude.{All, nat_le, unwrap_or, ⊤}
 use Rattle.std.specs.Str.{bytes_eq}
 use Rattle.std.proofs.lemmas.List.{length-map}
 use Rattle.std.proofs.lemmas.List.Elements.{All-append, All-cons, All-nil}
@@ -8,7 +8,7 @@ use Rattle.layer_search.specs.Contents.{LayerFound, DriverFound}
 use Rattle.layer_search.specs.Paths.{most_paths}
 use Rattle.chain_build.specs.Answers.{answer_content}
 use Rattle.chain_build.specs.Chain.{NoteOf, ChainContent, Outcome, LayerNotPresent, NoDriver, TooLong, Unguarded, Built, chain_of, chain_with, chain_layers, chain_notes, driven, guarded_or, present_or, is_missing}
-use Rattle.chain_build.specs.Parts.{first_unguarded, layer_parts, library_parts, placed_parts}
+use Rattle.chain_build.specs.Parts.{first_unguarded, last_component, layer_parts, library_parts, placed_parts}
 use Rattle.chain_build.specs.Setup.{SetupContent}
 use Rattle.chain_build.specs.declared.parts.PartKind.{PartKind}
 use Rattle.chain_build.specs.declared.parts.PartKind.TheVariants.{Threads, Lifetimes, Unique}
@@ -56,7 +56,7 @@ few_placed place [] = omega arith
 few_placed place (layer ∷ layers) =
     let at : PartKind → PartKind × ℕ = λ part. (part, place) in
     let more = few_placed (place + 1) layers in
-    let here = few_parts _ in
+    let here = few_parts (last_component (unwrap_or layer.entry.library [])) in
     omega (arith, length-append (map at (layer_parts layer)) (placed_parts (place + 1) layers), length-map (layer_parts layer) at, more, here)
 
 -- parts of one layer have its place

@@ -1,5 +1,5 @@
 -- Pieces of text that are written one behind the other.
-use Rattle.std.proofs.Common.{◌≡◌, ◌∙◌, ◌+◌, ◌<◌, ◌≤◌, ℕ, Bool, true, false, refl, sym, ap, subst, arith, List, [], ◌∷◌, ◌++◌, length, map, take, drop, min, Option, append-nil, append_assoc, true≢false}
+use Rattle.std.proofs.Common.{◌≡◌, ◌∙◌, ◌+◌, ◌<◌, ◌≤◌, ℕ, Bool, true, false, refl, sym, ap, subst, arith, List, [], ◌∷◌, ◌++◌, length, map, take, drop, min, Option, append-nil, append_assoc, true≢false, inr}
 use Rattle.std.specs.Prelude.{Result, Ok, Err}
 use Rattle.std.specs.List.{concat, slice_index_or}
 use Rattle.std.proofs.Math.Seq.{take-append-add}
@@ -12,7 +12,7 @@ use Rattle.replay_base.proofs.Written.{grown_nil, grown_grown}
 use Rattle.replay_core.specs.declared.error.ReplayError.{ReplayError}
 use Rattle.replay_core.specs.declared.error.ReplayError.TheVariants as error
 use Rattle.vkreplay.proofs.SaidLemmas.{all_of_both, front_more, front_behind}
-use Rattle.vkreplay.specs.Showing.{WroteAll, WroteFront, WroteSome, Writes}
+use Rattle.vkreplay.specs.Showing.{ChainRun, Shows, ShowsSetup, WroteAll, WroteFront, WroteSome, Writes}
 
 -- the pieces of two lists
 concat_append : (xs ys : List (List ℕ)) → concat (xs ++ ys) ≡ concat xs ++ concat ys
@@ -104,3 +104,39 @@ module _ {X Y : Type 0} (line : Y → List ℕ) (read : X → Y) (xs : List X) (
           ap lines_in (sym (take-append-drop (i + 1) xs)) ∙ lines_append (take (i + 1) xs) (drop (i + 1) xs) ∙ ap (λ ps. ps ++ rest) lines_next in
       subst (λ (ps : List (List ℕ)). Writes ps false (changed h0 h2 f0 f2) (Err e)) (sym whole)
       (cut_before (lines_in (take i xs) ++ this) rest false (changed h0 h2 f0 f2) e (then (lines_in (take i xs)) this false h0 h1 h2 f0 f1 f2 (Err e) a w))
+
+-- ---- notes of three kinds, and then the chain
+
+module _ (a b c d : List (List ℕ)) (long : Bool) (h0 h1 : Option (List ℕ)) (f0 f1 : ℕ) (first : WroteAll a (changed h0 h1 f0 f1)) where
+  -- an error in the second
+  pub cut_second : (h2 : Option (List ℕ)) (f2 : ℕ) (e : ReplayError) → Writes b false (changed h1 h2 f1 f2) (Err e) → Writes (a ++ (b ++ (c ++ d))) long (changed h0 h2 f0 f2) (Err e)
+  cut_second h2 f2 e w = then a (b ++ (c ++ d)) long h0 h1 h2 f0 f1 f2 (Err e) first (cut_before b (c ++ d) long (changed h1 h2 f1 f2) e w)
+
+  -- an error in the third
+  pub cut_third : (h2 h3 : Option (List ℕ)) (f2 f3 : ℕ) (e : ReplayError) → WroteAll b (changed h1 h2 f1 f2) → Writes c false (changed h2 h3 f2 f3) (Err e)
+      → Writes (a ++ (b ++ (c ++ d))) long (changed h0 h3 f0 f3) (Err e)
+  cut_third h2 h3 f2 f3 e second w =
+      then a (b ++ (c ++ d)) long h0 h1 h3 f0 f1 f3 (Err e) first (then b (c ++ d) long h1 h2 h3 f1 f2 f3 (Err e) second (cut_before c d long (changed h2 h3 f2 f3) e w))
+
+  -- and the chain behind all three
+  pub all_four : (h2 h3 h4 : Option (List ℕ)) (f2 f3 f4 : ℕ) (r : Result Unit ReplayError) → WroteAll b (changed h1 h2 f1 f2) → WroteAll c (changed h2 h3 f2 f3)
+      → Writes d long (changed h3 h4 f3 f4) r → Writes (a ++ (b ++ (c ++ d))) long (changed h0 h4 f0 f4) r
+  all_four h2 h3 h4 f2 f3 f4 r second third w =
+      then a (b ++ (c ++ d)) long h0 h1 h4 f0 f1 f4 r first (then b (c ++ d) long h1 h2 h4 f1 f2 f4 r second (then c d long h2 h3 h4 f2 f3 f4 r third w))
+
+-- ---- a setup that was read
+
+-- it is shown, to its end or not
+pub shows_setup : (run : ChainRun) (sink : Change) (r : Result Unit ReplayError) → ShowsSetup run sink r → Shows run sink r
+shows_setup run sink (Ok u) s = s
+shows_setup run sink (Err error.Read) s = absurd s.writes
+shows_setup run sink (Err error.Write) s = s
+shows_setup run sink (Err (error.Limit which.Manifests)) s = absurd s.writes
+shows_setup run sink (Err (error.Limit which.Lines)) s = s
+shows_setup run sink (Err (error.Limit which.LineBytes)) s = s
+shows_setup run sink (Err (error.Limit which.Names)) s = s
+shows_setup run sink (Err (error.Limit which.Chain)) s = s
+shows_setup run sink (Err (error.Limit which.Events)) s = s
+shows_setup run sink (Err (error.Limit which.Devices)) s = s
+shows_setup run sink (Err error.NoMemory) s = inr s
+shows_setup run sink (Err (error.Trace line fault)) s = s

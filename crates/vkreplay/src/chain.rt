@@ -95,7 +95,6 @@ fn put_chain<K: Sink>(
 }
 
 // The notes of a setup, and then its chain.
-#[tactic(auto, using(crate::proofs::Writing::then, crate::proofs::Writing::cut_before))]
 fn show_setup<K: Sink>(
     alloc: Global,
     out: &mut K,
