@@ -1,5 +1,5 @@
 -- What is built of a setup can be printed.
-use Rattle.std.proofs.Common.{◌≡◌, ℕ, ◌+◌, ◌*◌, ◌<◌, ◌≤◌, ◌^◌, Bool, true, false, List, [], ◌∷◌, Option, Some, None, if◌then◌else◌, All, map, length, find, unwrap_or, nat_le, refl, arith, lit≤, length-append, codes}
+use Rattle.std.proofs.Common.{◌≡◌, ℕ, ◌+◌, ◌*◌, ◌<◌, ◌≤◌, ◌^◌, Bool, true, false, List, [], ◌∷◌, Option, Some, None, if◌then◌else◌, All, map, length, find, unwrap_or, nat_le, refl, sym, subst, arith, lit≤, length-append, codes}
 use Rattle.std.proofs.lemmas.Bool.{leb-true}
 use Rattle.std.proofs.lemmas.List.{length-map}
 use Rattle.std.proofs.lemmas.List.Elements.{All-append, All-map}
@@ -78,7 +78,10 @@ or_missing : (name : Option (List ℕ)) (rest : Outcome) → IsPrintable rest �
 or_missing (Some name) rest h = tt
 or_missing None rest h = h
 
--- what comes of a setup with few drivers can be printed
-pub built_is_printable : (setup : SetupContent) (app : List (List ℕ)) → length setup.drivers.list < 2 ^ 32 → IsPrintable (chain_of setup app)
+of_few_drivers : (setup : SetupContent) (app : List (List ℕ)) → length setup.drivers.list < 2 ^ 32 → IsPrintable (chain_of setup app)
 unfolding chain_of
-built_is_printable setup app less = or_missing (find (is_missing setup) app) (driven setup app setup.drivers.list) (by_drivers setup app setup.drivers.list less)
+of_few_drivers setup app less = or_missing (find (is_missing setup) app) (driven setup app setup.drivers.list) (by_drivers setup app setup.drivers.list less)
+
+-- what is built of a setup with few drivers can be printed
+pub built_is_printable : (outcome : Outcome) (setup : SetupContent) (app : List (List ℕ)) → outcome ≡ chain_of setup app → length setup.drivers.list < 2 ^ 32 → IsPrintable outcome
+built_is_printable outcome setup app built less = subst IsPrintable (sym built) (of_few_drivers setup app less)
