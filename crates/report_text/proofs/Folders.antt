@@ -1,6 +1,6 @@
 -- The folder of a file in its path.
-use Rattle.std.proofs.Common.{◌≡◌, ◌∙◌, ℕ, ◌+◌, ◌-◌, ◌<◌, ◌≤◌, Bool, true, false, not, eqb, List, ◌++◌, None, if◌then◌else◌, length, get_or, drop, take, codes, refl, ap, sym, arith, lit<, length-drop}
-use Rattle.std.specs.List.{list_any, suffix_len, before_last}
+use Rattle.std.proofs.Common.{◌≡◌, ◌∙◌, ℕ, ◌+◌, ◌-◌, ◌<◌, ◌≤◌, Bool, true, false, not, eqb, List, None, if◌then◌else◌, length, get_or, drop, take, codes, refl, ap, sym, arith, lit<, length-drop}
+use Rattle.std.specs.List.{suffix_len, before_last}
 use Rattle.std.specs.Str.Pattern.{RFindsChar, SplitsAroundMatch}
 use Rattle.std.proofs.lemmas.Bool.Decides.{Decides-eqb}
 use Rattle.std.proofs.lemmas.List.{get_or-drop}

@@ -1,5 +1,5 @@
 -- What is built of a setup can be printed.
-use Rattle.std.proofs.Common.{◌≡◌, ◌∙◌, ℕ, zero, suc, ◌+◌, ◌-◌, ◌*◌, ◌<◌, ◌≤◌, ◌^◌, Bool, true, false, List, [], ◌∷◌, ◌++◌, Option, Some, None, if◌then◌else◌, All, map, length, find, unwrap_or, nat_le, refl, ap, sym, arith, lit≤, lit<, length-append, codes}
+use Rattle.std.proofs.Common.{◌≡◌, ℕ, ◌+◌, ◌*◌, ◌<◌, ◌≤◌, ◌^◌, Bool, true, false, List, [], ◌∷◌, Option, Some, None, if◌then◌else◌, All, map, length, find, unwrap_or, nat_le, refl, sym, subst, arith, lit≤, length-append, codes}
 use Rattle.std.proofs.lemmas.Bool.{leb-true}
 use Rattle.std.proofs.lemmas.List.{length-map}
 use Rattle.std.proofs.lemmas.List.Elements.{All-append, All-map}
@@ -10,7 +10,7 @@ use Rattle.chain_build.specs.declared.parts.PartKind.{PartKind}
 use Rattle.chain_build.specs.declared.parts.PartKind.TheVariants.{Threads, Lifetimes, Unique}
 use Rattle.chain_build.specs.Parts.{last_component, layer_parts, library_parts, placed_parts, first_unguarded}
 use Rattle.chain_build.specs.Chain.{NoteOf, ChainContent, Outcome, TooLong, guarded_or, chain_with, driven, present_or, chain_of, chain_layers, chain_notes, is_missing}
-use Rattle.report_text.specs.Chains.{IsPlaceOf, IsCounted, IsPrintable}
+use Rattle.report_text.specs.Chains.{IsCounted, IsPrintable}
 
 -- a layer has three parts at most
 few_in_layer : (file : List ℕ) → length (library_parts file) ≤ 3
@@ -78,7 +78,10 @@ or_missing : (name : Option (List ℕ)) (rest : Outcome) → IsPrintable rest �
 or_missing (Some name) rest h = tt
 or_missing None rest h = h
 
--- what comes of a setup with few drivers can be printed
-pub built_is_printable : (setup : SetupContent) (app : List (List ℕ)) → length setup.drivers.list < 2 ^ 32 → IsPrintable (chain_of setup app)
+of_few_drivers : (setup : SetupContent) (app : List (List ℕ)) → length setup.drivers.list < 2 ^ 32 → IsPrintable (chain_of setup app)
 unfolding chain_of
-built_is_printable setup app less = or_missing (find (is_missing setup) app) (driven setup app setup.drivers.list) (by_drivers setup app setup.drivers.list less)
+of_few_drivers setup app less = or_missing (find (is_missing setup) app) (driven setup app setup.drivers.list) (by_drivers setup app setup.drivers.list less)
+
+-- what is built of a setup with few drivers can be printed
+pub built_is_printable : (outcome : Outcome) (setup : SetupContent) (app : List (List ℕ)) → outcome ≡ chain_of setup app → length setup.drivers.list < 2 ^ 32 → IsPrintable outcome
+built_is_printable outcome setup app built less = subst IsPrintable (sym built) (of_few_drivers setup app less)

@@ -1,11 +1,13 @@
 // The lines of chains; the expected texts are written by hand.
-ghost use Rattle.std.specs.Prelude.{◌↔◌, ◌≤◌, All, IsTrue, length, map};
+ghost use Rattle.std.specs.Prelude.{◌↔◌, ◌≤◌, ◌<◌, ◌^◌, All, IsTrue, length, map};
 ghost use Rattle.chain_build.specs.Answers.{chain_content};
+ghost use Rattle.chain_build.specs.Setup.{setup_content};
 ghost use Rattle.report_text.specs.Chains.{IsCounted};
 
 use crate::chain_lines;
-use chain_build::{Chain, ChainAnswer, ChainNote, PartKind};
-use layer_search::{FoundDriver, FoundLayer};
+use chain_build::{Chain, ChainAnswer, ChainNote, PartKind, Setup, build};
+use env_filters::EnvList;
+use layer_search::{Drivers, FoundDriver, FoundLayer, LayerList};
 use manifest_reader::{DriverEntry, LayerEntry};
 use std::alloc::{AllocError, Global};
 use std::test::Fail;
@@ -28,6 +30,13 @@ fn layer(alloc: Global, name: &str, path: &str) -> Result<FoundLayer, AllocError
             override_paths: Vec::new(alloc),
         },
     })
+}
+
+// A layer with a library.
+fn plain(alloc: Global, name: &str, library: &str) -> Result<FoundLayer, AllocError> {
+    let mut plain = layer(alloc, name, "/l/m.json")?;
+    plain.entry.library = Some(text(alloc, library)?);
+    Ok(plain)
 }
 
 fn driver(alloc: Global, path: &str, library: &str) -> Result<FoundDriver, AllocError> {
@@ -247,5 +256,68 @@ fn the_longest_chain(rt: HostRuntime) -> Result<(), Fail> {
         )
     );
     assert_eq!(rt; lines.iter().filter(|byte| **byte == b'\n').count(), 4354);
+    Ok(())
+}
+
+// The lines of what is built of a setup.
+#[tactic(auto, using(crate::proofs::Printing::built_is_printable))]
+fn built(alloc: Global, setup: &Setup, app: &[String]) -> Result<Vec<u8>, Fail>
+    requires { length (setup_content setup.now).drivers.list < 2 ^ 32 }
+{
+    let mut out = Vec::new(alloc);
+    let answer = build(alloc, setup, app)?;
+    chain_lines(0, &answer, &mut out).ok().ok_or("memory")?;
+    Ok(out)
+}
+
+// A setup without files.
+fn bare(alloc: Global) -> Setup {
+    Setup {
+        drivers: Drivers {
+            list: Vec::new(alloc),
+            notes: Vec::new(alloc),
+        },
+        explicit: LayerList {
+            list: Vec::new(alloc),
+            notes: Vec::new(alloc),
+        },
+        implicit: LayerList {
+            list: Vec::new(alloc),
+            notes: Vec::new(alloc),
+        },
+        over: None,
+        env: EnvList::new(alloc),
+        exe: String::new(alloc),
+    }
+}
+
+#[test]
+fn what_is_built_is_printed(rt: HostRuntime) -> Result<(), Fail> {
+    let alloc = rt.alloc();
+    let mut setup = bare(alloc);
+    setup
+        .drivers
+        .list
+        .push(driver(alloc, "/d/a.json", "./liba.so")?)?;
+    setup
+        .explicit
+        .list
+        .push(plain(alloc, "one", "/l/libVkLayer_unique_objects.so")?)?;
+    setup
+        .env
+        .put("VK_INSTANCE_LAYERS", "none:one")
+        .ok()
+        .ok_or("memory")?;
+    if setup.drivers.list.len() > 1 {
+        return Err("too many".into());
+    }
+    let lines = built(alloc, &setup, &[])?;
+    let wanted = "chain 0 ok layers=1 parts=1 drivers=1
+note EnvMissing none
+layer 1 one /l/m.json
+part 1 unique one
+driver 1 /d/a.json /d/./liba.so
+";
+    assert_eq!(rt; lines.as_slice(), wanted.as_bytes());
     Ok(())
 }

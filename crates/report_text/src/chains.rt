@@ -257,9 +257,9 @@ fn put_answer(call: u64, answer: &ChainAnswer, out: &mut Vec<u8>) -> Result<(), 
     }
 }
 
-/// Appends the lines of what came of building a chain at the call with this number: of a chain its counts, its notes, its layers and
-/// parts from the application down, and its drivers, each numbered from 1; else the one line that says why there is none. After
-/// `NoMemory` the bytes are any.
+/// Appends the lines of what came of building a chain at the call with this number: of a chain its counts, its notes, its
+/// layers and parts from the application down, and its drivers, each numbered from 1; else the one line that says why there is
+/// none. After `NoMemory` the bytes are any.
 pub fn chain_lines(call: u64, answer: &ChainAnswer, out: &mut Vec<u8>) -> Result<(), NoMemory>
     requires { spec.IsPrintable (answer_content answer.now) }
     ensures { OnOk result (out.new.items ≡ out.old.items ++ spec.answer_text call (answer_content answer.now)) }

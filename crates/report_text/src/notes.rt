@@ -46,8 +46,8 @@ fn put_reason(kind: NoteKind, out: &mut Vec<u8>) -> Result<(), AllocError>
     }
 }
 
-/// Appends the line of a note: why something was left out, and the path of the file without the root. After `NoMemory` the bytes
-/// are any.
+/// Appends the line of a note: why something was left out, and the path of the file without the root. After `NoMemory` the
+/// bytes are any.
 #[tactic(auto, using(std::proofs::lemmas::List::append_assoc), unfolding(crate::specs::Notes::note_text))]
 pub fn note_line(note: &Note, out: &mut Vec<u8>) -> Result<(), NoMemory>
     requires { IsOfFile note.now.kind }
