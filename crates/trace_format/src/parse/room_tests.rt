@@ -6,6 +6,7 @@ use crate::parse::room::EventRoom;
 use crate::parse::tests::{argument, own};
 use command_tables::{Code, CommandId};
 use std::alloc::{AllocError, Global};
+use std::process::Abort;
 use std::test::Fail;
 
 // What a list of places holds, or one place.
@@ -40,7 +41,7 @@ fn name(number: u32) -> Name {
 }
 
 // Reads a line in the room, compares its event, and gives the event back.
-fn reads(rt: &HostRuntime, room: &mut EventRoom, line: &str, wanted: Event) -> Result<(), Fail> {
+fn reads(rt: &impl Abort, room: &mut EventRoom, line: &str, wanted: Event) -> Result<(), Fail> {
     let event = room.parse(line.as_bytes())?;
     assert_eq!(rt; event, wanted, "at {line}");
     room.give_back(event);
@@ -48,7 +49,7 @@ fn reads(rt: &HostRuntime, room: &mut EventRoom, line: &str, wanted: Event) -> R
 }
 
 // Reads a line in the room, which has this fault.
-fn refuses(rt: &HostRuntime, room: &mut EventRoom, line: &str, wanted: TraceFault) {
+fn refuses(rt: &impl Abort, room: &mut EventRoom, line: &str, wanted: TraceFault) {
     let fault = match room.parse(line.as_bytes()) {
         Err(ParseError::Fault(fault)) => Some(fault),
         _ => None,
@@ -65,12 +66,13 @@ fn submission(
     payload: &[u8],
 ) -> Result<Event, AllocError> {
     let [waits, buffers, signals] = lists;
-    let args = [
-        (false, [own(4)].as_slice()),
+    let (first, last) = ([own(4)], [last]);
+    let args: [Places; 5] = [
+        (false, &first),
         (true, waits),
         (true, buffers),
         (true, signals),
-        (false, [last].as_slice()),
+        (false, &last),
     ];
     begin(
         alloc,
@@ -210,7 +212,8 @@ fn longest(alloc: Global) -> Result<(Vec<u8>, Event), AllocError> {
     line.extend_from_slice(&payload)?;
     let mut places = Vec::new(alloc);
     places.resize(1024, own(7))?;
-    let args = [(false, [own(3)].as_slice()), (true, places.as_slice())];
+    let device = [own(3)];
+    let args: [Places; 2] = [(false, &device), (true, &places)];
     let code = Some(Code::Success);
     let event = begin(alloc, CommandId::ResetFences, &args, &[], code, &payload)?;
     Ok((line, event))
@@ -235,7 +238,8 @@ fn the_longest_line_leaves_its_room(rt: HostRuntime) -> Result<(), Fail> {
         assert!(rt; event == wanted);
         room.give_back(event);
         let short = room.parse(b"b 1 vkResetFences %1.3 [%1.8] VK_SUCCESS")?;
-        let args: [Places; 2] = [(false, &[own(3)]), (true, &[own(8)])];
+        let (device, fence) = ([own(3)], [own(8)]);
+        let args: [Places; 2] = [(false, &device), (true, &fence)];
         let code = Some(Code::Success);
         assert!(rt; short == begin(alloc, CommandId::ResetFences, &args, &[], code, b"")?);
         assert!(rt; payload_room(&short) >= 60_000);
