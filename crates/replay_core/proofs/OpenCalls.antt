@@ -1,5 +1,5 @@
 -- What is found among open calls.
-use Rattle.std.proofs.Common.{◌≡◌, ℕ, Bool, true, false, not, cond, filter, Option, Some, None, List, [], ◌∷◌, map, refl, ap, sym, ◌∙◌}
+use Rattle.std.proofs.Common.{◌≡◌, ◌<◌, ◌++◌, ℕ, zero, suc, length, take, drop, get_or, arith, Bool, true, false, not, cond, filter, Option, Some, None, List, [], ◌∷◌, map, refl, ap, sym, ◌∙◌}
 use Rattle.std.specs.List.{find}
 use Rattle.std.specs.Prelude.{is_some}
 use Rattle.replay_model.specs.Past.{is_of}
@@ -28,3 +28,14 @@ is_mapped (Some c) = refl
 
 pub sent_is : (thread : ℕ) (cs : List OpenCall) → is_some (find (λ (x : Sent). is_of thread x.opened) (map sent_of cs)) ≡ is_some (find (λ (x : OpenCall). is_of thread (opened_of x)) cs)
 sent_is thread cs = ap (λ (f : Option Sent). is_some f) (find_map (λ (x : Sent). is_of thread x.opened) sent_of cs) ∙ is_mapped (find (λ (x : OpenCall). is_of thread (opened_of x)) cs)
+
+-- an element that isn't kept may be taken out before
+pub kept_without : {X : Type 0} (keep : X → Bool) (xs : List X) (i : ℕ) (d : X) → i < length xs → keep (get_or xs i d) ≡ false → filter keep (take i xs ++ drop (suc i) xs) ≡ filter keep xs
+kept_without keep [] i d less refused = absurd (omega arith)
+kept_without keep (x ∷ xs) zero d less refused = sym (ap (λ t. cond t (x ∷ filter keep xs) (filter keep xs)) refused)
+kept_without keep (x ∷ xs) (suc i) d less refused = go (keep x) (kept_without keep xs i d (omega arith) refused)
+  where
+    go : (t : Bool) → filter keep (take i xs ++ drop (suc i) xs) ≡ filter keep xs
+        → cond t (x ∷ filter keep (take i xs ++ drop (suc i) xs)) (filter keep (take i xs ++ drop (suc i) xs)) ≡ cond t (x ∷ filter keep xs) (filter keep xs)
+    go true ih = ap (λ ys. x ∷ ys) ih
+    go false ih = ih

@@ -1,5 +1,5 @@
 // Asking the driver.
-ghost use Rattle.std.specs.Prelude.{◌≡◌, ◌≤◌, length, if◌then◌else◌, IfOk, OnErr};
+ghost use Rattle.std.specs.Prelude.{◌≡◌, ◌≤◌, length, if◌then◌else◌, IfOk, OnErr, OnOk};
 ghost use Rattle.command_tables.specs.Tests.{same_command};
 ghost use Rattle.command_tables.specs.declared.types.CommandId.TheVariants as cmd;
 ghost use Rattle.model_driver.specs.Driver.{call_shown};
@@ -9,11 +9,11 @@ ghost use Rattle.replay_core.specs.Shown.{opened_of};
 ghost use Rattle.replay_core.specs.Stands.{Asked};
 
 use crate::call::OpenCall;
-use crate::told::values_of;
-use command_tables::{CommandId, LayerCall, NoMemory};
-use model_driver::{Driver, DriverCall, DriverReply};
+use crate::room::{CallRoom, Telling};
+use crate::told::put_args;
+use command_tables::{CommandId, NoMemory};
+use model_driver::{Driver, DriverReply};
 use session_tables::ValueTable;
-use std::alloc::Global;
 
 // How many handles the driver is asked for: it has one physical device.
 #[tactic(auto, unfolding(command_tables::specs::Tests::same_command))]
@@ -28,30 +28,27 @@ fn asked_of(call: &OpenCall) -> u32
     }
 }
 
-// What the driver is told of a call.
-fn call_for(alloc: Global, values: &ValueTable, call: &OpenCall) -> Result<DriverCall, NoMemory>
+// Puts what the driver is told of a call in place of what stood there.
+fn put_call(values: &ValueTable, call: &OpenCall, telling: &mut Telling) -> Result<(), NoMemory>
     requires params { length call.now.args.items ≤ 6 }
     requires results { length call.now.results.items ≤ 1024 }
-    ensures { IfOk result (λ c. call_shown c ≡ driver_call values.now (opened_of call.now) 0) }
+    ensures { OnOk result (call_shown telling.new.call ≡ driver_call values.now (opened_of call.now) 0) }
 {
-    let args = values_of(alloc, values, &call.args)?;
-    let payload = Vec::from_slice(alloc, &call.payload)?;
-    Ok(DriverCall {
-        driver: 0,
-        body: LayerCall {
-            cmd: call.cmd,
-            args,
-            asked: asked_of(call),
-            code: call.code,
-            payload,
-        },
-    })
+    let body = &mut telling.call.body;
+    put_args(values, &call.args, &mut telling.handles, &mut body.args)?;
+    body.payload.clear();
+    body.payload.extend_from_slice(&call.payload)?;
+    body.cmd = call.cmd;
+    body.asked = asked_of(call);
+    body.code = call.code;
+    telling.call.driver = 0;
+    Ok(())
 }
 
 /// Tells the driver a call, and answers its handles.
 #[tactic(auto, using(crate::proofs::Telling::few_params, crate::proofs::Telling::asked_so))]
 pub fn ask<D: Driver>(
-    alloc: Global,
+    room: &mut CallRoom,
     values: &ValueTable,
     call: &OpenCall,
     driver: &mut D,
@@ -61,12 +58,12 @@ pub fn ask<D: Driver>(
     ensures err { OnErr result (D.log driver.new ≡ D.log driver.old) }
     ensures policy { D.answers_by driver.new ≡ D.answers_by driver.old }
 {
-    let request = call_for(alloc, values, call)?;
     let mut reply = DriverReply {
         code: None,
-        handles: Vec::new(alloc),
+        handles: room.handles.take(),
     };
-    driver.call(&request, &mut reply)?;
+    put_call(values, call, &mut room.telling)?;
+    driver.call(&room.telling.call, &mut reply)?;
     let DriverReply { handles, .. } = reply;
     Ok(handles)
 }

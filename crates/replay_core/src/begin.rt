@@ -13,10 +13,11 @@ ghost use Rattle.replay_core.specs.Beginning.{begin_content};
 
 use crate::call::OpenCall;
 use crate::names::arguments;
+use crate::room::CallRoom;
 use command_tables::{Code, CommandId, Param, row};
 use object_model::Argument;
 use session_tables::{NameTable, ObjectTable};
-use std::alloc::{AllocError, Global};
+use std::alloc::AllocError;
 use trace_format::{Name, TraceArg};
 
 /// What a begin event says.
@@ -77,7 +78,7 @@ pub fn name_at_first(args: &[TraceArg]) -> Option<Name>
 
 /// The call of a begin, with no handles yet.
 pub fn open_call(
-    alloc: Global,
+    room: &mut CallRoom,
     number: u64,
     begin: Beginning,
     names: &NameTable,
@@ -86,11 +87,11 @@ pub fn open_call(
     ensures opened { IfOk result (λ c. opened_of c ≡ (begun_from number names.now (is_in objects.now.living) (begin_content begin.entry)).opened) }
     ensures handles { IfOk result (λ c. c.handles.items ≡ []) }
 {
-    let args = arguments(alloc, names, begin.args)?;
+    let args = arguments(room, names, begin.args)?;
     let skipped = is_reported(objects, begin.cmd, &args);
-    let mut results = Vec::new(alloc);
+    let mut results = room.results.take();
     results.extend_from_slice(begin.results)?;
-    let mut payload = Vec::new(alloc);
+    let mut payload = room.payloads.take();
     payload.extend_from_slice(begin.payload)?;
     Ok(OpenCall {
         number,
@@ -101,6 +102,6 @@ pub fn open_call(
         code: begin.code,
         payload,
         skipped,
-        handles: Vec::new(alloc),
+        handles: Vec::new(room.alloc),
     })
 }

@@ -36,11 +36,25 @@ fn leave(calls: &mut Vec<OpenCall>, thread: u32)
     calls.retain(|c| c.thread != thread);
 }
 
-/// Leaves the open calls of the other threads.
-pub fn close(calls: &mut Vec<OpenCall>, thread: u32)
+// Takes out the first open call of a thread, where there is one.
+fn take_first(calls: &mut Vec<OpenCall>, thread: u32) -> Option<OpenCall>
+    ensures { filter (λ c. not (is_of thread (opened_of c))) calls.new.items ≡ filter (λ c. not (is_of thread (opened_of c))) calls.old.items }
+{
+    for at in 0..calls.len() {
+        if calls[at].thread == thread {
+            return Some(calls.remove(at));
+        }
+    }
+    None
+}
+
+/// Leaves the open calls of the other threads, and answers the call that is left out, for its room alone.
+pub fn close(calls: &mut Vec<OpenCall>, thread: u32) -> Option<OpenCall>
     ensures { map sent_of calls.new.items ≡ filter (λ c. not (is_of thread c.opened)) (map sent_of calls.old.items) }
 {
+    let closed = take_first(calls, thread);
     leave(calls, thread);
+    closed
 }
 
 /// Whether a thread has an open call.

@@ -16,6 +16,7 @@ mod play;
 mod player;
 mod read;
 mod results;
+mod room;
 mod run;
 mod session;
 mod status;
@@ -25,6 +26,7 @@ mod tests;
 mod told;
 
 pub use error::{ReplayError, SessionError};
+pub use room::CallRoom;
 pub use run::replay;
 pub use session::Session;
 pub use status::Status;

@@ -4,9 +4,10 @@ ghost use Rattle.trace_format.specs.Content.{arg_content};
 ghost use Rattle.replay_model.specs.Past.{argument_in, arguments_in};
 ghost use Rattle.session_tables.specs.Shown.{args_shown};
 
+use crate::room::CallRoom;
 use object_model::Argument;
 use session_tables::NameTable;
-use std::alloc::{AllocError, Global};
+use std::alloc::AllocError;
 use trace_format::{Name, TraceArg};
 
 fn argument(names: &NameTable, name: Option<Name>) -> Argument
@@ -22,26 +23,30 @@ fn argument(names: &NameTable, name: Option<Name>) -> Argument
 }
 
 fn places_of(
-    alloc: Global,
+    room: &mut CallRoom,
     names: &NameTable,
     at: &[Option<Name>],
 ) -> Result<Vec<Argument>, AllocError>
     ensures { IfOk result (λ v. v.items ≡ map (argument_in names.now) at.now) }
 {
-    at.iter().map(|name| argument(names, *name)).collect(alloc)
+    let mut places = room.places.take();
+    for name in at {
+        places.push(argument(names, *name))?;
+    }
+    Ok(places)
 }
 
 /// What the arguments of a call stand for.
 pub fn arguments(
-    alloc: Global,
+    room: &mut CallRoom,
     names: &NameTable,
     args: &[TraceArg],
 ) -> Result<Vec<Vec<Argument>>, AllocError>
     ensures { IfOk result (λ v. args_shown v.items ≡ arguments_in names.now (map arg_content args.now)) }
 {
-    let mut all = Vec::new(alloc);
+    let mut all = room.args.take();
     for arg in args {
-        all.push(places_of(alloc, names, &arg.names)?)?;
+        all.push(places_of(room, names, &arg.names)?)?;
     }
     Ok(all)
 }

@@ -9,18 +9,20 @@ ghost use Rattle.replay_core.specs.Stands.{Advances, MayTell, Stands};
 ghost use Rattle.replay_core.specs.Traffic.{traffic_of};
 
 use crate::error::{ReplayError, SessionError};
+use crate::room::CallRoom;
 use crate::session::Session;
 use model_driver::Driver;
 use replay_base::{Sink, Which, put_all};
 use std::alloc::Global;
-use trace_format::{AcceptError, Event, ParseError, TraceState, parse_line};
+use trace_format::{AcceptError, Event, EventRoom, ParseError, TraceState};
 
-/// A session and the state of its trace, which stand for the same events, and room for the lines of one event.
+/// A session and the state of its trace, which stand for the same events, and room for events, calls and lines.
 #[derive(Drop)]
 pub struct Player {
-    alloc: Global,
     pub session: Session,
     pub state: TraceState,
+    events: EventRoom,
+    calls: CallRoom,
     lines: Vec<u8>,
 }
 
@@ -30,9 +32,10 @@ impl Player {
         ensures state { SumsUp result.state [] }
     {
         Player {
-            alloc,
             session: Session::new(alloc),
             state: TraceState::new(alloc),
+            events: EventRoom::new(alloc),
+            calls: CallRoom::new(alloc),
             lines: Vec::new(alloc),
         }
     }
@@ -56,10 +59,11 @@ impl Player {
         match event {
             Event::Begin { .. } => {
                 self.session
-                    .begin(self.alloc, call, event, driver, &mut self.lines)
+                    .begin(&mut self.calls, call, event, driver, &mut self.lines)
             }
             Event::Return { thread } => {
-                self.session.finish(self.alloc, *thread, &mut self.lines)?;
+                self.session
+                    .finish(&mut self.calls, *thread, &mut self.lines)?;
                 Ok(())
             }
         }
@@ -107,7 +111,7 @@ impl Player {
         ensures calls { OnOk result (self.new.session.calls ≤ self.old.session.calls + 1) }
         ensures policy { D.answers_by driver.new ≡ D.answers_by driver.old }
     {
-        let event = match parse_line(self.alloc, text) {
+        let event = match self.events.parse(text) {
             Ok(event) => event,
             Err(ParseError::NoMemory) => return Err(ReplayError::NoMemory),
             Err(ParseError::Fault(fault)) => {
@@ -118,7 +122,11 @@ impl Player {
             }
         };
         match self.state.accept(&event) {
-            Ok(call) => self.step(call, &event, driver, out),
+            Ok(call) => {
+                let stepped = self.step(call, &event, driver, out);
+                self.events.give_back(event);
+                stepped
+            }
             Err(AcceptError::NoMemory) => Err(ReplayError::NoMemory),
             Err(AcceptError::Names) => Err(ReplayError::Limit {
                 which: Which::Names,

@@ -11,6 +11,7 @@ ghost use Rattle.replay_core.specs.Shown.{opened_of, valued_with};
 
 use crate::bearing::{bearable_results, effect_of, is_bearing};
 use crate::call::OpenCall;
+use crate::room::CallRoom;
 use command_tables::{CommandId, Effect, ObjectType, row};
 use object_model::Object;
 use replay_model::{Born, Named};
@@ -80,22 +81,26 @@ fn retrieved(
     }
 }
 
-fn created_results(alloc: Global, ty: ObjectType, names: &[Name]) -> Result<Vec<Born>, AllocError>
+fn created_results(
+    room: &mut CallRoom,
+    ty: ObjectType,
+    names: &[Name],
+) -> Result<Vec<Born>, AllocError>
     ensures { IfOk result (λ v. v.items ≡ map (λ (x : ℕ × Name). record { place = x.0; name = x.1; object = own_object ty x.1 }) (enumerate_from 0 names.now)) }
 {
-    names
-        .iter()
-        .enumerate()
-        .map(|(k, name)| Born {
+    let mut all = room.born.take();
+    for (k, name) in names.iter().enumerate() {
+        all.push(Born {
             place: k,
             name: *name,
             object: own(ty, *name),
-        })
-        .collect(alloc)
+        })?;
+    }
+    Ok(all)
 }
 
 fn retrieved_results(
-    alloc: Global,
+    room: &mut CallRoom,
     table: &RetrievedTable,
     call: &OpenCall,
     owner: Option<Object>,
@@ -104,12 +109,12 @@ fn retrieved_results(
 ) -> Result<Vec<Born>, AllocError>
     ensures { IfOk result (λ v. v.items ≡ map (λ (x : ℕ × Name). record { place = x.0; name = x.1; object = retrieved_object table.now (opened_of call.now) owner ty x.0 x.1 }) (enumerate_from 0 names.now)) }
 {
-    let mut all = Vec::new(alloc);
+    let mut all = room.born.take();
     for (k, name) in names.iter().enumerate() {
         all.push(Born {
             place: k,
             name: *name,
-            object: retrieved(alloc, table, call, owner, ty, k, *name)?,
+            object: retrieved(room.alloc, table, call, owner, ty, k, *name)?,
         })?;
     }
     Ok(all)
@@ -117,7 +122,7 @@ fn retrieved_results(
 
 // What a call that bears its results makes.
 fn results(
-    alloc: Global,
+    room: &mut CallRoom,
     births: &BirthTable,
     table: &RetrievedTable,
     call: &OpenCall,
@@ -126,20 +131,20 @@ fn results(
 {
     let effect = effect_of(call.cmd);
     match effect {
-        Effect::Create { ty, .. } => created_results(alloc, ty, bearable_results(call)),
+        Effect::Create { ty, .. } => created_results(room, ty, bearable_results(call)),
         Effect::Retrieve { ty, .. } => {
             let owner = owner(births, &call.args, effect);
-            retrieved_results(alloc, table, call, owner, ty, bearable_results(call))
+            retrieved_results(room, table, call, owner, ty, bearable_results(call))
         }
         Effect::None | Effect::Destroy(_) | Effect::Free(_) | Effect::Reset(_) => {
-            Ok(Vec::new(alloc))
+            Ok(room.born.take())
         }
     }
 }
 
 /// The results of an open call that are born at its return.
 pub fn made(
-    alloc: Global,
+    room: &mut CallRoom,
     objects: &ObjectTable,
     table: &RetrievedTable,
     call: &OpenCall,
@@ -147,8 +152,8 @@ pub fn made(
     ensures { IfOk result (λ v. v.items ≡ made_by 1 objects.now.births (is_in objects.now.living) table.now (opened_of call.now)) }
 {
     if is_bearing(objects, call) {
-        results(alloc, objects.births(), table, call)
+        results(room, objects.births(), table, call)
     } else {
-        Ok(Vec::new(alloc))
+        Ok(room.born.take())
     }
 }

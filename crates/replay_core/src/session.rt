@@ -22,6 +22,7 @@ use crate::error::SessionError;
 use crate::keeping::{keep_names, keep_retrieved, keep_values};
 use crate::lines::{report, return_line};
 use crate::results::made;
+use crate::room::CallRoom;
 use crate::tally::Tally;
 use command_tables::NoMemory;
 use model_driver::Driver;
@@ -145,7 +146,7 @@ impl Session {
     // The loader judges the call first: only what it doesn't report reaches the driver.
     fn begin_call<D: Driver>(
         &mut self,
-        alloc: Global,
+        room: &mut CallRoom,
         number: u64,
         begin: Beginning,
         driver: &mut D,
@@ -159,12 +160,12 @@ impl Session {
         ensures opens { OnOk result (has_open self.new begin.entry.thread ≡ true) }
         ensures policy { D.answers_by driver.new ≡ D.answers_by driver.old }
     {
-        let call = open_call(alloc, number, begin, &self.names, &self.objects)?;
+        let call = open_call(room, number, begin, &self.names, &self.objects)?;
         if call.skipped {
             self.skip(call, name_at_first(begin.args), lines)?;
             Ok(())
         } else {
-            let handles = ask(alloc, &self.values, &call, driver)?;
+            let handles = ask(room, &self.values, &call, driver)?;
             self.keep_sent(call, handles)?;
             Ok(())
         }
@@ -174,7 +175,7 @@ impl Session {
     /// for dropping alone, the call was told or wasn't, and anything may stand behind the lines.
     pub fn begin<D: Driver>(
         &mut self,
-        alloc: Global,
+        room: &mut CallRoom,
         number: u64,
         event: &Event,
         driver: &mut D,
@@ -207,7 +208,7 @@ impl Session {
                     code: *code,
                     payload,
                 };
-                self.begin_call(alloc, number, begin, driver, lines)?;
+                self.begin_call(room, number, begin, driver, lines)?;
                 Ok(())
             }
         }
@@ -217,7 +218,7 @@ impl Session {
     /// behind the lines.
     pub fn finish(
         &mut self,
-        alloc: Global,
+        room: &mut CallRoom,
         thread: u32,
         lines: &mut Vec<u8>,
     ) -> Result<(), NoMemory>
@@ -229,9 +230,9 @@ impl Session {
         match find_open(&self.open_calls, thread) {
             None => Ok(()),
             Some(call) => {
-                let born = made(alloc, &self.objects, &self.retrieved, call)?;
+                let born = made(room, &self.objects, &self.retrieved, call)?;
                 settle(
-                    alloc,
+                    room.alloc,
                     call,
                     &born,
                     &mut self.names,
@@ -240,8 +241,11 @@ impl Session {
                     &mut self.retrieved,
                 )?;
                 return_line(call, born.len(), lines)?;
+                room.born.keep(born);
                 let closed = call.thread;
-                close(&mut self.open_calls, closed);
+                if let Some(call) = close(&mut self.open_calls, closed) {
+                    room.give_back(call);
+                }
                 Ok(())
             }
         }

@@ -4,6 +4,7 @@ ghost use Rattle.model_driver.specs.Driver.{are_handles};
 ghost use Rattle.trace_format.specs.Content.{content};
 ghost use Rattle.trace_format.specs.Grammar.{IsEvent};
 
+use crate::room::CallRoom;
 use crate::session::Session;
 use command_tables::row;
 use model_driver::{AdverseDriver, Driver, DriverCall, ModelDriver, RecordingDriver};
@@ -237,12 +238,12 @@ const CASES: [Case; 8] = [
 
 fn finish(
     session: &mut Session,
-    alloc: Global,
+    room: &mut CallRoom,
     thread: u32,
     lines: &mut Vec<u8>,
 ) -> Result<(), Fail> {
     if session.is_open(thread) {
-        session.finish(alloc, thread, lines).ok().ok_or("memory")?;
+        session.finish(room, thread, lines).ok().ok_or("memory")?;
         Ok(())
     } else {
         Err(Fail::from("no open call"))
@@ -251,7 +252,7 @@ fn finish(
 
 fn take<D: Driver>(
     session: &mut Session,
-    alloc: Global,
+    room: &mut CallRoom,
     event: &Event,
     returns: bool,
     driver: &mut D,
@@ -260,15 +261,15 @@ fn take<D: Driver>(
     requires { IsEvent (content event.now) }
 {
     match event {
-        Event::Return { thread } => finish(session, alloc, *thread, lines),
+        Event::Return { thread } => finish(session, room, *thread, lines),
         Event::Begin { thread, .. } => {
             let number = session.tally().calls.checked_add(1).ok_or("calls")?;
             session
-                .begin(alloc, number, event, driver, lines)
+                .begin(room, number, event, driver, lines)
                 .ok()
                 .ok_or("memory")?;
             if returns {
-                finish(session, alloc, *thread, lines)?;
+                finish(session, room, *thread, lines)?;
             }
             Ok(())
         }
@@ -278,15 +279,16 @@ fn take<D: Driver>(
 // The text of these events.
 fn play<D: Driver>(
     session: &mut Session,
-    alloc: Global,
+    room: &mut CallRoom,
     events: &[&str],
     returns: bool,
     driver: &mut D,
 ) -> Result<Vec<u8>, Fail> {
+    let alloc = room.alloc;
     let mut lines = Vec::new(alloc);
     for line in events {
         let event = parse_line(alloc, line.as_bytes()).ok().ok_or("no event")?;
-        take(session, alloc, &event, returns, driver, &mut lines)?;
+        take(session, room, &event, returns, driver, &mut lines)?;
     }
     Ok(lines)
 }
@@ -312,11 +314,12 @@ fn told(alloc: Global, call: &DriverCall) -> Result<String, Fail> {
 
 fn check(rt: &impl Abort, alloc: Global, case: Case) -> Result<(), Fail> {
     let mut session = Session::new(alloc);
+    let mut room = CallRoom::new(alloc);
     let mut driver = RecordingDriver::new(alloc, ModelDriver::new(alloc));
-    play(&mut session, alloc, &START, true, &mut driver)?;
+    play(&mut session, &mut room, &START, true, &mut driver)?;
     let lines = play(
         &mut session,
-        alloc,
+        &mut room,
         case.events,
         !case.with_returns,
         &mut driver,
@@ -348,15 +351,16 @@ fn destroyed_twice(rt: &impl Abort, alloc: Global, values: &[u64]) -> Result<Vec
     requires { IsTrue (are_handles values.now) }
 {
     let mut session = Session::new(alloc);
+    let mut room = CallRoom::new(alloc);
     let adverse = AdverseDriver::new(Vec::from_slice(alloc, values)?);
     let mut driver = RecordingDriver::new(alloc, adverse);
-    play(&mut session, alloc, &START, true, &mut driver)?;
+    play(&mut session, &mut room, &START, true, &mut driver)?;
     let rest = [
         "b 1 vkDestroyDevice %1.3 void",
         "b 1 vkDestroyDevice %1.3 void",
         "b 1 vkDestroyInstance %1.1 void",
     ];
-    let lines = play(&mut session, alloc, &rest, true, &mut driver)?;
+    let lines = play(&mut session, &mut room, &rest, true, &mut driver)?;
     let wanted =
         "ret 4 vkDestroyDevice void\nreport 5 0 VUID-vkDestroyDevice-device-parameter %1.3\nret 5 vkDestroyDevice void\nret 6 vkDestroyInstance void\n";
     assert_eq!(rt; lines.as_slice(), wanted.as_bytes());

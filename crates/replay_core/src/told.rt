@@ -1,12 +1,12 @@
 // What the driver is told for the arguments of a call.
-ghost use Rattle.std.specs.Prelude.{◌≡◌, ◌≤◌, map, length, IfOk};
+ghost use Rattle.std.specs.Prelude.{◌≡◌, ◌≤◌, map, length, OnOk};
 ghost use Rattle.replay_model.specs.Direct.{value_in};
 ghost use Rattle.session_tables.specs.Shown.{args_shown};
 
 use command_tables::{HandleArgs, NoMemory};
 use object_model::Argument;
 use session_tables::ValueTable;
-use std::alloc::{AllocError, Global};
+use std::alloc::AllocError;
 
 fn value_of(values: &ValueTable, argument: Argument) -> u64
     ensures { result ≡ value_in values.now 0 argument }
@@ -17,24 +17,34 @@ fn value_of(values: &ValueTable, argument: Argument) -> u64
     }
 }
 
-fn values_at(alloc: Global, values: &ValueTable, at: &[Argument]) -> Result<Vec<u64>, AllocError>
-    ensures { IfOk result (λ v. v.items ≡ map (value_in values.now 0) at.now) }
+fn put_values(
+    values: &ValueTable,
+    at: &[Argument],
+    handles: &mut Vec<u64>,
+) -> Result<(), AllocError>
+    ensures { OnOk result (handles.new.items ≡ map (value_in values.now 0) at.now) }
 {
-    at.iter().map(|a| value_of(values, *a)).collect(alloc)
+    handles.clear();
+    for argument in at {
+        handles.push(value_of(values, *argument))?;
+    }
+    Ok(())
 }
 
-/// What the driver is told for the arguments of a call.
-pub fn values_of(
-    alloc: Global,
+/// Puts what the driver is told for the arguments of a call in place of what stood there.
+pub fn put_args(
     values: &ValueTable,
     args: &[Vec<Argument>],
-) -> Result<HandleArgs<6>, NoMemory>
+    handles: &mut Vec<u64>,
+    all: &mut HandleArgs<6>,
+) -> Result<(), NoMemory>
     requires { length args.now ≤ 6 }
-    ensures { IfOk result (λ all. all.lists ≡ map (map (value_in values.now 0)) (args_shown args.now)) }
+    ensures { OnOk result (all.new.lists ≡ map (map (value_in values.now 0)) (args_shown args.now)) }
 {
-    let mut all = HandleArgs::new(alloc);
+    all.clear();
     for arg in args {
-        all.push_param(&values_at(alloc, values, arg)?)?;
+        put_values(values, arg, handles)?;
+        all.push_param(handles)?;
     }
-    Ok(all)
+    Ok(())
 }

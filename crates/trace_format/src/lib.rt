@@ -21,7 +21,7 @@ pub use laws::{
     a_line_spells_one_event, a_printed_line_is_read_again, reading_agrees_with_spelling,
 };
 pub use limits::{HEADER, MAX_NAMES, MAX_PLACES, MAX_THREADS};
-pub use parse::{ParseError, parse_line};
+pub use parse::{EventRoom, ParseError, parse_line};
 pub use print::print_line;
 pub use samples::{
     events_after_events, events_with_two_faults, lines_with_one_fault, lines_with_two_faults,

@@ -6,9 +6,13 @@ mod line;
 mod names;
 mod printable;
 mod results;
+mod room;
+#[cfg(test)]
+mod room_tests;
 #[cfg(test)]
 mod tests;
 mod words;
 
 pub use error::ParseError;
 pub use line::parse_line;
+pub use room::EventRoom;

@@ -14,16 +14,16 @@ use crate::fault::TraceFault;
 use crate::limits::MAX_PLACES;
 use crate::parse::error::ParseError;
 use crate::parse::names::one;
+use crate::parse::room::EventRoom;
 use crate::parse::words::{next_word, skip_one, split_before, split_piece};
 use command_tables::Param;
-use std::alloc::Global;
 
 /// The names between commas, where null is none.
-fn names_between(alloc: Global, inside: &[u8]) -> Result<Vec<Option<Name>>, ParseError>
+fn names_between(room: &mut EventRoom, inside: &[u8]) -> Result<Vec<Option<Name>>, ParseError>
     ensures { Answers (λ v. v.items) result
         (ok_or (all_of one_of (pieces inside.now)) fault.Argument) }
 {
-    let mut names = Vec::new(alloc);
+    let mut names = room.take_places();
     let mut rest = Some(inside);
     while let Some(bytes) = rest {
         let (piece, after) = split_piece(bytes);
@@ -37,25 +37,25 @@ fn names_between(alloc: Global, inside: &[u8]) -> Result<Vec<Option<Name>>, Pars
 }
 
 /// The places of a list, whose brackets are taken off.
-fn places(alloc: Global, inside: &[u8]) -> Result<Vec<Option<Name>>, ParseError>
+fn places(room: &mut EventRoom, inside: &[u8]) -> Result<Vec<Option<Name>>, ParseError>
     ensures { Answers (λ v. v.items) result (ok_or (places_of inside.now) fault.Argument) }
 {
     if inside.is_empty() {
-        return Ok(Vec::new(alloc));
+        return Ok(room.take_places());
     }
-    names_between(alloc, inside)
+    names_between(room, inside)
 }
 
 /// A list, in brackets.
 #[tactic(auto, unfolding(crate::specs::Words::list_of))]
-fn list(alloc: Global, word: &[u8]) -> Result<TraceArg, ParseError>
+fn list(room: &mut EventRoom, word: &[u8]) -> Result<TraceArg, ParseError>
     ensures { Answers arg_content result (ok_or (list_of word.now) fault.Argument) }
 {
     let Some(rest) = word.strip_prefix(b"[") else {
         return Err(ParseError::Fault(TraceFault::Argument));
     };
     let (inside, end) = split_before(b']', rest);
-    let names = places(alloc, inside)?;
+    let names = places(room, inside)?;
     if end != b"]".as_slice() || names.len() > MAX_PLACES as usize {
         return Err(ParseError::Fault(TraceFault::Argument));
     }
@@ -63,39 +63,43 @@ fn list(alloc: Global, word: &[u8]) -> Result<TraceArg, ParseError>
 }
 
 /// One place.
-fn single(alloc: Global, one: Option<Name>) -> Result<TraceArg, ParseError>
+fn single(room: &mut EventRoom, one: Option<Name>) -> Result<TraceArg, ParseError>
     ensures { Answers arg_content result (Ok (single one)) }
 {
-    let mut names = Vec::new(alloc);
+    let mut names = room.take_places();
     names.push(one)?;
     Ok(TraceArg { many: false, names })
 }
 
 /// The argument of a parameter.
 #[tactic(auto, unfolding(crate::specs::Words::arg_of))]
-fn argument(alloc: Global, param: &Param, word: &[u8]) -> Result<TraceArg, ParseError>
+fn argument(room: &mut EventRoom, param: &Param, word: &[u8]) -> Result<TraceArg, ParseError>
     ensures { Answers arg_content result (ok_or (arg_of param.now.many word.now) fault.Argument) }
 {
     if param.many {
-        return list(alloc, word);
+        return list(room, word);
     }
     match one(word) {
         None => Err(ParseError::Fault(TraceFault::Argument)),
-        Some(one) => single(alloc, one),
+        Some(one) => single(room, one),
     }
 }
 
 /// The arguments that the words at the front spell.
-fn all_arguments(alloc: Global, params: &[Param], bytes: &[u8]) -> Result<Vec<TraceArg>, ParseError>
+fn all_arguments(
+    room: &mut EventRoom,
+    params: &[Param],
+    bytes: &[u8],
+) -> Result<Vec<TraceArg>, ParseError>
     ensures { let ps = map seen_param params.now in
         Answers (λ v. map arg_content v.items) result
         (ok_or (args_of ps (words_in ps bytes.now)) fault.Argument) }
 {
-    let mut args = Vec::new(alloc);
+    let mut args = room.take_args();
     let mut rest = bytes;
     for param in params {
         let (word, after) = split_before(b' ', skip_one(rest));
-        args.push(argument(alloc, param, word)?)?;
+        args.push(argument(room, param, word)?)?;
         rest = after;
     }
     Ok(args)
@@ -132,12 +136,16 @@ fn is_first_named(args: &[TraceArg]) -> bool
 }
 
 /// The arguments of the parameters, whose words stand at the front, where the first is not null.
-pub fn arguments(alloc: Global, params: &[Param], bytes: &[u8]) -> Result<Vec<TraceArg>, ParseError>
+pub fn arguments(
+    room: &mut EventRoom,
+    params: &[Param],
+    bytes: &[u8],
+) -> Result<Vec<TraceArg>, ParseError>
     ensures { let ps = map seen_param params.now in
         Answers (λ v. map arg_content v.items) result
         (ok_or (args_in ps (words_in ps bytes.now)) fault.Argument) }
 {
-    let args = all_arguments(alloc, params, bytes)?;
+    let args = all_arguments(room, params, bytes)?;
     if !is_first_named(&args) {
         return Err(ParseError::Fault(TraceFault::Argument));
     }

@@ -9,9 +9,9 @@ ghost use Rattle.trace_format.specs.Steps.{Answers};
 
 use crate::fault::TraceFault;
 use crate::parse::error::ParseError;
+use crate::parse::room::EventRoom;
 use crate::parse::words::split_before;
 use command_tables::{Code, Row};
-use std::alloc::Global;
 
 /// A code, or none for `void`.
 fn code_word(word: &[u8]) -> Option<Option<Code>>
@@ -36,14 +36,18 @@ pub fn code<'a>(row: &Row, bytes: &'a [u8]) -> Option<(Option<Code>, &'a [u8])>
 }
 
 /// The payload, to the end of the line.
-pub fn payload(alloc: Global, bytes: &[u8]) -> Result<Vec<u8>, ParseError>
+pub fn payload(room: &mut EventRoom, bytes: &[u8]) -> Result<Vec<u8>, ParseError>
     ensures { Answers (λ v. v.items) result (ok_or (payload_at bytes.now) fault.Code) }
 {
+    let mut payload = room.take_payload();
     if bytes.is_empty() {
-        return Ok(Vec::new(alloc));
+        return Ok(payload);
     }
     match bytes.strip_prefix(b" : ") {
-        Some(payload) if !payload.is_empty() => Ok(Vec::from_slice(alloc, payload)?),
+        Some(rest) if !rest.is_empty() => {
+            payload.extend_from_slice(rest)?;
+            Ok(payload)
+        }
         _ => Err(ParseError::Fault(TraceFault::Code)),
     }
 }

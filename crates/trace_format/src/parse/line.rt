@@ -16,6 +16,7 @@ use crate::parse::error::ParseError;
 use crate::parse::names::thread;
 use crate::parse::printable::is_ascii;
 use crate::parse::results::{results, split_results};
+use crate::parse::room::EventRoom;
 use crate::parse::words::split_before;
 use command_tables::{CommandId, Row, find, row};
 use std::alloc::Global;
@@ -29,7 +30,7 @@ fn command(word: &[u8]) -> Option<CommandId>
 
 /// A begin, once its arguments are read.
 fn end_begin(
-    alloc: Global,
+    room: &mut EventRoom,
     thread: u32,
     cmd: CommandId,
     args: Vec<TraceArg>,
@@ -39,11 +40,11 @@ fn end_begin(
 {
     let row = row(cmd);
     let (word, after) = split_results(bytes);
-    let results = results(alloc, row.effect, word)?;
+    let results = results(room, row.effect, word)?;
     let Some((code, after)) = code(row, after) else {
         return Err(ParseError::Fault(TraceFault::Code));
     };
-    let payload = payload(alloc, after)?;
+    let payload = payload(room, after)?;
     Ok(Event::Begin {
         thread,
         cmd,
@@ -55,20 +56,25 @@ fn end_begin(
 }
 
 /// A begin, from its arguments on.
-fn begin_with(alloc: Global, thread: u32, cmd: CommandId, bytes: &[u8]) -> Result<Event, ParseError>
+fn begin_with(
+    room: &mut EventRoom,
+    thread: u32,
+    cmd: CommandId,
+    bytes: &[u8],
+) -> Result<Event, ParseError>
     ensures { Answers content result (tail_at thread cmd bytes.now) }
 {
     let row = row(cmd);
     let Some(after) = after_words(row.params, bytes) else {
         return Err(ParseError::Fault(TraceFault::Parameter));
     };
-    let args = arguments(alloc, row.params, bytes)?;
-    end_begin(alloc, thread, cmd, args, after)
+    let args = arguments(room, row.params, bytes)?;
+    end_begin(room, thread, cmd, args, after)
 }
 
 /// A begin, from its thread on.
 #[tactic(auto, unfolding(crate::specs::Reading::begin_at))]
-fn begin_at(alloc: Global, bytes: &[u8]) -> Result<Event, ParseError>
+fn begin_at(room: &mut EventRoom, bytes: &[u8]) -> Result<Event, ParseError>
     ensures { Answers content result (begin_at bytes.now) }
 {
     let (word, after) = split_before(b' ', bytes);
@@ -81,7 +87,7 @@ fn begin_at(alloc: Global, bytes: &[u8]) -> Result<Event, ParseError>
     let (word, after) = split_before(b' ', rest);
     match command(word) {
         None => Err(ParseError::Fault(TraceFault::Command)),
-        Some(cmd) => begin_with(alloc, thread, cmd, after),
+        Some(cmd) => begin_with(room, thread, cmd, after),
     }
 }
 
@@ -97,12 +103,12 @@ fn return_at(bytes: &[u8]) -> Result<Event, ParseError>
 }
 
 /// A begin or a return, by how the line begins.
-fn by_letter(alloc: Global, line: &[u8]) -> Result<Event, ParseError>
+fn by_letter(room: &mut EventRoom, line: &[u8]) -> Result<Event, ParseError>
     ensures { Answers content result
         (by_letter (after (codes "b ") line.now) (after (codes "r ") line.now)) }
 {
     if let Some(rest) = line.strip_prefix(b"b ") {
-        return begin_at(alloc, rest);
+        return begin_at(room, rest);
     }
     match line.strip_prefix(b"r ") {
         None => Err(ParseError::Fault(TraceFault::Letter)),
@@ -110,15 +116,25 @@ fn by_letter(alloc: Global, line: &[u8]) -> Result<Event, ParseError>
     }
 }
 
+impl EventRoom {
+    /// The event that a line spells, as `parse_line` reads it, in the room of events that were given back.
+    #[tactic(auto, unfolding(crate::specs::Reading::read_line))]
+    pub fn parse(&mut self, line: &[u8]) -> Result<Event, ParseError>
+        ensures answer { Answers content result (read_line line.now) }
+        ensures grammar { IfOk result (λ event. IsEvent (content event)) }
+    {
+        if !is_ascii(line) {
+            return Err(ParseError::Fault(TraceFault::NotAscii));
+        }
+        by_letter(self, line)
+    }
+}
+
 /// The event that a line spells, without its line feed, or the first of its faults `NotAscii` to `Code`. `NoMemory` says
 /// nothing of the line.
-#[tactic(auto, unfolding(crate::specs::Reading::read_line))]
 pub fn parse_line(alloc: Global, line: &[u8]) -> Result<Event, ParseError>
     ensures answer { Answers content result (read_line line.now) }
     ensures grammar { IfOk result (λ event. IsEvent (content event)) }
 {
-    if !is_ascii(line) {
-        return Err(ParseError::Fault(TraceFault::NotAscii));
-    }
-    by_letter(alloc, line)
+    EventRoom::new(alloc).parse(line)
 }

@@ -11,9 +11,9 @@ use crate::fault::TraceFault;
 use crate::limits::MAX_PLACES;
 use crate::parse::error::ParseError;
 use crate::parse::names::name;
+use crate::parse::room::EventRoom;
 use crate::parse::words::{split_before, split_piece};
 use command_tables::Effect;
-use std::alloc::Global;
 
 /// Whether a command of this effect has so many results.
 fn takes(effect: Effect, count: usize) -> bool
@@ -32,11 +32,11 @@ fn takes(effect: Effect, count: usize) -> bool
 }
 
 /// The names between commas.
-fn names_between(alloc: Global, word: &[u8]) -> Result<Vec<Name>, ParseError>
+fn names_between(room: &mut EventRoom, word: &[u8]) -> Result<Vec<Name>, ParseError>
     ensures { Answers (λ v. v.items) result
         (ok_or (all_of name_of (pieces word.now)) fault.Results) }
 {
-    let mut names = Vec::new(alloc);
+    let mut names = room.take_results();
     let mut rest = Some(word);
     while let Some(bytes) = rest {
         let (piece, after) = split_piece(bytes);
@@ -64,22 +64,26 @@ pub fn split_results(bytes: &[u8]) -> (Option<&[u8]>, &[u8])
 }
 
 /// The names of a word of results, or none where there is no word.
-fn names_of(alloc: Global, word: Option<&[u8]>) -> Result<Vec<Name>, ParseError>
+fn names_of(room: &mut EventRoom, word: Option<&[u8]>) -> Result<Vec<Name>, ParseError>
     ensures { Answers (λ v. v.items) result
         (ok_or (names_of_word (option_copied word.entry)) fault.Results) }
 {
     match word {
-        None => Ok(Vec::new(alloc)),
-        Some(word) => names_between(alloc, word),
+        None => Ok(room.take_results()),
+        Some(word) => names_between(room, word),
     }
 }
 
 /// The results that a command of this effect has.
-pub fn results(alloc: Global, effect: Effect, word: Option<&[u8]>) -> Result<Vec<Name>, ParseError>
+pub fn results(
+    room: &mut EventRoom,
+    effect: Effect,
+    word: Option<&[u8]>,
+) -> Result<Vec<Name>, ParseError>
     ensures { Answers (λ v. v.items) result
         (ok_or (results_of effect (option_copied word.entry)) fault.Results) }
 {
-    let names = names_of(alloc, word)?;
+    let names = names_of(room, word)?;
     if !takes(effect, names.len()) {
         return Err(ParseError::Fault(TraceFault::Results));
     }

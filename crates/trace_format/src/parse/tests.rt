@@ -16,12 +16,16 @@ fn fault_of(alloc: Global, line: &str) -> Option<TraceFault> {
 }
 
 // A result of thread 1.
-fn own(number: u32) -> Option<Name> {
+pub fn own(number: u32) -> Option<Name> {
     Some(Name { thread: 1, number })
 }
 
 // An argument with these places.
-fn argument(alloc: Global, many: bool, places: &[Option<Name>]) -> Result<TraceArg, AllocError> {
+pub fn argument(
+    alloc: Global,
+    many: bool,
+    places: &[Option<Name>],
+) -> Result<TraceArg, AllocError> {
     Ok(TraceArg {
         many,
         names: Vec::from_slice(alloc, places)?,

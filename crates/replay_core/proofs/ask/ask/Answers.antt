@@ -4,4 +4,4 @@ use Rattle.replay_core.proofs.Telling.{shape_told}
 use Rattle.replay_core.proofs.ask.ask.Goals as goal
 
 pub call-requires : goal.call-requires
-call-requires g c = shape_told c.args.values.now (opened_of c.args.call.now) (call_shown c.in_ok-request.request) c.requires c.in_ok-request.ensures
+call-requires g c = shape_told c.args.values.now (opened_of c.args.call.now) (call_shown c.put_call.new.telling.call) c.requires c.in_ok-put_call.ensures

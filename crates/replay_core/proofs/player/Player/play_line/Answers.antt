@@ -7,8 +7,8 @@ use Rattle.replay_core.specs.Traffic.{traffic_of}
 use Rattle.replay_core.proofs.Progress.{calls_taken, can_take, line_of_fault, line_of_step, on_ok}
 use Rattle.replay_core.proofs.player.Player.play_line.Goals as goal
 
-pub step-requires : goal.step-requires
-step-requires g c =
+pub step-stepped-requires : goal.step-stepped-requires
+step-stepped-requires g c =
     let few : c.args.self.now.session.calls + 2 ≤ 2 ^ 64 = omega arith in
     can_take c.args.self.now.state c.accept.new.self c.args.self.now.session c.requires.together (content c.in-Ok.event) c.in-Ok-accept.call c.in-Ok.ensures.grammar
     (c.in-Ok-accept.ensures.ok c.requires.together.events c.requires.together.state_stands) few
@@ -19,20 +19,20 @@ returns-in-Ok-accept-clause-plays g c =
       text = c.args.text.now;
       number = c.args.number;
       old_state = c.args.self.now.state;
-      state = c.step.new.self.state;
+      state = c.step-stepped.new.self.state;
       old = c.args.self.now.session;
-      new = c.step.new.self.session;
-      traffic = traffic_of (g.D.Driver.log c.args.driver.now) (g.D.Driver.log c.step.new.driver)
-          (changed (g.K.Sink.held c.args.out.now) (g.K.Sink.held c.step.new.out) (g.K.Sink.faults c.args.out.now) (g.K.Sink.faults c.step.new.out));
-    }) (content c.in-Ok.event) c.in-Ok-accept.call c.step.result c.in-Ok.ensures.answer
-    (λ before stands. subst (λ (s : TraceSeen). Accepted s before (content c.in-Ok.event) c.in-Ok-accept.call) (sym c.step.ensures.state) (c.in-Ok-accept.ensures.ok before stands))
-    c.step.ensures.steps
+      new = c.step-stepped.new.self.session;
+      traffic = traffic_of (g.D.Driver.log c.args.driver.now) (g.D.Driver.log c.step-stepped.new.driver)
+          (changed (g.K.Sink.held c.args.out.now) (g.K.Sink.held c.step-stepped.new.out) (g.K.Sink.faults c.args.out.now) (g.K.Sink.faults c.step-stepped.new.out));
+    }) (content c.in-Ok.event) c.in-Ok-accept.call c.step-stepped.result c.in-Ok.ensures.answer
+    (λ before stands. subst (λ (s : TraceSeen). Accepted s before (content c.in-Ok.event) c.in-Ok-accept.call) (sym c.step-stepped.ensures.state) (c.in-Ok-accept.ensures.ok before stands))
+    c.step-stepped.ensures.steps
 
 pub returns-in-Ok-accept-clause-calls : goal.returns-in-Ok-accept-clause-calls
 returns-in-Ok-accept-clause-calls g c =
     let few : c.args.self.now.session.calls + 2 ≤ 2 ^ 64 = omega arith in
-    on_ok (HasTaken c.args.self.now.session c.step.new.self.session (content c.in-Ok.event) c.in-Ok-accept.call) _ c.step.result c.step.ensures.taken
-    (calls_taken c.args.self.now.session c.step.new.self.session (content c.in-Ok.event) c.in-Ok-accept.call
+    on_ok (HasTaken c.args.self.now.session c.step-stepped.new.self.session (content c.in-Ok.event) c.in-Ok-accept.call) _ c.step-stepped.result c.step-stepped.ensures.taken
+    (calls_taken c.args.self.now.session c.step-stepped.new.self.session (content c.in-Ok.event) c.in-Ok-accept.call
     (can_take c.args.self.now.state c.accept.new.self c.args.self.now.session c.requires.together (content c.in-Ok.event) c.in-Ok-accept.call c.in-Ok.ensures.grammar
     (c.in-Ok-accept.ensures.ok c.requires.together.events c.requires.together.state_stands) few))
 

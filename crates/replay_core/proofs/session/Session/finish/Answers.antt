@@ -24,8 +24,8 @@ returns-in-None c =
     ∙ (sent_is c.args.thread c.self.inside.open_calls.items ∙ sym (ap (λ (f : Option OpenCall). is_some f) (c.in-None.ensures ∙ ap (find (λ (x : OpenCall). is_of c.args.thread (opened_of x))) c.deref.ensures.value))) in
     let e = rw none at c.requires in cc
 
-pub returns-in_ok-return_line-in-Some-clause-ok : goal.returns-in_ok-return_line-in-Some-clause-ok
-returns-in_ok-return_line-in-Some-clause-ok c = λ log.
+pub returns-after-close-clause-ok : goal.returns-after-close-clause-ok
+returns-after-close-clause-ok c = λ log.
     let call = c.in-Some.call.now in
     let o : Opened = opened_of call in
     let is : find (λ (x : Sent). is_of c.args.thread x.opened) (map sent_of c.self.inside.open_calls.items) ≡ Some (sent_of call) =
@@ -42,8 +42,8 @@ returns-in_ok-return_line-in-Some-clause-ok c = λ log.
     (rw c.deref-in-Some.ensures.value at c.in_ok-settle-in-Some.ensures.living)
     (c.in_ok-return_line-in-Some.ensures ∙ ap (λ m. c.args.lines.now.items ++ return_text one_driver o m) n))
 
-pub returns-in_ok-return_line-in-Some-clause-closed : goal.returns-in_ok-return_line-in-Some-clause-closed
-returns-in_ok-return_line-in-Some-clause-closed c =
+pub returns-after-close-clause-closed : goal.returns-after-close-clause-closed
+returns-after-close-clause-closed c =
     let call = c.in-Some.call.now in
     let same : call.thread ≡ c.args.thread =
     eqb-true call.thread c.args.thread
