@@ -203,6 +203,15 @@ pub none_of : (es : List Entry) (values : List ℕ) (t : ObjectType) (id : ℕ) 
 none_of [] values t id none = refl
 none_of (e ∷ es) values t id none = ap (λ b. b || has_pair (entries_of values es) t id) (none 0 e (omega arith)) ∙ none_of es values t id (λ p other below. none (suc p) other (omega (arith, below)))
 
+-- no entry has an id above the greatest
+pub none_above : (es : List MapEntry) (t : ObjectType) (id : ℕ) → greatest_id es < id → has_pair es t id ≡ false
+none_above [] t id above = refl
+none_above (e ∷ es) t id above = ap (λ b. b || has_pair es t id) (go (is_pair t id e) refl) ∙ none_above es t id (omega (arith, above))
+  where
+    go : (b : Bool) → is_pair t id e ≡ b → is_pair t id e ≡ false
+    go true is = let same : e.id ≡ id = eqb-true e.id id (and_true (same_type e.ty t) (e.id == id) is).1 in absurd (omega (arith, above, same))
+    go false is = is
+
 -- a pair that has no entry has no values
 pub no_values : (es : List MapEntry) (t : ObjectType) (id : ℕ) → has_pair es t id ≡ false → values_of es t id ≡ None
 no_values [] t id none = refl

@@ -134,6 +134,10 @@ impl<const S: usize> HandleMap<S> {
         ensures spare { self.old.spare ≤ self.new.spare + 1 }
         ensures room { self.old.room ≤ self.new.room + length values.now }
     {
+        // A new id is mostly the next one: no chain need be walked for it.
+        if id > self.greatest {
+            return self.add(ty, id, values);
+        }
         match place_of::<S>(&self.entries, &self.firsts, ty, id) {
             Some(place) => self.put(place, values),
             None => self.add(ty, id, values),

@@ -1,5 +1,5 @@
 -- What lives of the objects that were born.
-use Rattle.std.proofs.Common.{◌≡◌, ◌<◌, ◌≤◌, ℕ, zero, suc, Bool, true, false, not, cond, ◌&&◌, ◌||◌, Option, Some, None, List, [], ◌∷◌, ◌++◌, map, filter, length, take, get_or, append_assoc, slice_get, ◌+◌, ◌⊎◌, inl, inr, refl, sym, ◌∙◌, ap, arith}
+use Rattle.std.proofs.Common.{◌≡◌, ◌<◌, ◌≤◌, ℕ, zero, suc, Bool, true, false, not, cond, ◌&&◌, ◌||◌, Option, Some, None, List, [], ◌∷◌, ◌++◌, map, filter, length, take, get_or, append_assoc, ◌+◌, ◌⊎◌, inl, inr, refl, sym, ◌∙◌, ap, arith}
 use Rattle.std.specs.Prelude.{Vec}
 use Rattle.std.proofs.Math.ListN.{set}
 use Rattle.std.specs.List.{list_all, list_any, filter_map, cons_option}

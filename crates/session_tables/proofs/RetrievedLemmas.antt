@@ -1,5 +1,5 @@
 -- Retrieved objects by their keys, with one more.
-use Rattle.std.proofs.Common.{◌≡◌, ℕ, suc, ◌&&◌, ◌==◌, Bool, true, false, cond, length, Option, Some, None, List, [], ◌∷◌, ◌++◌, refl, sym, ap, ◌∙◌, subst, slice_get, arith}
+use Rattle.std.proofs.Common.{◌≡◌, ℕ, suc, ◌&&◌, ◌==◌, Bool, true, false, cond, length, Option, Some, None, List, [], ◌∷◌, ◌++◌, refl, sym, ap, ◌∙◌, arith}
 use Rattle.std.specs.Prelude.{Vec, option_and_then, find, is_some}
 use Rattle.std.specs.Str.{bytes_eq}
 use Rattle.std.specs.Option.{option_map, option_or}
@@ -19,7 +19,7 @@ use Rattle.session_tables.specs.Filing.{kept}
 use Rattle.replay_model.specs.Past.{Retrieval}
 use Rattle.replay_model.specs.Births.{is_kept}
 use Rattle.session_tables.specs.Retrieved.{retrieval_of, retrieved_shown, first_kept, found_in, has_key, holds_key, near_key, same_key}
-use Rattle.session_tables.proofs.Objects.{same-true, same_self, type_is}
+use Rattle.session_tables.proofs.Objects.{same-true, type_is}
 use Rattle.session_tables.proofs.Same.{key_alike}
 use Rattle.session_tables.proofs.Lists.{find_map, mapped}
 

@@ -3,10 +3,7 @@ use Rattle.std.proofs.Common.{◌≡◌, ◌&&◌, Bool, true, false, refl, sym,
 use Rattle.std.proofs.lemmas.Slice.Eq.{bytes_eq-Decides}
 use Rattle.std.proofs.lemmas.Bool.{eqb-true}
 use Rattle.std.specs.Str.{bytes_eq}
-use Rattle.command_tables.specs.declared.types.ObjectType.{ObjectType}
-use Rattle.command_tables.specs.contracts.types.ObjectType as type
 use Rattle.command_tables.specs.Tests.{same_type}
-use denote.Enum.Bare.{same_true}
 use Rattle.object_model.specs.Objects.{same, are_same}
 use Rattle.replay_model.specs.Births.{is_kept}
 use Rattle.session_tables.specs.declared.retrieved_map.RetrievedKey.{RetrievedKey}

@@ -1,5 +1,5 @@
 -- What is kept for an object: in the place that its number gives, or else in a map. Source: this project.
-use Rattle.std.specs.Prelude.{ℕ, ◌%◌, ◌/◌, Bool, true, false, Option, Some, None, if◌then◌else◌}
+use Rattle.std.specs.Prelude.{◌%◌, ◌/◌, Bool, true, false, Option, Some, None, if◌then◌else◌}
 use Rattle.std.specs.HashMap.{get}
 use Rattle.command_tables.specs.declared.types.ObjectType.{ObjectType}
 use Rattle.command_tables.specs.Tests.{same_type}

@@ -1,5 +1,5 @@
 -- The objects that were born and those that live, and how what lives is found when an owner ends. Source: this project.
-use Rattle.std.specs.Prelude.{◌≡◌, ◌||◌, ℕ, Bool, true, false, List, [], Option, Some, None, Vec, map, filter, option_and_then, slice_get}
+use Rattle.std.specs.Prelude.{◌≡◌, ◌||◌, ℕ, Bool, true, false, List, [], Option, Vec, map, filter, option_and_then, slice_get}
 use Rattle.std.specs.Option.{option_map_or}
 use Rattle.object_model.specs.declared.Object.{Object}
 use Rattle.object_model.specs.Objects.{is_in}

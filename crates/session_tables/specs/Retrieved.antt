@@ -1,5 +1,5 @@
 -- Retrieved objects, by owner and key. Source: this project.
-use Rattle.std.specs.Prelude.{◌≡◌, ◌<◌, ◌^◌, ℕ, Bool, true, false, Option, Some, None, ◌&&◌, ◌==◌, if◌then◌else◌, List, [], ◌∷◌, map, find, length, Vec, option_and_then}
+use Rattle.std.specs.Prelude.{◌≡◌, ◌<◌, ◌^◌, ℕ, Bool, true, false, Option, Some, None, ◌&&◌, ◌==◌, if◌then◌else◌, List, map, find, length, Vec, option_and_then}
 use Rattle.std.specs.Option.{option_map}
 use Rattle.std.specs.HashMap.{get}
 use Rattle.std.specs.Str.{bytes_eq}

@@ -1,5 +1,5 @@
 -- The tables' entries as the lists of the definitions. Source: this project.
-use Rattle.std.specs.Prelude.{ℕ, Bool, Option, Some, ◌&&◌, ◌==◌, List, [], ◌∷◌, map, find, reverse, Vec}
+use Rattle.std.specs.Prelude.{ℕ, Option, List, [], ◌∷◌, map, find, reverse, Vec}
 use Rattle.std.specs.Option.{option_map}
 use Rattle.object_model.specs.declared.Object.{Object}
 use Rattle.object_model.specs.Objects.{same}

@@ -1,11 +1,10 @@
-use Rattle.std.proofs.Common.{◌∙◌, ap, sym, take, get_or, ◌||◌}
+use Rattle.std.proofs.Common.{◌∙◌, sym, take, get_or}
 use Rattle.std.proofs.lemmas.List.Folds.{list_any_more}
 use Rattle.command_tables.specs.declared.types.ObjectType.TheVariants as ty
 use Rattle.object_model.specs.declared.Object.{Object}
 use Rattle.object_model.specs.Objects.{same, is_in}
 use Rattle.session_tables.specs.Population.{listed_in}
 use Rattle.session_tables.proofs.Living.{listed_more}
-use Rattle.session_tables.proofs.Lists.{on_err}
 use Rattle.session_tables.proofs.object_table.list_at_each.Goals as goal
 
 pub returns-in_err-list_owned-clause-grows : goal.returns-in_err-list_owned-clause-grows

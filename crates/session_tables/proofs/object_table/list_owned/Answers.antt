@@ -1,4 +1,4 @@
-use Rattle.std.proofs.Common.{◌≡◌, ◌∙◌, ap, sym, get_or, set}
+use Rattle.std.proofs.Common.{◌∙◌, ap, sym, set}
 use Rattle.object_model.specs.Objects.{is_in}
 use Rattle.session_tables.specs.Filing.{kept}
 use Rattle.session_tables.specs.Population.{list_by, objects_at}

@@ -1,5 +1,4 @@
-use Rattle.std.proofs.Common.{◌≡◌, ◌∙◌, ◌+◌, ◌≤◌, ◌<◌, ap, sym, cond, length, Some, None, [], ◌∷◌, ◌++◌, List, arith, length-append}
-use Rattle.object_model.specs.declared.Object.{Object}
+use Rattle.std.proofs.Common.{◌≡◌, ◌∙◌, ◌+◌, ◌<◌, ap, sym, cond, length, Some, [], ◌∷◌, arith, length-append}
 use Rattle.session_tables.specs.declared.object_table.ObjectState.{ObjectState}
 use Rattle.session_tables.specs.Filing.{kept}
 use Rattle.session_tables.specs.Population.{list_by, lives_by, objects_at}

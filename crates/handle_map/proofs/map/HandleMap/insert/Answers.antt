@@ -1,12 +1,12 @@
-use Rattle.std.proofs.Common.{◌≡◌, arith}
-use Rattle.handle_map.specs.Chains.{IsPlace, put_at}
+use Rattle.std.proofs.Common.{◌≡◌, ◌<◌, subst, arith}
+use Rattle.handle_map.specs.Chains.{IsPlace, entries_of, put_at}
 use Rattle.handle_map.specs.declared.entry.Entry.{Entry}
 use Rattle.handle_map.specs.Pairs.{with_values}
-use Rattle.handle_map.proofs.Adding.{greatest_so, none_of, on_ok_is, with_new, with_put}
+use Rattle.handle_map.proofs.Adding.{greatest_so, none_above, none_of, on_ok_is, with_new, with_put}
 use Rattle.handle_map.proofs.map.HandleMap.insert.Goals as goal
 
-pub add-requires : goal.add-requires
-add-requires g c = (omega arith, rw (← c.self.view_is) (none_of c.self.inside.entries.items c.self.inside.values.items c.args.ty c.args.id (rw c.deref.ensures.value at c.in-None.ensures.none)))
+pub add-requires-in-None : goal.add-requires-in-None
+add-requires-in-None g c = (omega arith, rw (← c.self.view_is) (none_of c.self.inside.entries.items c.self.inside.values.items c.args.ty c.args.id (rw c.deref.ensures.value at c.in-None.ensures.none)))
 
 pub returns-in-Some-clause-ok : goal.returns-in-Some-clause-ok
 returns-in-Some-clause-ok g c =
@@ -18,12 +18,25 @@ returns-in-Some-clause-ok g c =
 
 pub returns-in-None-clause-ok : goal.returns-in-None-clause-ok
 returns-in-None-clause-ok g c =
-    on_ok_is c.add.result _ _ _
+    on_ok_is c.add-in-None.result _ _ _
     (with_new c.args.self.now.entries c.args.ty c.args.id c.args.values.now (rw (← c.self.view_is) (none_of c.self.inside.entries.items c.self.inside.values.items c.args.ty c.args.id (rw c.deref.ensures.value at c.in-None.ensures.none))))
-    c.add.ensures.ok
+    c.add-in-None.ensures.ok
 
 pub returns-in-Some-clause-greatest : goal.returns-in-Some-clause-greatest
 returns-in-Some-clause-greatest g c = greatest_so c.put.result c.put.new.self.entries c.args.self.now.entries c.args.ty c.args.id c.args.values.now (returns-in-Some-clause-ok g c)
 
 pub returns-in-None-clause-greatest : goal.returns-in-None-clause-greatest
-returns-in-None-clause-greatest g c = greatest_so c.add.result c.add.new.self.entries c.args.self.now.entries c.args.ty c.args.id c.args.values.now (returns-in-None-clause-ok g c)
+returns-in-None-clause-greatest g c = greatest_so c.add-in-None.result c.add-in-None.new.self.entries c.args.self.now.entries c.args.ty c.args.id c.args.values.now (returns-in-None-clause-ok g c)
+
+pub add-requires : goal.add-requires
+add-requires g c =
+    (omega arith, rw (← c.self.view_is) (none_above (entries_of c.self.inside.values.items c.self.inside.entries.items) c.args.ty c.args.id (subst (λ n. n < c.args.id) c.self.invariant.most (omega arith))))
+
+pub returns-then-id-self-clause-ok : goal.returns-then-id-self-clause-ok
+returns-then-id-self-clause-ok g c =
+    on_ok_is c.add.result _ _ _
+    (with_new c.args.self.now.entries c.args.ty c.args.id c.args.values.now (rw (← c.self.view_is) (none_above (entries_of c.self.inside.values.items c.self.inside.entries.items) c.args.ty c.args.id (subst (λ n. n < c.args.id) c.self.invariant.most (omega arith)))))
+    c.add.ensures.ok
+
+pub returns-then-id-self-clause-greatest : goal.returns-then-id-self-clause-greatest
+returns-then-id-self-clause-greatest g c = greatest_so c.add.result c.add.new.self.entries c.args.self.now.entries c.args.ty c.args.id c.args.values.now (returns-then-id-self-clause-ok g c)

@@ -1,4 +1,4 @@
-use Rattle.std.proofs.Common.{◌≡◌, ◌∙◌, sym, ap, subst, ◌∷◌, [], ◌++◌, List}
+use Rattle.std.proofs.Common.{◌∙◌, sym, ap, subst, ◌∷◌, [], ◌++◌, List}
 use Rattle.object_model.specs.Objects.{is_in}
 use Rattle.object_model.specs.History.{Birth}
 use Rattle.session_tables.specs.Population.{Population, AreBorn, AreListed, lives_in, listed_in, living_in}

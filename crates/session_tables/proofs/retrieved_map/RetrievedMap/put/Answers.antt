@@ -1,4 +1,4 @@
-use Rattle.std.proofs.Common.{◌≡◌, ◌∙◌, ap, sym, cond, Option, Some, None}
+use Rattle.std.proofs.Common.{◌≡◌, ◌∙◌, ap, sym, cond, Option, Some}
 use Rattle.std.specs.HashMap.{get}
 use Rattle.command_tables.specs.Tests.{same_type}
 use Rattle.session_tables.specs.declared.retrieved_map.RetrievedKey.{RetrievedKey}

@@ -1,4 +1,4 @@
-use Rattle.std.proofs.Common.{◌∙◌, ap, sym, ◌++◌, ◌∷◌, [], List, Option, Some, cond}
+use Rattle.std.proofs.Common.{◌∙◌, ap, sym, ◌++◌, ◌∷◌, [], List, Some, cond}
 use Rattle.object_model.specs.Objects.{same}
 use Rattle.session_tables.specs.declared.value_table.ValueEntry.{ValueEntry}
 use Rattle.session_tables.specs.Shown.{last_value}
