@@ -62,7 +62,7 @@ pub enum ReplayError {
     /// The trace has a fault. Lines count from 1.
     #[error("line {line}: {fault}")]
     Trace { line: u64, fault: TraceFault },
-    /// A limit was reached. None is yet.
+    /// A limit was reached.
     #[error("a limit was reached")]
     Limit { which: Which },
     #[error("no memory")]
