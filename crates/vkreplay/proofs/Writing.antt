@@ -101,7 +101,7 @@ module _ {X Y : Type 0} (line : Y → List ℕ) (read : X → Y) (xs : List X) (
   cut_line h0 h1 h2 f0 f1 f2 e a w =
       let rest = lines_in (drop (i + 1) xs) in
       let whole : lines_in xs ≡ (lines_in (take i xs) ++ this) ++ rest =
-          ap lines_in (sym (take-append-drop (i + 1) xs)) ∙ lines_append (take (i + 1) xs) (drop (i + 1) xs) ∙ ap (λ ps. ps ++ rest) lines_next in
+      ap lines_in (sym (take-append-drop (i + 1) xs)) ∙ lines_append (take (i + 1) xs) (drop (i + 1) xs) ∙ ap (λ ps. ps ++ rest) lines_next in
       subst (λ (ps : List (List ℕ)). Writes ps false (changed h0 h2 f0 f2) (Err e)) (sym whole)
       (cut_before (lines_in (take i xs) ++ this) rest false (changed h0 h2 f0 f2) e (then (lines_in (take i xs)) this false h0 h1 h2 f0 f1 f2 (Err e) a w))
 

@@ -60,7 +60,11 @@ fn put_notes<K: Sink>(out: &mut K, notes: &[Note], line: &mut Vec<u8>) -> Result
 
 // The lines of a chain, or of its refusal, as at a call with number 0.
 #[tactic(auto, using(crate::proofs::Writing::none_of))]
-fn put_answer<K: Sink>(out: &mut K, answer: &ChainAnswer, text: &mut Vec<u8>) -> Result<(), ReplayError>
+fn put_answer<K: Sink>(
+    out: &mut K,
+    answer: &ChainAnswer,
+    text: &mut Vec<u8>,
+) -> Result<(), ReplayError>
     requires { IsPrintable (answer_content answer.now) }
     ensures { let outcome = outcome_of (answer_content answer.now) in
         Writes (outcome_text outcome 0 ∷ []) (is_too_long outcome) (changed (K.held out.old) (K.held out.new) (K.faults out.old) (K.faults out.new)) result }

@@ -170,6 +170,7 @@ fn tree_of(alloc: Global, files: Pairs) -> Result<MemTree, Fail> {
 }
 
 // What is shown of a tree, with its status and what is said.
+#[derive(Drop)]
 struct Seen {
     status: Status,
     out: Vec<u8>,
@@ -177,7 +178,7 @@ struct Seen {
 }
 
 // Runs the program over a tree with an empty trace.
-fn shown(alloc: Global, words: &str, env: &EnvList, tree: &mut MemTree) -> Result<Seen, Fail> {
+fn seen_at(alloc: Global, words: &str, env: &EnvList, tree: &mut MemTree) -> Result<Seen, Fail> {
     let words = words_of(alloc, words)?;
     let mut trace = MemSource::new(Vec::new(alloc), Vec::new(alloc));
     let mut out = sink(alloc, 0)?;
@@ -203,7 +204,7 @@ fn shown(alloc: Global, words: &str, env: &EnvList, tree: &mut MemTree) -> Resul
 fn is_shown(rt: &impl Abort, alloc: Global, case: &Shown) -> Result<(), Fail> {
     let env = variables(alloc, case.env)?;
     let mut tree = tree_of(alloc, case.files)?;
-    let seen = shown(alloc, case.words, &env, &mut tree)?;
+    let seen = seen_at(alloc, case.words, &env, &mut tree)?;
     assert_eq!(rt; seen.status, case.status);
     assert!(rt; seen.out.as_slice() == case.out.as_bytes(), "{}", case.out);
     assert!(rt;
@@ -230,10 +231,10 @@ fn a_tree_that_fails_at_each_of_its_calls_shows_nothing(rt: HostRuntime) -> Resu
     for call in 1..21 {
         let mut tree = tree_of(alloc, &[DRIVER, VALIDATION])?;
         tree.fail_at(call).ok().ok_or("no memory")?;
-        let seen = shown(alloc, "chain", &env, &mut tree)?;
+        let seen = seen_at(alloc, "chain", &env, &mut tree)?;
         assert_eq!(rt; seen.status, Status::ReadFault);
         assert!(rt; seen.out.is_empty());
-        assert!(rt; seen.errs.as_slice() == b"vkreplay: read fault\n");
+        assert!(rt; seen.errs.as_slice() == b"vkreplay: read fault\n".as_slice());
     }
     Ok(())
 }
