@@ -1,6 +1,6 @@
 -- Each end of a replay or of a chain is one of the program, and where nothing failed it is a function of the words, the variables, the files and the bytes.
 use Rattle.std.proofs.Common.{◌≡◌, ◌∙◌, ℕ, ◌<◌, ◌≤◌, List, [], ◌++◌, length, Option, refl, ap, sym, subst, arith, append-nil, length-append, inl, inr}
-use Rattle.std.specs.Prelude.{◌≢◌, Some, None, Result, Ok, Err, cond, nat_le, nat_lt, Bool, true, false, ◌×◌, ◌⊎◌, ◌==◌, ⊥}
+use Rattle.std.specs.Prelude.{◌≢◌, Some, None, Result, Ok, Err, cond, nat_le, nat_lt, Bool, true, false, ◌⊎◌, ◌==◌}
 use Rattle.std.specs.List.{concat}
 use Rattle.layer_search.specs.Paths.{most_paths}
 use Rattle.chain_build.specs.Override.{most_met, setup_of}
@@ -214,7 +214,7 @@ chain_gives : (p : Process) (asked : ChainAsked) (s : Status) (session : Option 
 chain_gives p asked status.Clean None done files tells =
     let chain : ChainRun = record { asked = asked; env = p.env; tree = p.tree } in
     let all = done.1 in
-    inl (shown chain p.run.traffic.sink p.errs files tells.told status.Clean (Ok unit) false all.shows all.shows.writes.0 all.shows.writes.1
+    inl (shown chain p.run.traffic.sink p.errs files tells.told status.Clean (Ok tt) false all.shows all.shows.writes.0 all.shows.writes.1
     (λ bytes wrote. record { status = refl; wrote = wrote; said = inl (record { stood = all.silent.stood; gained = all.silent.same ∙ sym (grown_nil p.errs.old) }) }))
 chain_gives p asked status.ReadFault None done files tells = absurd (tells.tree done.1.shows.rose)
 chain_gives p asked status.WriteFault None done files tells = absurd (tells.sink (rose p.run.traffic.sink done.1.shows.writes.failed))

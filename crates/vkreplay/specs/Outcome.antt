@@ -1,5 +1,5 @@
 -- The cause of each status, and what then was read, told, written and said. Source: this project.
-use Rattle.std.specs.Prelude.{◌≡◌, ◌≢◌, ◌×◌, ◌⊎◌, ℕ, ⊥, ⊤, Option, Some, None, List, Result, Ok, Err}
+use Rattle.std.specs.Prelude.{◌≡◌, ◌≢◌, ◌⊎◌, ℕ, ⊤, Option, Some, None, List, Result, Ok, Err}
 use Rattle.env_filters.specs.Variables.{Variable}
 use Rattle.model_driver.specs.Driver.{prepared}
 use Rattle.model_driver.specs.declared.driver.Policy.{Policy}
@@ -88,7 +88,7 @@ pub record LeftTrace (run : Run) : Type 0 where
 
 -- the chain was shown to its end, and nothing was said
 pub record ShowedAll (chain : ChainRun) (sink errs : Change) : Type 0 where
-  pub shows : Shows chain sink (Ok unit)
+  pub shows : Shows chain sink (Ok tt)
   pub silent : IsSilent errs
 
 -- an error cut it short, and its line was said

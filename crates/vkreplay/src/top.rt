@@ -127,7 +127,7 @@ fn show<T: Tree, K: Sink, L: Sink>(
     ensures { let seen = tree_seen (T.files tree.old) (T.faults tree.old) (T.faults tree.new) in
         let sink = changed (K.held out.old) (K.held out.new) (K.faults out.old) (K.faults out.new) in
         let said = changed (L.held errs.old) (L.held errs.new) (L.faults errs.old) (L.faults errs.new) in
-        ShowEnds (chain_run (chain_meant words) env.now seen) sink said result }
+        ShowEnds (chain_run (chain_meant words.entry) env.now seen) sink said result }
 {
     match show_chain(alloc, words, env, tree, out) {
         Ok(()) => Status::Clean,
