@@ -1,4 +1,4 @@
-use Rattle.std.proofs.Common.{◌≡◌, ◌∙◌, ℕ, List, ap, subst, arith}
+use Rattle.std.proofs.Common.{◌≡◌, ℕ, List, subst, arith}
 use Rattle.std.specs.Prelude.{map, string_bytes}
 use Rattle.env_filters.specs.Entries.{layer_names_of}
 use Rattle.chain_build.specs.Chain.{chain_of}

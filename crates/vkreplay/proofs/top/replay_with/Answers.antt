@@ -1,4 +1,4 @@
-use Rattle.std.proofs.Common.{◌≡◌, ◌∙◌, Err, refl, ap, subst}
+use Rattle.std.proofs.Common.{◌∙◌, Err, refl, ap, subst}
 use Rattle.model_driver.specs.Logs.{Log}
 use Rattle.replay_base.specs.Changes.{Change, changed}
 use Rattle.replay_core.specs.declared.tally.Tally.{Tally}
