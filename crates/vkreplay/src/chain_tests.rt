@@ -3,25 +3,25 @@ use crate::tests::{sink, words_of};
 use crate::top::{Finished, replay_main};
 use env_filters::EnvList;
 use model_driver::ModelDriver;
-use replay_base::{MemSource, MemTree};
+use replay_base::{MemSink, MemSource, MemTree};
 use replay_core::Status;
 use std::alloc::Global;
 use std::process::Abort;
 use std::test::Fail;
 
-type Pairs = &'static [(&'static str, &'static str)];
+pub type Pairs = &'static [(&'static str, &'static str)];
 
-const DRIVER: (&str, &str) = (
+pub const DRIVER: (&str, &str) = (
     "/etc/vulkan/icd.d/a.json",
     r#"{"file_format_version":"1.0.1","ICD":{"library_path":"libvulkan_a.so","api_version":"1.3.275"}}"#,
 );
 
-const VALIDATION: (&str, &str) = (
+pub const VALIDATION: (&str, &str) = (
     "/usr/share/vulkan/explicit_layer.d/v.json",
     r#"{"file_format_version":"1.2.0","layer":{"name":"VK_LAYER_KHRONOS_validation","type":"GLOBAL","library_path":"libVkLayer_khronos_validation.so","api_version":"1.3.275","implementation_version":"1","description":"Khronos Validation Layer","platforms":["LINUX"],"features":{"presets":[]}}}"#,
 );
 
-const VALIDATION_TEXT: &str =
+pub const VALIDATION_TEXT: &str =
     "chain 0 ok layers=1 parts=3 drivers=1\nlayer 1 VK_LAYER_KHRONOS_validation /usr/share/vulkan/explicit_layer.d/v.json\npart 1 threads VK_LAYER_KHRONOS_validation\npart 2 lifetimes VK_LAYER_KHRONOS_validation\npart 3 unique VK_LAYER_KHRONOS_validation\ndriver 1 /etc/vulkan/icd.d/a.json libvulkan_a.so\n";
 
 const NO_LAYERS_TEXT: &str =
@@ -51,7 +51,7 @@ const LIFETIMES: (&str, &str) = (
     r#"{"file_format_version":"1.2.0","layer":{"name":"VK_LAYER_own_life","type":"GLOBAL","library_path":"libVkLayer_object_lifetimes.so","api_version":"1.3.275","implementation_version":"1","description":"own"}}"#,
 );
 
-const HOME: (&str, &str) = ("HOME", "/home/u");
+pub const HOME: (&str, &str) = ("HOME", "/home/u");
 
 // The words, the files and the variables; and what must be answered, printed and said.
 #[derive(Clone, Copy)]
@@ -152,7 +152,7 @@ const CASES: [Shown; 11] = [
 ];
 
 // The variables of these pairs.
-fn variables(alloc: Global, pairs: Pairs) -> Result<EnvList, Fail> {
+pub fn variables(alloc: Global, pairs: Pairs) -> Result<EnvList, Fail> {
     let mut env = EnvList::new(alloc);
     for (name, value) in pairs {
         env.put(name, value).ok().ok_or("no memory")?;
@@ -161,7 +161,7 @@ fn variables(alloc: Global, pairs: Pairs) -> Result<EnvList, Fail> {
 }
 
 // A tree of these files.
-fn tree_of(alloc: Global, files: Pairs) -> Result<MemTree, Fail> {
+pub fn tree_of(alloc: Global, files: Pairs) -> Result<MemTree, Fail> {
     let mut tree = MemTree::new(alloc);
     for (path, text) in files {
         tree.put(path, text.as_bytes()).ok().ok_or("no memory")?;
@@ -171,17 +171,24 @@ fn tree_of(alloc: Global, files: Pairs) -> Result<MemTree, Fail> {
 
 // What is shown of a tree, with its status and what is said.
 #[derive(Drop)]
-struct Seen {
-    status: Status,
-    out: Vec<u8>,
-    errs: Vec<u8>,
+pub struct Seen {
+    pub status: Status,
+    pub out: Vec<u8>,
+    pub errs: Vec<u8>,
 }
 
 // Runs the program over a tree with an empty trace.
-fn seen_at(alloc: Global, words: &str, env: &EnvList, tree: &mut MemTree) -> Result<Seen, Fail> {
+pub fn seen_at(
+    alloc: Global,
+    words: &str,
+    env: &EnvList,
+    tree: &mut MemTree,
+) -> Result<Seen, Fail> {
     let words = words_of(alloc, words)?;
     let mut trace = MemSource::new(Vec::new(alloc), Vec::new(alloc));
-    let mut out = sink(alloc, 0)?;
+    let mut out = MemSink::new(alloc, 1_048_576, Vec::new(alloc))
+        .ok()
+        .ok_or("no memory")?;
     let mut errs = sink(alloc, 0)?;
     let mut driver = ModelDriver::new(alloc);
     let Finished { status, .. } = replay_main(

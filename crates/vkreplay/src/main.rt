@@ -15,6 +15,8 @@ mod fault_tests;
 mod process;
 mod say;
 #[cfg(test)]
+mod size_tests;
+#[cfg(test)]
 mod tests;
 mod top;
 
