@@ -1,17 +1,14 @@
-// Small traces, call by call: what each prints and what the driver is told.
+// Small traces: what each prints and what the driver is told.
 ghost use Rattle.std.specs.Prelude.{IsTrue};
 ghost use Rattle.model_driver.specs.Driver.{are_handles};
-ghost use Rattle.trace_format.specs.Content.{content};
-ghost use Rattle.trace_format.specs.Grammar.{IsEvent};
 
-use crate::room::CallRoom;
-use crate::session::Session;
+use crate::replay;
 use command_tables::row;
 use model_driver::{AdverseDriver, Driver, DriverCall, ModelDriver, RecordingDriver};
-use std::alloc::Global;
+use replay_base::{MemSink, MemSource};
+use std::alloc::{AllocError, Global};
 use std::process::Abort;
 use std::test::Fail;
-use trace_format::{Event, parse_line};
 
 // A trace behind an instance, its physical device and a device. Each begin returns at once, unless the returns are written too.
 #[derive(Clone, Copy)]
@@ -22,10 +19,17 @@ struct Case {
     told: &'static [&'static str],
 }
 
-const START: [&str; 3] = [
-    "b 1 vkCreateInstance = %1.1 VK_SUCCESS",
-    "b 1 vkEnumeratePhysicalDevices %1.1 = %1.2 VK_SUCCESS",
-    "b 1 vkCreateDevice %1.2 = %1.3 VK_SUCCESS",
+const START: &str =
+    "vktrace 1\nb 1 vkCreateInstance = %1.1 VK_SUCCESS\nr 1\nb 1 vkEnumeratePhysicalDevices %1.1 = %1.2 VK_SUCCESS\nr 1\nb 1 vkCreateDevice %1.2 = %1.3 VK_SUCCESS\nr 1\n";
+
+const START_TEXT: &str =
+    "ret 1 vkCreateInstance VK_SUCCESS born=1\nret 2 vkEnumeratePhysicalDevices VK_SUCCESS born=1\nret 3 vkCreateDevice VK_SUCCESS born=1\n";
+
+// What a driver is told at the start that answers 1, 2, 3 and so on.
+const FRESH: [&str; 3] = [
+    "vkCreateInstance 1",
+    "vkEnumeratePhysicalDevices [1] 1",
+    "vkCreateDevice [2] 1",
 ];
 
 const POOL_DESTROYED: Case = Case {
@@ -42,6 +46,7 @@ const POOL_DESTROYED: Case = Case {
         "ret 6 vkDestroyCommandPool void",
         "report 7 0 VUID-vkBeginCommandBuffer-commandBuffer-parameter %1.6",
         "ret 7 vkBeginCommandBuffer VK_ERROR_VALIDATION_FAILED_EXT",
+        "end calls=7 skipped=1 reports=1",
     ],
     told: &[
         "vkCreateCommandPool [3] 1",
@@ -66,6 +71,7 @@ const IMAGES: Case = Case {
         "ret 6 vkGetSwapchainImagesKHR VK_INCOMPLETE born=1",
         "ret 7 vkGetSwapchainImagesKHR VK_SUCCESS born=2",
         "ret 8 vkCreateImageView VK_SUCCESS born=1",
+        "end calls=8 skipped=0 reports=0",
     ],
     told: &[
         "vkCreateXcbSurfaceKHR [1] 1",
@@ -90,6 +96,7 @@ const QUEUES: Case = Case {
         "ret 5 vkGetDeviceQueue void born=1",
         "ret 6 vkGetDeviceQueue void born=1",
         "ret 7 vkQueueWaitIdle VK_SUCCESS",
+        "end calls=7 skipped=0 reports=0",
     ],
     told: &[
         "vkGetDeviceQueue [3] 1",
@@ -110,6 +117,7 @@ const FAILED: Case = Case {
         "ret 4 vkCreateBuffer VK_ERROR_OUT_OF_HOST_MEMORY born=0",
         "ret 5 vkGetBufferMemoryRequirements void",
         "ret 6 vkFreeMemory void",
+        "end calls=6 skipped=0 reports=0",
     ],
     told: &[
         "vkCreateBuffer [3] 1",
@@ -136,6 +144,7 @@ const POOL_RESET: Case = Case {
         "ret 7 vkResetDescriptorPool VK_SUCCESS",
         "ret 8 vkAllocateDescriptorSets VK_SUCCESS born=1",
         "ret 9 vkFreeDescriptorSets VK_SUCCESS",
+        "end calls=9 skipped=0 reports=0",
     ],
     told: &[
         "vkCreateDescriptorPool [3] 1",
@@ -161,6 +170,7 @@ const TWO_THREADS: Case = Case {
         "ret 5 vkCreateFence VK_SUCCESS born=1",
         "ret 4 vkCreateFence VK_SUCCESS born=1",
         "ret 6 vkWaitForFences VK_TIMEOUT",
+        "end calls=6 skipped=0 reports=0",
     ],
     told: &[
         "vkCreateFence [3] 1",
@@ -188,6 +198,7 @@ const OWNER_DIES: Case = Case {
         "ret 5 vkAllocateCommandBuffers VK_SUCCESS born=0",
         "report 7 0 VUID-vkBeginCommandBuffer-commandBuffer-parameter %1.5",
         "ret 7 vkBeginCommandBuffer VK_ERROR_VALIDATION_FAILED_EXT",
+        "end calls=7 skipped=1 reports=1",
     ],
     told: &[
         "vkCreateCommandPool [3] 1",
@@ -216,6 +227,7 @@ const SKIPPED: Case = Case {
         "ret 7 vkCreateDevice VK_SUCCESS born=1",
         "ret 8 vkDestroyDevice void",
         "ret 9 vkDestroyInstance void",
+        "end calls=9 skipped=2 reports=2",
     ],
     told: &[
         "vkDestroyDevice [3] 0",
@@ -223,6 +235,29 @@ const SKIPPED: Case = Case {
         "vkDestroyDevice [4] 0",
         "vkDestroyInstance [1] 0",
     ],
+};
+
+// Whatever handles a driver answers, also one for all, it is told them again.
+const TWICE: Case = Case {
+    events: &[
+        "b 1 vkDestroyDevice %1.3 void",
+        "b 1 vkDestroyDevice %1.3 void",
+        "b 1 vkDestroyInstance %1.1 void",
+    ],
+    with_returns: false,
+    text: &[
+        "ret 4 vkDestroyDevice void",
+        "report 5 0 VUID-vkDestroyDevice-device-parameter %1.3",
+        "ret 5 vkDestroyDevice void",
+        "ret 6 vkDestroyInstance void",
+        "end calls=6 skipped=1 reports=1",
+    ],
+    told: &["vkDestroyDevice [1] 0", "vkDestroyInstance [1] 0"],
+};
+
+const TWICE_APART: Case = Case {
+    told: &["vkDestroyDevice [9] 0", "vkDestroyInstance [7] 0"],
+    ..TWICE
 };
 
 const CASES: [Case; 8] = [
@@ -236,61 +271,27 @@ const CASES: [Case; 8] = [
     SKIPPED,
 ];
 
-fn finish(
-    session: &mut Session,
-    room: &mut CallRoom,
-    thread: u32,
-    lines: &mut Vec<u8>,
-) -> Result<(), Fail> {
-    if session.is_open(thread) {
-        session.finish(room, thread, lines).ok().ok_or("memory")?;
-        Ok(())
-    } else {
-        Err(Fail::from("no open call"))
-    }
-}
-
-fn take<D: Driver>(
-    session: &mut Session,
-    room: &mut CallRoom,
-    event: &Event,
-    returns: bool,
-    driver: &mut D,
-    lines: &mut Vec<u8>,
-) -> Result<(), Fail>
-    requires { IsEvent (content event.now) }
-{
-    match event {
-        Event::Return { thread } => finish(session, room, *thread, lines),
-        Event::Begin { thread, .. } => {
-            let number = session.tally().calls.checked_add(1).ok_or("calls")?;
-            session
-                .begin(room, number, event, driver, lines)
-                .ok()
-                .ok_or("memory")?;
-            if returns {
-                finish(session, room, *thread, lines)?;
-            }
-            Ok(())
+// The trace of a case.
+fn trace_of(alloc: Global, case: &Case) -> Result<String, AllocError> {
+    let mut trace = String::from_str(alloc, START)?;
+    for line in case.events {
+        trace.push_str(line)?;
+        trace.push_str("\n")?;
+        if !case.with_returns {
+            trace.push_str("r 1\n")?;
         }
     }
+    Ok(trace)
 }
 
-// The text of these events.
-fn play<D: Driver>(
-    session: &mut Session,
-    room: &mut CallRoom,
-    events: &[&str],
-    returns: bool,
-    driver: &mut D,
-) -> Result<Vec<u8>, Fail> {
-    let alloc = room.alloc;
-    let mut lines = Vec::new(alloc);
-    for line in events {
-        let event = parse_line(alloc, line.as_bytes()).ok().ok_or("no event")?;
-        take(session, room, &event, returns, driver, &mut lines)?;
+// What it must print.
+fn text_of(alloc: Global, case: &Case) -> Result<String, AllocError> {
+    let mut text = String::from_str(alloc, START_TEXT)?;
+    for line in case.text {
+        text.push_str(line)?;
+        text.push_str("\n")?;
     }
-    Ok(lines)
+    Ok(text)
 }
 
 // A driver call in one line: the command, the handles of each parameter, and how many are asked for.
@@ -312,94 +313,81 @@ fn told(alloc: Global, call: &DriverCall) -> Result<String, Fail> {
     Ok(line)
 }
 
-fn check(rt: &impl Abort, alloc: Global, case: Case) -> Result<(), Fail> {
-    let mut session = Session::new(alloc);
-    let mut room = CallRoom::new(alloc);
-    let mut driver = RecordingDriver::new(alloc, ModelDriver::new(alloc));
-    play(&mut session, &mut room, &START, true, &mut driver)?;
-    let lines = play(
-        &mut session,
-        &mut room,
-        case.events,
-        !case.with_returns,
-        &mut driver,
-    )?;
-    let mut wanted = Vec::new(alloc);
-    for line in case.text {
-        wanted.extend_from_slice(line.as_bytes())?;
-        wanted.extend_from_slice(b"\n")?;
-    }
-    assert_eq!(rt; lines.as_slice(), wanted.as_slice());
-    assert_eq!(rt; driver.log().len(), case.told.len() + START.len());
-    for ((call, _), wanted) in driver.log().iter().skip(START.len()).zip(case.told) {
+// All that a driver was told, a line for each call.
+fn all_told<D: Driver>(alloc: Global, driver: &RecordingDriver<D>) -> Result<String, Fail> {
+    let mut all = String::new(alloc);
+    for (call, _) in driver.log() {
         let line = told(alloc, call)?;
-        assert_eq!(rt; line.as_str(), *wanted);
+        all.push_str(line.as_str())?;
+        all.push_str("\n")?;
     }
+    Ok(all)
+}
+
+// What it must be told: at the start, and then for the case.
+fn told_of(alloc: Global, first: &[&str], case: &Case) -> Result<String, AllocError> {
+    let mut all = String::new(alloc);
+    for line in first.iter().chain(case.told) {
+        all.push_str(line)?;
+        all.push_str("\n")?;
+    }
+    Ok(all)
+}
+
+// Replays a case over a driver that was told this at the start.
+fn check<D: Driver + Drop>(
+    rt: &impl Abort,
+    alloc: Global,
+    case: &Case,
+    inner: D,
+    first: &[&str],
+) -> Result<(), Fail> {
+    let trace = trace_of(alloc, case)?;
+    let text = text_of(alloc, case)?;
+    let wanted = told_of(alloc, first, case)?;
+    let mut source = MemSource::new(trace.into_bytes(), Vec::new(alloc));
+    let mut out = MemSink::new(alloc, 4_096, Vec::new(alloc))
+        .ok()
+        .ok_or("memory")?;
+    let mut driver = RecordingDriver::new(alloc, inner);
+    let ended = replay(alloc, &mut source, &mut out, &mut driver);
+    assert!(rt; ended.is_ok());
+    assert!(rt; out.bytes() == text.as_bytes(), "{text}");
+    let calls = all_told(alloc, &driver)?;
+    assert!(rt; calls.as_str() == wanted.as_str(), "{calls}");
     Ok(())
 }
 
 #[test]
 fn small_traces(rt: HostRuntime) -> Result<(), Fail> {
-    for case in CASES {
-        check(&rt, rt.alloc(), case)?;
+    let alloc = rt.alloc();
+    for case in &CASES {
+        check(&rt, alloc, case, ModelDriver::new(alloc), &FRESH)?;
     }
     Ok(())
 }
 
-// A device that is destroyed twice, over a driver that answers these handles: the driver's calls, in order.
-fn destroyed_twice(rt: &impl Abort, alloc: Global, values: &[u64]) -> Result<Vec<String>, Fail>
+// A driver that answers these handles.
+fn adverse(alloc: Global, values: &[u64]) -> Result<AdverseDriver, Fail>
     requires { IsTrue (are_handles values.now) }
 {
-    let mut session = Session::new(alloc);
-    let mut room = CallRoom::new(alloc);
-    let adverse = AdverseDriver::new(Vec::from_slice(alloc, values)?);
-    let mut driver = RecordingDriver::new(alloc, adverse);
-    play(&mut session, &mut room, &START, true, &mut driver)?;
-    let rest = [
-        "b 1 vkDestroyDevice %1.3 void",
-        "b 1 vkDestroyDevice %1.3 void",
-        "b 1 vkDestroyInstance %1.1 void",
-    ];
-    let lines = play(&mut session, &mut room, &rest, true, &mut driver)?;
-    let wanted =
-        "ret 4 vkDestroyDevice void\nreport 5 0 VUID-vkDestroyDevice-device-parameter %1.3\nret 5 vkDestroyDevice void\nret 6 vkDestroyInstance void\n";
-    assert_eq!(rt; lines.as_slice(), wanted.as_bytes());
-    let tally = session.tally();
-    assert_eq!(rt; (tally.calls, tally.skipped, tally.reports), (6, 1, 1));
-    let mut calls = Vec::new(alloc);
-    for (call, _) in driver.log() {
-        calls.push(told(alloc, call)?)?;
-    }
-    Ok(calls)
+    Ok(AdverseDriver::new(Vec::from_slice(alloc, values)?))
 }
 
-// Whatever handles a driver answers, also one for all, it is told them again.
 #[test]
 fn handles_that_are_answered_again(rt: HostRuntime) -> Result<(), Fail> {
     let alloc = rt.alloc();
-    let calls = destroyed_twice(&rt, alloc, &[1, 1, 1])?;
-    let wanted = [
+    let one = [
         "vkCreateInstance 1",
         "vkEnumeratePhysicalDevices [1] 1",
         "vkCreateDevice [1] 1",
-        "vkDestroyDevice [1] 0",
-        "vkDestroyInstance [1] 0",
     ];
-    assert_eq!(rt; calls.len(), wanted.len());
-    for (call, wanted) in calls.iter().zip(wanted) {
-        assert_eq!(rt; call.as_str(), wanted);
-    }
-    let calls = destroyed_twice(&rt, alloc, &[7, 18446744073709551615, 9])?;
-    let wanted = [
+    check(&rt, alloc, &TWICE, adverse(alloc, &[1, 1, 1])?, &one)?;
+    let apart = [
         "vkCreateInstance 1",
         "vkEnumeratePhysicalDevices [7] 1",
         "vkCreateDevice [18446744073709551615] 1",
-        "vkDestroyDevice [9] 0",
-        "vkDestroyInstance [7] 0",
     ];
-    assert_eq!(rt; calls.len(), wanted.len());
-    for (call, wanted) in calls.iter().zip(wanted) {
-        assert_eq!(rt; call.as_str(), wanted);
-    }
-    Ok(())
+    let driver = adverse(alloc, &[7, 18446744073709551615, 9])?;
+    check(&rt, alloc, &TWICE_APART, driver, &apart)
 }
