@@ -135,7 +135,8 @@ fn a_chain_has_64_layers_at_most(rt: HostRuntime) -> Result<(), Fail> {
 fn empty_manifests(alloc: Global, count: u32) -> Result<MemTree, Fail> {
     let mut tree = MemTree::new(alloc);
     for number in 0..count {
-        let path = format!(in alloc; "/etc/vulkan/icd.d/{}.json", 10_000 + number)?;
+        let index = u64::from(number) + 10_000;
+        let path = format!(in alloc; "/etc/vulkan/icd.d/{index}.json")?;
         put(&mut tree, path.as_str(), b"{}")?;
     }
     Ok(tree)
