@@ -3,9 +3,9 @@ use Rattle.std.specs.Prelude.{ℕ, ◌+◌, ◌==◌, Bool, true, false, ◌&&�
 use Rattle.std.specs.List.{list_any, flat_map, after_last}
 use Rattle.std.specs.Str.{bytes_eq}
 use Rattle.layer_search.specs.Contents.{LayerFound}
-use Rattle.chain_build.specs.declared.parts.PartKind.{PartKind}
-use Rattle.chain_build.specs.declared.parts.PartKind.TheVariants.{Threads, Lifetimes, Unique}
-pub use Rattle.chain_build.specs.declared.parts.PartKind.{PartKind}
+use Rattle.object_model.specs.declared.PartKind.{PartKind}
+use Rattle.object_model.specs.declared.PartKind.TheVariants.{Threads, Lifetimes, Unique}
+pub use Rattle.object_model.specs.declared.PartKind.{PartKind}
 
 -- the last component of a path
 abbrev pub last_component : List ℕ → List ℕ

@@ -3,8 +3,8 @@
 //! wrapping one nearer the driver, and the limit on layers, are this project's choices.
 ghost use Rattle.std.specs.Prelude.{◌≡◌};
 
-use crate::PartKind;
 use layer_search::{FoundDriver, FoundLayer};
+use object_model::PartKind;
 use std::alloc::{AllocError, AllocFailed};
 use thiserror::Error;
 

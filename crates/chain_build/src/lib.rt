@@ -35,7 +35,7 @@ mod test_setups;
 pub use answers::{Chain, ChainAnswer, ChainError, ChainNote};
 pub use chains::build;
 pub use expansions::expand;
+pub use object_model::PartKind;
 pub use override_layer::read_setup;
-pub use parts::PartKind;
 pub use setup::Setup;
 pub use switches::implicit_on;

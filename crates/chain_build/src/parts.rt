@@ -8,18 +8,8 @@ ghost use Rattle.layer_search.specs.Contents.{found_layer};
 
 use crate::answers::MOST_LAYERS;
 use layer_search::FoundLayer;
+use object_model::PartKind;
 use std::alloc::{AllocError, Global};
-
-/// A checking or wrapping part of a layer.
-#[derive(Clone, Copy, Debug, PartialEq, Eq)]
-pub enum PartKind {
-    /// Reports uses that overlap between threads.
-    Threads,
-    /// Reports arguments that don't live or have another owner, and parents that are destroyed before their children.
-    Lifetimes,
-    /// Gives the layers above it handles of its own.
-    Unique,
-}
 
 static ALL: [PartKind; 3] = [PartKind::Threads, PartKind::Lifetimes, PartKind::Unique];
 

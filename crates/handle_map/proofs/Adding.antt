@@ -25,14 +25,14 @@ or_false true b e = cc e
 or_false false b e = (refl, e)
 
 -- the test looks both ways alike
-pair_swapped : (x y : MapEntry) → is_pair y.ty y.id x ≡ true → is_pair x.ty x.id y ≡ true
+pair_swapped : (x y : MapEntry (List ℕ)) → is_pair y.ty y.id x ≡ true → is_pair x.ty x.id y ≡ true
 pair_swapped x y is =
     let parts = and_true (same_type x.ty y.ty) (x.id == y.id) is in
     let type = type_is x.ty y.ty parts.0 in
     let number : x.id ≡ y.id = eqb-true x.id y.id parts.1 in
     ap (λ t. same_type t x.ty && y.id == x.id) (sym type) ∙ (ap (λ t. same_type x.ty t && y.id == x.id) type ∙ (ap (λ i. same_type x.ty y.ty && i == x.id) (sym number) ∙ (ap (λ i. same_type x.ty y.ty && x.id == i) number ∙ is)))
 
-pair_more : (es : List MapEntry) (x : MapEntry) (t : ObjectType) (id : ℕ) → has_pair (es ++ x ∷ []) t id ≡ (has_pair es t id || is_pair t id x)
+pair_more : (es : List (MapEntry (List ℕ))) (x : MapEntry (List ℕ)) (t : ObjectType) (id : ℕ) → has_pair (es ++ x ∷ []) t id ≡ (has_pair es t id || is_pair t id x)
 pair_more [] x t id = last (is_pair t id x)
   where
     last : (b : Bool) → (b || false) ≡ b
@@ -44,7 +44,7 @@ pair_more (e ∷ es) x t id = go (is_pair t id e) (pair_more es x t id)
     go true rest = refl
     go false rest = rest
 
-distinct_more : (es : List MapEntry) (x : MapEntry) → AreDistinct es → has_pair es x.ty x.id ≡ false → AreDistinct (es ++ x ∷ [])
+distinct_more : (es : List (MapEntry (List ℕ))) (x : MapEntry (List ℕ)) → AreDistinct es → has_pair es x.ty x.id ≡ false → AreDistinct (es ++ x ∷ [])
 distinct_more [] x distinct new = (refl, tt)
 distinct_more (e ∷ es) x distinct new =
     let parts = or_false (is_pair x.ty x.id e) (has_pair es x.ty x.id) new in
@@ -54,7 +54,7 @@ distinct_more (e ∷ es) x distinct new =
     go true is not = let both : true ≡ false = sym (pair_swapped x e is) ∙ not in cc
     go false is not = is
 
-greatest_more : (es : List MapEntry) (x : MapEntry) → greatest_id (es ++ x ∷ []) ≡ max (greatest_id es) x.id
+greatest_more : (es : List (MapEntry (List ℕ))) (x : MapEntry (List ℕ)) → greatest_id (es ++ x ∷ []) ≡ max (greatest_id es) x.id
 greatest_more [] x = omega arith
 greatest_more (e ∷ es) x = ap (max e.id) (greatest_more es x) ∙ omega arith
 
@@ -111,7 +111,7 @@ all_kept : (es : List Entry) (values vs : List ℕ) → ((q : ℕ) (other : Entr
 all_kept [] values vs within = refl
 all_kept (e ∷ es) values vs within =
     let w = within 0 e (omega arith) in
-    ap (λ (xs : List ℕ). let x : MapEntry = record { ty = e.ty; id = e.id; values = xs } in x ∷ entries_of (values ++ vs) es) (kept_before values vs e.start e.len (omega (arith, w.few, w.inside)))
+    ap (λ (xs : List ℕ). let x : MapEntry (List ℕ) = record { ty = e.ty; id = e.id; values = xs } in x ∷ entries_of (values ++ vs) es) (kept_before values vs e.start e.len (omega (arith, w.few, w.inside)))
     ∙ ap (λ xs. entry_of values e ∷ xs) (all_kept es values vs (λ q other below. within (suc q) other (omega (arith, below))))
 
 pub add_entries : (chains : ℕ) (es : List Entry) (values firsts vs : List ℕ) (greatest : ℕ) (e : Entry) → IsTable chains es values firsts greatest → IsAdded chains es values firsts vs e
@@ -119,7 +119,7 @@ pub add_entries : (chains : ℕ) (es : List Entry) (values firsts vs : List ℕ)
 add_entries chains es values firsts vs greatest e table is =
     map-append (entry_of (values ++ vs)) es (e ∷ [])
     ∙ (ap (λ xs. xs ++ entry_of (values ++ vs) e ∷ []) (all_kept es values vs table.within)
-    ∙ ap (λ (xs : List ℕ). let x : MapEntry = record { ty = e.ty; id = e.id; values = xs } in entries_of values es ++ x ∷ []) own)
+    ∙ ap (λ (xs : List ℕ). let x : MapEntry (List ℕ) = record { ty = e.ty; id = e.id; values = xs } in entries_of values es ++ x ∷ []) own)
   where
     own : values_at (values ++ vs) e ≡ vs
     own = ap (λ n. take n (drop e.start (values ++ vs))) is.len ∙ (ap (λ n. take (length vs) (drop n (values ++ vs))) is.start ∙ added_own values vs)
@@ -204,7 +204,7 @@ none_of [] values t id none = refl
 none_of (e ∷ es) values t id none = ap (λ b. b || has_pair (entries_of values es) t id) (none 0 e (omega arith)) ∙ none_of es values t id (λ p other below. none (suc p) other (omega (arith, below)))
 
 -- no entry has an id above the greatest
-pub none_above : (es : List MapEntry) (t : ObjectType) (id : ℕ) → greatest_id es < id → has_pair es t id ≡ false
+pub none_above : (es : List (MapEntry (List ℕ))) (t : ObjectType) (id : ℕ) → greatest_id es < id → has_pair es t id ≡ false
 none_above [] t id above = refl
 none_above (e ∷ es) t id above = ap (λ b. b || has_pair es t id) (go (is_pair t id e) refl) ∙ none_above es t id (omega (arith, above))
   where
@@ -213,13 +213,13 @@ none_above (e ∷ es) t id above = ap (λ b. b || has_pair es t id) (go (is_pair
     go false is = is
 
 -- a pair that has no entry has no values
-pub no_values : (es : List MapEntry) (t : ObjectType) (id : ℕ) → has_pair es t id ≡ false → values_of es t id ≡ None
+pub no_values : (es : List (MapEntry (List ℕ))) (t : ObjectType) (id : ℕ) → has_pair es t id ≡ false → values_of es t id ≡ None
 no_values [] t id none = refl
 no_values (e ∷ es) t id none =
     let parts = or_false (is_pair t id e) (has_pair es t id) none in
-    ap (λ b. option_map (λ (x : MapEntry). x.values) (cond b (Some e) (find (is_pair t id) es))) parts.0 ∙ no_values es t id parts.1
+    ap (λ b. option_map (λ (x : MapEntry (List ℕ)). x.values) (cond b (Some e) (find (is_pair t id) es))) parts.0 ∙ no_values es t id parts.1
 
-pub with_new : (es : List MapEntry) (t : ObjectType) (id : ℕ) (vs : List ℕ) → has_pair es t id ≡ false → es ++ record { ty = t; id = id; values = vs } ∷ [] ≡ with_values es t id vs
+pub with_new : (es : List (MapEntry (List ℕ))) (t : ObjectType) (id : ℕ) (vs : List ℕ) → has_pair es t id ≡ false → es ++ record { ty = t; id = id; values = vs } ∷ [] ≡ with_values es t id vs
 with_new [] t id vs none = refl
 with_new (e ∷ es) t id vs none =
     let parts = or_false (is_pair t id e) (has_pair es t id) none in
@@ -252,9 +252,9 @@ not_before x es values t id place d alone within is = go (is_at t id x) refl
 pub found_values : (es : List Entry) (values : List ℕ) (t : ObjectType) (id place : ℕ) (d : Entry) → AreDistinct (entries_of values es) → place < length es → is_at t id (get_or es place d) ≡ true
     → values_of (entries_of values es) t id ≡ Some (values_at values (get_or es place d))
 found_values [] values t id place d distinct within is = absurd (omega (arith, within))
-found_values (x ∷ es) values t id zero d distinct within is = ap (λ b. option_map (λ (y : MapEntry). y.values) (cond b (Some (entry_of values x)) (find (is_pair t id) (entries_of values es)))) is
+found_values (x ∷ es) values t id zero d distinct within is = ap (λ b. option_map (λ (y : MapEntry (List ℕ)). y.values) (cond b (Some (entry_of values x)) (find (is_pair t id) (entries_of values es)))) is
 found_values (x ∷ es) values t id (suc place) d distinct within is =
-    ap (λ b. option_map (λ (y : MapEntry). y.values) (cond b (Some (entry_of values x)) (find (is_pair t id) (entries_of values es)))) (not_before x es values t id place d distinct.0 (omega (arith, within)) is)
+    ap (λ b. option_map (λ (y : MapEntry (List ℕ)). y.values) (cond b (Some (entry_of values x)) (find (is_pair t id) (entries_of values es)))) (not_before x es values t id place d distinct.0 (omega (arith, within)) is)
     ∙ found_values es values t id place d distinct.1 (omega (arith, within)) is
 
 pub with_put : (es : List Entry) (values : List ℕ) (t : ObjectType) (id place : ℕ) (d : Entry) (vs : List ℕ) → AreDistinct (entries_of values es) → place < length es → is_at t id (get_or es place d) ≡ true
@@ -387,7 +387,7 @@ read_at (y ∷ xs) zero x within at = at
 read_at (y ∷ xs) (suc i) x within at = read_at xs i x (omega (arith, within)) at
 
 -- the greatest id with one pair more
-pub greatest_with : (es : List MapEntry) (t : ObjectType) (id : ℕ) (vs : List ℕ) → greatest_id (with_values es t id vs) ≡ max (greatest_id es) id
+pub greatest_with : (es : List (MapEntry (List ℕ))) (t : ObjectType) (id : ℕ) (vs : List ℕ) → greatest_id (with_values es t id vs) ≡ max (greatest_id es) id
 greatest_with [] t id vs = omega arith
 greatest_with (e ∷ es) t id vs = go (is_pair t id e) refl (greatest_with es t id vs)
   where
@@ -399,6 +399,6 @@ greatest_with (e ∷ es) t id vs = go (is_pair t id e) refl (greatest_with es t 
     go true is rest = here is
     go false is rest = ap (max e.id) rest ∙ omega arith
 
-pub greatest_so : {T E : Type 0} (r : Result T E) (behind es : List MapEntry) (t : ObjectType) (id : ℕ) (vs : List ℕ) → OnOk r (behind ≡ with_values es t id vs) → OnOk r (greatest_id behind ≡ max (greatest_id es) id)
+pub greatest_so : {T E : Type 0} (r : Result T E) (behind es : List (MapEntry (List ℕ))) (t : ObjectType) (id : ℕ) (vs : List ℕ) → OnOk r (behind ≡ with_values es t id vs) → OnOk r (greatest_id behind ≡ max (greatest_id es) id)
 greatest_so (Ok x) behind es t id vs is = ap greatest_id is ∙ greatest_with es t id vs
 greatest_so (Err x) behind es t id vs is = is

@@ -13,17 +13,17 @@ use Rattle.handle_map.proofs.Links.{default_free}
 -- ---- the list of pairs
 
 -- other values change no pair
-pair_put : (es : List MapEntry) (place : ℕ) (vs : List ℕ) (t : ObjectType) (id : ℕ) → has_pair (put_at es place vs) t id ≡ has_pair es t id
+pair_put : (es : List (MapEntry (List ℕ))) (place : ℕ) (vs : List ℕ) (t : ObjectType) (id : ℕ) → has_pair (put_at es place vs) t id ≡ has_pair es t id
 pair_put [] place vs t id = refl
 pair_put (e ∷ es) zero vs t id = refl
 pair_put (e ∷ es) (suc place) vs t id = ap (λ b. is_pair t id e || b) (pair_put es place vs t id)
 
-distinct_put : (es : List MapEntry) (place : ℕ) (vs : List ℕ) → AreDistinct es → AreDistinct (put_at es place vs)
+distinct_put : (es : List (MapEntry (List ℕ))) (place : ℕ) (vs : List ℕ) → AreDistinct es → AreDistinct (put_at es place vs)
 distinct_put [] place vs distinct = tt
 distinct_put (e ∷ es) zero vs distinct = distinct
 distinct_put (e ∷ es) (suc place) vs distinct = (pair_put es place vs e.ty e.id ∙ distinct.0, distinct_put es place vs distinct.1)
 
-greatest_put : (es : List MapEntry) (place : ℕ) (vs : List ℕ) → greatest_id (put_at es place vs) ≡ greatest_id es
+greatest_put : (es : List (MapEntry (List ℕ))) (place : ℕ) (vs : List ℕ) → greatest_id (put_at es place vs) ≡ greatest_id es
 greatest_put [] place vs = refl
 greatest_put (e ∷ es) zero vs = refl
 greatest_put (e ∷ es) (suc place) vs = ap (max e.id) (greatest_put es place vs)
@@ -82,7 +82,7 @@ pub record IsPut (entries : List Entry) (values behind : List ℕ) (place : ℕ)
 all_kept : (es : List Entry) (values behind : List ℕ) → ((q : ℕ) (other : Entry) → q < length es → values_at behind (get_or es q other) ≡ values_at values (get_or es q other)) → entries_of behind es ≡ entries_of values es
 all_kept [] values behind kept = refl
 all_kept (e ∷ es) values behind kept =
-    ap (λ (vs : List ℕ). let x : MapEntry = record { ty = e.ty; id = e.id; values = vs } in x ∷ entries_of behind es) (kept 0 e (omega arith))
+    ap (λ (vs : List ℕ). let x : MapEntry (List ℕ) = record { ty = e.ty; id = e.id; values = vs } in x ∷ entries_of behind es) (kept 0 e (omega arith))
     ∙ ap (λ xs. entry_of values e ∷ xs) (all_kept es values behind (λ q other below. kept (suc q) other (omega (arith, below))))
 
 pub put_entries : (es : List Entry) (values behind : List ℕ) (place : ℕ) (d e : Entry) → place < length es → e.ty ≡ (get_or es place d).ty → e.id ≡ (get_or es place d).id
@@ -90,11 +90,11 @@ pub put_entries : (es : List Entry) (values behind : List ℕ) (place : ℕ) (d 
     → entries_of behind (set es place e) ≡ put_at (entries_of values es) place (values_at behind e)
 put_entries [] values behind place d e within ty id kept = absurd (omega (arith, within))
 put_entries (x ∷ es) values behind zero d e within ty id kept =
-    ap (λ (t : ObjectType). let y : MapEntry = record { ty = t; id = e.id; values = values_at behind e } in y ∷ entries_of behind es) ty
-    ∙ (ap (λ (i : ℕ). let y : MapEntry = record { ty = x.ty; id = i; values = values_at behind e } in y ∷ entries_of behind es) id
-    ∙ ap (λ (ys : List MapEntry). let y : MapEntry = record { ty = x.ty; id = x.id; values = values_at behind e } in y ∷ ys) (all_kept es values behind (λ q other below. kept (suc q) other (omega (arith, below)) (λ (at : suc q ≡ 0). absurd (omega (arith, at))))))
+    ap (λ (t : ObjectType). let y : MapEntry (List ℕ) = record { ty = t; id = e.id; values = values_at behind e } in y ∷ entries_of behind es) ty
+    ∙ (ap (λ (i : ℕ). let y : MapEntry (List ℕ) = record { ty = x.ty; id = i; values = values_at behind e } in y ∷ entries_of behind es) id
+    ∙ ap (λ (ys : List (MapEntry (List ℕ))). let y : MapEntry (List ℕ) = record { ty = x.ty; id = x.id; values = values_at behind e } in y ∷ ys) (all_kept es values behind (λ q other below. kept (suc q) other (omega (arith, below)) (λ (at : suc q ≡ 0). absurd (omega (arith, at))))))
 put_entries (x ∷ es) values behind (suc place) d e within ty id kept =
-    ap (λ (vs : List ℕ). let y : MapEntry = record { ty = x.ty; id = x.id; values = vs } in y ∷ entries_of behind (set es place e)) (kept 0 x (omega arith) (λ (at : 0 ≡ suc place). absurd (omega (arith, at))))
+    ap (λ (vs : List ℕ). let y : MapEntry (List ℕ) = record { ty = x.ty; id = x.id; values = vs } in y ∷ entries_of behind (set es place e)) (kept 0 x (omega arith) (λ (at : 0 ≡ suc place). absurd (omega (arith, at))))
     ∙ ap (λ xs. entry_of values x ∷ xs) (put_entries es values behind place d e (omega (arith, within)) ty id (λ q other below ne. kept (suc q) other (omega (arith, below)) (λ (at : suc q ≡ suc place). ne (omega (arith, at)))))
 
 put_link : (es : List Entry) (values behind : List ℕ) (place : ℕ) (d e : Entry) → IsPut es values behind place d e → (p : ℕ) (other : Entry) → IsSameLink (get_or (set es place e) p other) (get_or es p other)

@@ -45,11 +45,11 @@ abbrev pub values_at : List ℕ → Entry → List ℕ
 values_at values e = take e.len (drop e.start values)
 
 -- an entry with its values
-abbrev pub entry_of : List ℕ → Entry → MapEntry
+abbrev pub entry_of : List ℕ → Entry → MapEntry (List ℕ)
 entry_of values e = record { ty = e.ty; id = e.id; values = values_at values e }
 
 -- all entries with their values
-abbrev pub entries_of : List ℕ → List Entry → List MapEntry
+abbrev pub entries_of : List ℕ → List Entry → List (MapEntry (List ℕ))
 entries_of values entries = map (entry_of values) entries
 
 -- a link into a chain, among the first so many entries: one more than the place of an entry of the chain, or 0. From it on no entry is
@@ -107,7 +107,7 @@ written values start [] = values
 written values start (v ∷ more) = written (slice_set values start v) (suc start) more
 
 -- the entry at a place has these values now
-abbrev pub put_at : List MapEntry → ℕ → List ℕ → List MapEntry
+abbrev pub put_at : List (MapEntry (List ℕ)) → ℕ → List ℕ → List (MapEntry (List ℕ))
 put_at [] place values = []
 put_at (e ∷ entries) zero values = record e { values = values } ∷ entries
 put_at (e ∷ entries) (suc place) values = e ∷ put_at entries place values

@@ -5,43 +5,43 @@ use Rattle.std.specs.Option.{option_map}
 use Rattle.command_tables.specs.declared.types.ObjectType.{ObjectType}
 use Rattle.command_tables.specs.Tests.{same_type}
 
--- the values of a pair of a type and an id
-pub record MapEntry : Type 0 where
+-- a pair of a type and an id, with what stands below it: the values of a map's entry
+pub record MapEntry (V : Type 0) : Type 0 where
   pub ty : ObjectType
   pub id : ℕ
-  pub values : List ℕ
+  pub values : V
 
 -- the entries in order of insertion; and how many further entries, and how many further values in all, can be held with no further
 -- memory
 pub record MapState : Type 0 where
-  pub entries : List MapEntry
+  pub entries : List (MapEntry (List ℕ))
   pub spare : ℕ
   pub room : ℕ
 
 -- the entry is of this pair
-abbrev pub is_pair : ObjectType → ℕ → MapEntry → Bool
+abbrev pub is_pair : {V : Type 0} → ObjectType → ℕ → MapEntry V → Bool
 is_pair ty id e = same_type e.ty ty && e.id == id
 
 -- there is an entry of the pair
-abbrev pub has_pair : List MapEntry → ObjectType → ℕ → Bool
+abbrev pub has_pair : {V : Type 0} → List (MapEntry V) → ObjectType → ℕ → Bool
 has_pair entries ty id = list_any (is_pair ty id) entries
 
 -- the values of a pair, where it has an entry
-abbrev pub values_of : List MapEntry → ObjectType → ℕ → Option (List ℕ)
+abbrev pub values_of : {V : Type 0} → List (MapEntry V) → ObjectType → ℕ → Option V
 values_of entries ty id = option_map (λ e. e.values) (find (is_pair ty id) entries)
 
 -- the pair has these values now: in its place, or last where it is new
-abbrev pub with_values : List MapEntry → ObjectType → ℕ → List ℕ → List MapEntry
+abbrev pub with_values : {V : Type 0} → List (MapEntry V) → ObjectType → ℕ → V → List (MapEntry V)
 with_values [] ty id values = record { ty = ty; id = id; values = values } ∷ []
 with_values (e ∷ entries) ty id values = if is_pair ty id e then record e { values = values } ∷ entries else e ∷ with_values entries ty id values
 
 -- no pair stands twice
-abbrev pub AreDistinct : List MapEntry → Type 0
+abbrev pub AreDistinct : {V : Type 0} → List (MapEntry V) → Type 0
 AreDistinct [] = Unit {0}
 AreDistinct (e ∷ entries) = (has_pair entries e.ty e.id ≡ false) × AreDistinct entries
 
 -- the greatest id, or 0 where there is no entry
-abbrev pub greatest_id : List MapEntry → ℕ
+abbrev pub greatest_id : {V : Type 0} → List (MapEntry V) → ℕ
 greatest_id [] = 0
 greatest_id (e ∷ entries) = max e.id (greatest_id entries)
 

@@ -3,7 +3,7 @@ use Rattle.std.proofs.Common.{◌≡◌, ◌∙◌, ℕ, ◌+◌, ◌<◌, List,
 use Rattle.std.specs.List.{flat_map}
 use Rattle.std.proofs.lemmas.List.{take_more, map-append, take-append-drop}
 use Rattle.std.proofs.lemmas.List.Concat.{flat_map-append}
-use Rattle.layer_search.specs.Causes.{IsOwnError, IsNoLimit, ErrorHasCause, MeetsLimit}
+use Rattle.layer_search.specs.Causes.{IsNoLimit, MeetsLimit}
 use Rattle.layer_search.specs.Order.{firsts}
 use Rattle.layer_search.specs.declared.errors.SearchError.{SearchError}
 use Rattle.layer_search.specs.declared.errors.SearchError.TheVariants.{Tree, TooMany, NoMemory}

@@ -2,5 +2,9 @@ pub mod Objects
 pub mod History
 pub mod Rules
 pub mod Uses
+pub mod Findings
+pub mod Keys
+pub mod Values
+pub mod Routes
 pub mod Renaming
 pub mod Samples

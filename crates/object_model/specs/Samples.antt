@@ -1,4 +1,4 @@
--- A small history: an instance, its physical device, a device, and on that a buffer and a descriptor pool with one set. Source: this project.
+-- A small history: an instance, its physical device, a device, and on that a buffer and a descriptor pool with one set; and two drivers' answers. Source: this project.
 use Rattle.std.specs.Prelude.{ℕ, List, [], ◌∷◌, map}
 use Rattle.command_tables.specs.declared.types.CommandId.{CommandId}
 use Rattle.command_tables.specs.declared.types.CommandId.TheVariants as cmd
@@ -6,6 +6,7 @@ use Rattle.command_tables.specs.declared.types.ObjectType.TheVariants as ty
 use Rattle.object_model.specs.declared.Object.{Object}
 use Rattle.object_model.specs.declared.Argument.TheVariants.{The}
 use Rattle.object_model.specs.History.{Call, Returns, History}
+use Rattle.object_model.specs.Values.{Answered}
 
 -- the instance
 abbrev pub instance : Object
@@ -45,3 +46,7 @@ sample =
 -- all of them
 abbrev pub all : List Object
 all = instance ∷ physical_device ∷ device ∷ buffer ∷ pool ∷ set ∷ []
+
+-- what two drivers answered
+abbrev pub answers : List Answered
+answers = record { driver = 0; handles = 7 ∷ [] } ∷ record { driver = 1; handles = 8 ∷ [] } ∷ []

@@ -28,6 +28,24 @@ pub enum Argument {
     The(Object),
 }
 
+/// A checking or wrapping part of a layer. The parts of a chain are numbered from 1, from the application down.
+#[derive(Clone, Copy, Debug, PartialEq, Eq)]
+pub enum PartKind {
+    /// Reports uses that overlap between threads.
+    Threads,
+    /// Reports arguments that don't live or have another owner, and parents that are destroyed before their children.
+    Lifetimes,
+    /// Gives the layers above it handles of its own.
+    Unique,
+}
+
+/// An object and the number, from 0, of the driver that calls on it go to.
+#[derive(Clone, Copy, Debug, PartialEq, Eq)]
+pub struct Routed {
+    pub object: Object,
+    pub driver: u32,
+}
+
 /// An object is alive exactly where it is born and no call that isn't skipped, begun after its first birth, has ended it.
 pub fn alive_is_born_and_not_ended()
     ensures { (h : History) (o : Object) → alive h o ≡ (is_born h o && not (is_ended h o)) }

@@ -7,8 +7,9 @@ ghost use Rattle.command_tables.specs.declared.types.Rule.TheVariants as rule;
 ghost use Rattle.object_model.specs.History.{Begins, Returns, alive, births, children, ends_by, owners_in};
 ghost use Rattle.object_model.specs.Objects.{are_same, same};
 ghost use Rattle.object_model.specs.Rules.{failure, failures, failures_in};
-ghost use Rattle.object_model.specs.Samples.{all, buffer, call, device, instance, physical_device, pool, sample, set};
+ghost use Rattle.object_model.specs.Samples.{all, answers, buffer, call, device, instance, physical_device, pool, sample, set};
 ghost use Rattle.object_model.specs.Uses.{overlaps, use_of, uses, uses_in};
+ghost use Rattle.object_model.specs.Values.{values_answered};
 ghost use Rattle.object_model.specs.declared.Argument.TheVariants.{The, Unborn};
 
 /// Objects of two types are two, whatever their numbers; and what isn't there is the same as nothing.
@@ -91,4 +92,12 @@ pub fn an_object_without_a_birth()
     ensures unused { uses [] (call 1 1 cmd.DestroyBuffer (device ∷ buffer ∷ [])) ≡ [] }
     ensures used { uses_in (births sample) (λ o. false) cmd.DestroyBuffer ((The device ∷ []) ∷ (The buffer ∷ []) ∷ [])
         ≡ use_of 0 0 false device ∷ use_of 1 0 true buffer ∷ [] }
+{}
+
+/// A physical device has the one handle of its own driver, any other object the handle in its place of each driver that answered.
+pub fn the_values_of_a_result()
+    ensures physical_device { values_answered cmd.EnumeratePhysicalDevices answers 1
+        ≡ record { driver = 1; value = 8 } ∷ [] }
+    ensures other { values_answered cmd.CreateXcbSurfaceKHR answers 0
+        ≡ record { driver = 0; value = 7 } ∷ record { driver = 1; value = 8 } ∷ [] }
 {}

@@ -20,11 +20,14 @@ use Rattle.object_model.specs.Objects.{same, first_in}
 use Rattle.object_model.specs.History.{Call, Birth, births, alive}
 use Rattle.object_model.specs.Rules.{Failure, loader_failures}
 use Rattle.replay_model.specs.declared.Born.{Born}
-use Rattle.replay_model.specs.declared.Routed.{Routed}
-use Rattle.replay_model.specs.Past.{Opened, Began, Returned, Past, Retrieval, is_skipped, is_of, is_new, is_routed, open_calls, routed, routed_of, routed_by, named, calls_in, history, retrievals, arguments_in}
-use Rattle.replay_model.specs.ChainPlaces.{Findings, checked, findings, parts_checked, parts_in_force, is_failing, at_place}
+use Rattle.object_model.specs.declared.Routed.{Routed}
+use Rattle.replay_model.specs.Past.{Opened, Began, Returned, Past, Retrieval, is_skipped, is_of, is_new, open_calls, routed, routed_of, routed_by, named, calls_in, history, retrievals, arguments_in}
+use Rattle.object_model.specs.Routes.{is_routed}
+use Rattle.replay_model.specs.ChainPlaces.{checked, findings, parts_checked, parts_in_force}
+use Rattle.object_model.specs.Findings.{Findings, is_failing, at_place}
 use Rattle.replay_model.specs.Births.{bears, bearable, made_by, result_object}
-use Rattle.replay_model.specs.Judged.{Begun, begun_of, made_of, returned_by, judge, judged, receivers, driver_in, is_refused}
+use Rattle.replay_model.specs.Judged.{Begun, begun_of, made_of, returned_by, judge, judged, is_refused}
+use Rattle.object_model.specs.Routes.{receivers, driver_in}
 use Rattle.replay_core.specs.Setups.{one_driver}
 use Rattle.replay_core.specs.Kept.{stop_where, sent_to, begun_with, begun_from}
 

@@ -5,7 +5,7 @@ use Rattle.command_tables.specs.Table.{ParamSpec}
 use Rattle.object_model.specs.declared.Object.{Object}
 use Rattle.object_model.specs.declared.Argument.{Argument}
 use Rattle.object_model.specs.Rules.{Failure, parameter_holds, unless, failure, loader_failures}
-use Rattle.replay_model.specs.ChainPlaces.{is_failing}
+use Rattle.object_model.specs.Findings.{is_failing}
 
 pub failing_unless : (t : Bool) (f : Failure) → is_failing (unless t f) ≡ not t
 failing_unless true f = refl

@@ -15,7 +15,8 @@ use Rattle.replay_model.specs.declared.Born.{Born}
 use Rattle.replay_model.specs.Past.{Opened, Past, Began, Returned, is_skipped, is_of, open_calls, history, named, named_of, objects_of, calls_in}
 use Rattle.replay_model.specs.Births.{made_by}
 use Rattle.replay_model.specs.Judged.{Begun, returned_by, judged, begun_of, made_of}
-use Rattle.replay_model.specs.Direct.{Answered, Sent, sent, valued, before_call, own_replies, answers_to, answers_of}
+use Rattle.replay_model.specs.Direct.{Sent, sent, valued, before_call, own_replies, answers_to, answers_of}
+use Rattle.object_model.specs.Values.{Answered}
 use Rattle.replay_core.specs.Setups.{one_driver}
 use Rattle.session_tables.specs.Population.{LivesToo}
 use Rattle.replay_core.specs.Kept.{Kept, after_begin, after_return, begun_from, begun_at, made_at, given_at, answered_by, LivesOn}

@@ -17,11 +17,13 @@ use Rattle.object_model.specs.Rules.{failure, loader_failures}
 use Rattle.replay_model.specs.declared.Named.{Named}
 use Rattle.replay_model.specs.declared.Born.{Born}
 use Rattle.std.specs.Option.{option_map_or}
-use Rattle.replay_model.specs.Past.{Past, Opened, Report, Began, Returned, Retrieval, is_of, named_of, objects_of, retrieved_by, arguments_in}
-use Rattle.replay_model.specs.ChainPlaces.{is_failing, at_place}
+use Rattle.replay_model.specs.Past.{Past, Opened, Began, Returned, Retrieval, is_of, named_of, objects_of, retrieved_by, arguments_in}
+use Rattle.object_model.specs.Findings.{Report}
+use Rattle.object_model.specs.Findings.{is_failing, at_place}
 use Rattle.replay_model.specs.Births.{made_by}
 use Rattle.replay_model.specs.Judged.{Begun, judged, begun_of, made_of}
-use Rattle.replay_model.specs.Direct.{Answered, Sent, Valued, valued, valued_of, driver_call, before_call, own_replies, answers_to, begin_exchanges, exchanges_at, sends_at}
+use Rattle.replay_model.specs.Direct.{Sent, Valued, valued, valued_of, driver_call, before_call, own_replies, answers_to, begin_exchanges, exchanges_at, sends_at}
+use Rattle.object_model.specs.Values.{Answered}
 use Rattle.replay_model.specs.Text.{chain_text, report_text, written_at, return_text, judged_lines}
 use Rattle.replay_core.specs.Setups.{one_driver}
 use Rattle.session_tables.specs.Population.{LivesToo}

@@ -13,7 +13,8 @@ use Rattle.object_model.specs.History.{Birth}
 use Rattle.replay_model.specs.declared.Born.{Born}
 use Rattle.replay_model.specs.Past.{Opened, Retrieval, is_skipped, owner_by}
 use Rattle.replay_model.specs.Births.{bears, bearable, born_with, made_by, result_object, owner_lives}
-use Rattle.replay_model.specs.Direct.{Answered, Valued, valued_of, handle_at}
+use Rattle.replay_model.specs.Direct.{Valued, valued_of}
+use Rattle.object_model.specs.Values.{Answered, handle_at}
 use Rattle.replay_core.specs.Kept.{answered_by, sent_to, stop_where}
 use Rattle.replay_core.specs.Shown.{opened_of, valued_with}
 use Rattle.replay_core.specs.declared.call.OpenCall.{OpenCall}

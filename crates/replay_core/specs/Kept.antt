@@ -10,10 +10,11 @@ use Rattle.object_model.specs.Rules.{Failure, loader_failures}
 use Rattle.replay_model.specs.declared.Named.{Named}
 use Rattle.replay_model.specs.declared.Born.{Born}
 use Rattle.replay_model.specs.Past.{Opened, Retrieval, is_skipped, is_of, named_of, objects_of, retrieved_by, arguments_in}
-use Rattle.replay_model.specs.ChainPlaces.{is_failing, at_place}
+use Rattle.object_model.specs.Findings.{is_failing, at_place}
 use Rattle.replay_model.specs.Births.{made_by}
 use Rattle.replay_model.specs.Judged.{Begun}
-use Rattle.replay_model.specs.Direct.{Answered, Sent, Valued, valued_of}
+use Rattle.replay_model.specs.Direct.{Sent, Valued, valued_of}
+use Rattle.object_model.specs.Values.{Answered}
 
 -- the numbers of calls, skipped calls and reports; the names with their objects; the values of each born name's object; all births, with their owners;
 -- the objects that live, in any order; the retrieved objects with their keys; and the open calls with what was answered

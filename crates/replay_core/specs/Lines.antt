@@ -7,7 +7,7 @@ use Rattle.command_tables.specs.Table.{row_of}
 use Rattle.trace_format.specs.declared.event.Name.{Name}
 use Rattle.trace_format.specs.Content.{Arg}
 use Rattle.object_model.specs.Rules.{failure}
-use Rattle.replay_model.specs.Past.{Report}
+use Rattle.object_model.specs.Findings.{Report}
 use Rattle.replay_model.specs.Text.{report_line}
 
 -- the name in the first place, where there is one

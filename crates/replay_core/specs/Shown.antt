@@ -2,7 +2,8 @@
 use Rattle.std.specs.Prelude.{ℕ, false, List, [], ◌∷◌}
 use Rattle.replay_model.specs.declared.Born.{Born}
 use Rattle.replay_model.specs.Past.{Opened}
-use Rattle.replay_model.specs.Direct.{Sent, Valued, handle_at}
+use Rattle.replay_model.specs.Direct.{Sent, Valued}
+use Rattle.object_model.specs.Values.{handle_at}
 use Rattle.session_tables.specs.Shown.{args_shown}
 use Rattle.replay_core.specs.declared.call.OpenCall.{OpenCall}
 use Rattle.replay_core.specs.Kept.{stop_where, sent_to, answered_by}

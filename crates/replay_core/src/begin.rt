@@ -4,7 +4,7 @@ ghost use Rattle.command_tables.specs.Table.{row_of, seen, seen_param};
 ghost use Rattle.object_model.specs.Objects.{is_in};
 ghost use Rattle.object_model.specs.Rules.{parameter_holds, loader_failures, unless};
 ghost use Rattle.trace_format.specs.Content.{arg_content};
-ghost use Rattle.replay_model.specs.ChainPlaces.{is_failing};
+ghost use Rattle.object_model.specs.Findings.{is_failing};
 ghost use Rattle.replay_core.specs.Kept.{begun_from};
 ghost use Rattle.replay_core.specs.Lines.{first_name};
 ghost use Rattle.session_tables.specs.Shown.{args_shown};

@@ -15,7 +15,8 @@ use Rattle.object_model.specs.declared.Object.{Object}
 use Rattle.object_model.specs.declared.Argument.{Argument}
 use Rattle.object_model.specs.History.{Birth, births_given, births, is_born, alive}
 use Rattle.replay_model.specs.declared.Born.{Born}
-use Rattle.replay_model.specs.Past.{Opened, Report, Began, Returned, Past, is_skipped, is_of, open_calls, named, history, Retrieval, retrieved_by, retrieves, retrievals, routed}
+use Rattle.replay_model.specs.Past.{Opened, Began, Returned, Past, is_skipped, is_of, open_calls, named, history, Retrieval, retrieved_by, retrieves, retrievals, routed}
+use Rattle.object_model.specs.Findings.{Report}
 use Rattle.replay_model.specs.Births.{made_by}
 use Rattle.replay_model.specs.Direct.{before_call, own_replies, answers_to, Sent, sent, answers_of, valued, direct, exchanges}
 use Rattle.replay_model.specs.Text.{skipped_in}

@@ -15,7 +15,8 @@ use Rattle.object_model.specs.Rules.{Failure, loader_failures}
 use Rattle.replay_model.specs.Setup.{Setup}
 use Rattle.replay_model.specs.Past.{Opened, Began, Returned, Past, is_skipped, is_of, open_calls, calls_in, named, arguments_in, history, routed}
 use Rattle.replay_model.specs.ChainPlaces.{parts_in_force, Checked, parts_checked, checked, findings}
-use Rattle.replay_model.specs.Judged.{receivers, is_refused, begun_of, made_of, returned_by, judge, judged}
+use Rattle.replay_model.specs.Judged.{is_refused, begun_of, made_of, returned_by, judge, judged}
+use Rattle.object_model.specs.Routes.{receivers}
 use Rattle.replay_model.specs.Less.{less, no_layers}
 use Rattle.replay_model.proofs.Accepted.{BeginsIdle}
 use Rattle.replay_model.proofs.OpenCalls.{OneEach, one-append, one-filter, not_of, found_thread}

@@ -15,12 +15,14 @@ use Rattle.object_model.specs.declared.Object.{Object}
 use Rattle.object_model.specs.Objects.{same, first_in}
 use Rattle.object_model.specs.History.{Birth, births, alive}
 use Rattle.replay_model.specs.declared.Born.{Born}
-use Rattle.replay_model.specs.declared.Routed.{Routed}
+use Rattle.object_model.specs.declared.Routed.{Routed}
 use Rattle.replay_model.specs.Setup.{Setup}
-use Rattle.replay_model.specs.Past.{Opened, Retrieval, is_of, open_calls, calls_in, named, arguments_in, history, retrievals, is_routed, is_new, driver_behind, routed_of, routed_by, routed}
+use Rattle.replay_model.specs.Past.{Opened, Retrieval, is_of, open_calls, calls_in, named, arguments_in, history, retrievals, is_new, routed_of, routed_by, routed}
+use Rattle.object_model.specs.Routes.{is_routed, driver_behind}
 use Rattle.replay_model.specs.Births.{bears, born_with, bearable, made_by, result_object}
 use Rattle.replay_model.specs.ChainPlaces.{checked, findings}
-use Rattle.replay_model.specs.Judged.{driver_in, receivers, is_refused, begun_of, made_of, returned_by, judged}
+use Rattle.replay_model.specs.Judged.{is_refused, begun_of, made_of, returned_by, judged}
+use Rattle.object_model.specs.Routes.{driver_in, receivers}
 
 -- the first driver of a call, and 0 where it has none
 abbrev first_driver : List ℕ → ℕ
@@ -73,7 +75,7 @@ in_first bs kept o results = go (type_made (row_of o.cmd).effect) results
     go (Some t) (n ∷ results) = (refl, tt)
 
 -- the driver behind what a call bears is driver 0
-behind : (o : Opened) (made : List Born) → first_driver o.drivers ≡ 0 → (same_command o.cmd cmd.EnumeratePhysicalDevices ≡ true → InFirst made) → AllByRecursion (λ b. driver_behind o b ≡ 0) made
+behind : (o : Opened) (made : List Born) → first_driver o.drivers ≡ 0 → (same_command o.cmd cmd.EnumeratePhysicalDevices ≡ true → InFirst made) → AllByRecursion (λ b. driver_behind o.cmd o.drivers b.place ≡ 0) made
 behind o [] f p = tt
 behind o (b ∷ made) f p = (go (same_command o.cmd cmd.EnumeratePhysicalDevices) (λ e. (p e).0), behind o made f (λ e. (p e).1))
   where
@@ -81,7 +83,7 @@ behind o (b ∷ made) f p = (go (same_command o.cmd cmd.EnumeratePhysicalDevices
     go true p = p refl
     go false p = f
 
-mapped : (o : Opened) (made : List Born) → AllByRecursion (λ b. driver_behind o b ≡ 0) made → AllBehind (map (routed_of o) made)
+mapped : (o : Opened) (made : List Born) → AllByRecursion (λ b. driver_behind o.cmd o.drivers b.place ≡ 0) made → AllBehind (map (routed_of o) made)
 mapped o [] a = tt
 mapped o (b ∷ made) a = (a.0, mapped o made a.1)
 
@@ -122,7 +124,7 @@ one_driver s (Return t ∷ before) n = go (find (is_of t) (open_calls (judged s 
         let made = made_of s past o in
         let first : same_command o.cmd cmd.EnumeratePhysicalDevices ≡ true → InFirst (made_of s past o) = λ e. made_first s.drivers bs (alive (history past)) (retrievals past) o n e in
         let all = behind o made (found t (open_calls past) o ih.0 f) first in
-        let kept = all-filter (λ b. driver_behind o b ≡ 0) (λ b. is_routed b.object.ty && is_new bs b) made all in (
+        let kept = all-filter (λ b. driver_behind o.cmd o.drivers b.place ≡ 0) (λ b. is_routed b.object.ty && is_new bs b) made all in (
           all-filter (λ c. first_driver c.drivers ≡ 0) (λ c. not (is_of o.thread c)) (open_calls past) ih.0,
           all-append (λ r. r.driver ≡ 0) (routed past) (routed_by bs o made) ih.1 (mapped o (filter (λ b. is_routed b.object.ty && is_new bs b) made) kept),
         )

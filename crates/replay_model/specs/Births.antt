@@ -18,7 +18,8 @@ use Rattle.object_model.specs.declared.Object.{Object}
 use Rattle.object_model.specs.Objects.{are_same}
 use Rattle.object_model.specs.History.{Birth}
 use Rattle.replay_model.specs.declared.Born.{Born}
-use Rattle.replay_model.specs.Past.{Opened, is_skipped, Retrieval, key_payload, owner_by}
+use Rattle.replay_model.specs.Past.{Opened, is_skipped, Retrieval, owner_by}
+use Rattle.object_model.specs.Keys.{key_payload}
 
 -- the owner lives, or the call makes an instance, which has none
 abbrev pub owner_lives : (Object → Bool) → CommandId → Option Object → Bool

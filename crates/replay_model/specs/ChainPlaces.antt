@@ -1,6 +1,6 @@
 -- Which call comes to which place of the chain, and what is reported there.
 -- Source: Khronos Vulkan-Loader interface documents (a call passes from the application down through the layers' parts). That a reported call goes no further is this project's.
-use Rattle.std.specs.Prelude.{ℕ, ◌+◌, Bool, true, false, not, ◌&&◌, if◌then◌else◌, ◌==◌, nat_le, Option, Some, None, List, [], ◌∷◌, ◌++◌, map}
+use Rattle.std.specs.Prelude.{ℕ, ◌+◌, Bool, true, false, not, ◌&&◌, if◌then◌else◌, ◌==◌, nat_le, Some, None, List, [], ◌∷◌}
 use Rattle.std.specs.Option.{option_map_or}
 use Rattle.command_tables.specs.Effects.{succeeds}
 use Rattle.command_tables.specs.declared.types.CommandId.TheVariants as cmd
@@ -9,10 +9,11 @@ use Rattle.command_tables.specs.Tests.{same_command}
 use Rattle.object_model.specs.History.{Call, Begins, Returns, History, alive}
 use Rattle.object_model.specs.Rules.{Failure, failures, loader_failures}
 use Rattle.object_model.specs.Uses.{overlaps}
-use Rattle.replay_model.specs.declared.PartKind.{PartKind}
-use Rattle.replay_model.specs.declared.PartKind.TheVariants as part
+use Rattle.object_model.specs.Findings.{Findings, at_place, is_failing, above}
+use Rattle.object_model.specs.declared.PartKind.{PartKind}
+use Rattle.object_model.specs.declared.PartKind.TheVariants as part
 use Rattle.replay_model.specs.Setup.{Setup, parts_of}
-use Rattle.replay_model.specs.Past.{Opened, Report, Began, Returned, Past, is_skipped, call_of, objects_of, history}
+use Rattle.replay_model.specs.Past.{Opened, Began, Returned, Past, is_skipped, call_of, objects_of, history}
 
 -- ---- what a place is given
 
@@ -59,24 +60,6 @@ loader_checked past call = record { place = 0; skips = true; failures = loader_f
 -- what each place finds at a call, from the loader down
 abbrev pub checked : Setup → Past → Call → List Checked
 checked s past call = loader_checked past call ∷ parts_checked past call 1 (parts_in_force s past)
-
--- the reports at a call, and the place that stops it
-pub record Findings : Type 0 where
-  pub reports : List Report
-  pub stop : Option ℕ
-
--- failures at a place
-abbrev pub at_place : ℕ → List Failure → List Report
-at_place k fs = map (λ f. record { place = k; failure = f }) fs
-
--- there is a failure
-abbrev pub is_failing : List Failure → Bool
-is_failing [] = false
-is_failing (f ∷ fs) = true
-
--- the findings of a place come before those of the places below it
-abbrev pub above : List Report → Findings → Findings
-above reports below = record { reports = reports ++ below.reports; stop = below.stop }
 
 -- The reports in order of the places, down to the first place that finds something and skips the call. A threads part stops nothing.
 abbrev pub findings : List Checked → Findings

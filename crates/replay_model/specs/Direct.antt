@@ -1,16 +1,15 @@
 -- What the drivers are told, by what they answered. Replies stand newest first, one for each driver call; a begin takes as many as it has drivers.
 -- Source: this project; a handle that a driver answered is what it is told (Khronos Vulkan-Loader interface documents, "Driver interface").
-use Rattle.std.specs.Prelude.{ℕ, ◌+◌, not, if◌then◌else◌, ◌==◌, List, [], ◌∷◌, ◌++◌, map, filter, find, length, slice_get, unwrap_or, take, drop, reverse}
+use Rattle.std.specs.Prelude.{ℕ, ◌+◌, not, List, [], ◌∷◌, ◌++◌, map, filter, find, length, take, drop, reverse}
 use Rattle.std.specs.List.{zip}
 use Rattle.std.specs.Option.{option_map_or}
-use Rattle.command_tables.specs.declared.types.CommandId.TheVariants as cmd
 use Rattle.command_tables.specs.Calls.{DriverCallContent, ReplyContent}
-use Rattle.command_tables.specs.Tests.{same_command}
 use Rattle.trace_format.specs.Content.{TraceEvent, Begin, Return}
 use Rattle.object_model.specs.declared.Object.{Object}
 use Rattle.object_model.specs.declared.Argument.{Argument}
 use Rattle.object_model.specs.declared.Argument.TheVariants.{Null, Unborn, The}
 use Rattle.object_model.specs.Objects.{same}
+use Rattle.object_model.specs.Values.{Answered, Value, asked_of_each, values_answered, value_for}
 use Rattle.replay_model.specs.declared.Born.{Born}
 use Rattle.replay_model.specs.Setup.{Setup}
 use Rattle.replay_model.specs.Past.{Opened, Began, Returned, Past, is_of}
@@ -27,11 +26,6 @@ abbrev pub own_replies : Opened → List ReplyContent → List ReplyContent
 own_replies o replies = reverse (take (length o.drivers) replies)
 
 -- ---- values
-
--- a driver with the handles that it answered
-pub record Answered : Type 0 where
-  pub driver : ℕ
-  pub handles : List ℕ
 
 -- what each driver of a call answered
 abbrev pub answers_to : Opened → List ReplyContent → List Answered
@@ -52,28 +46,14 @@ sent (Returned o made ∷ past) replies = filter (λ c. not (is_of o.thread c.op
 abbrev pub answers_of : List Sent → ℕ → List Answered
 answers_of calls thread = option_map_or (λ c. c.answers) (find (λ c. is_of thread c.opened) calls) []
 
--- a driver's value for an object
-pub record Value : Type 0 where
-  pub driver : ℕ
-  pub value : ℕ
-
 -- an object with the values that one call gave for it
 pub record Valued : Type 0 where
   pub object : Object
   pub values : List Value
 
--- the handle in a place, and 0 where none was answered
-abbrev pub handle_at : ℕ → Answered → Value
-handle_at k a = record { driver = a.driver; value = unwrap_or (slice_get a.handles k) 0 }
-
--- The values of a born result: the handle in its place of each driver. A physical device's is the one handle of the driver whose number is its place.
-abbrev pub values_given : Opened → List Answered → ℕ → List Value
-values_given o answers place =
-    if same_command o.cmd cmd.EnumeratePhysicalDevices then map (handle_at 0) (filter (λ a. a.driver == place) answers) else map (handle_at place) answers
-
 -- a born result's object with its values
 abbrev pub valued_of : Opened → List Answered → Born → Valued
-valued_of o answers b = record { object = b.object; values = values_given o answers b.place }
+valued_of o answers b = record { object = b.object; values = values_answered o.cmd answers b.place }
 
 -- for each born name its object's values, also of objects that have ended
 abbrev pub valued : Past → List ReplyContent → List Valued
@@ -84,14 +64,6 @@ valued (Returned o made ∷ past) replies = valued past replies ++ map (valued_o
 -- the values of an object by the last returned call at which a name of it was born
 abbrev pub last_values : List Valued → Object → List Value
 last_values values o = option_map_or (λ v. v.values) (find (λ v. same v.object o) (reverse values)) []
-
--- the first of these values, and 0 where there is none
-abbrev pub first_value : List Value → ℕ
-first_value values = option_map_or (λ v. v.value) (slice_get values 0) 0
-
--- a driver's own value, and where it has none that of the driver that has
-abbrev pub value_for : ℕ → List Value → ℕ
-value_for driver values = option_map_or (λ v. v.value) (find (λ v. v.driver == driver) values) (first_value values)
 
 -- what a driver is told for an argument: 0 for null and for a name that isn't born
 abbrev pub value_in : List Valued → ℕ → Argument → ℕ
@@ -108,7 +80,7 @@ driver_call values o driver =
       driver = driver;
       cmd = o.cmd;
       args = map (map (value_in values driver)) o.args;
-      asked = if same_command o.cmd cmd.EnumeratePhysicalDevices then 1 else length o.results;
+      asked = asked_of_each o.cmd (length o.results);
       code = o.code;
       payload = o.payload;
     }

@@ -1,33 +1,20 @@
 -- The events of a trace, each judged by those before it. Source: this project.
 use Rattle.std.specs.Prelude.{ℕ, ◌+◌, Bool, ◌&&◌, ◌||◌, if◌then◌else◌, Option, Some, None, is_some, List, [], ◌∷◌, find}
-use Rattle.std.specs.List.{range_with_len}
-use Rattle.std.specs.Option.{option_map_or}
 use Rattle.command_tables.specs.declared.types.CommandId.{CommandId}
 use Rattle.command_tables.specs.declared.types.CommandId.TheVariants as cmd
-use Rattle.command_tables.specs.declared.types.ObjectType.TheVariants as ty
-use Rattle.command_tables.specs.Tests.{same_command, same_type}
+use Rattle.command_tables.specs.Tests.{same_command}
 use Rattle.trace_format.specs.Content.{BeginEvent, TraceEvent, Begin, Return}
-use Rattle.object_model.specs.declared.Object.{Object}
-use Rattle.object_model.specs.Objects.{same, first_in}
+use Rattle.object_model.specs.Objects.{first_in}
 use Rattle.object_model.specs.History.{Call, births, alive}
 use Rattle.replay_model.specs.declared.Named.{Named}
 use Rattle.replay_model.specs.declared.Born.{Born}
-use Rattle.replay_model.specs.declared.Routed.{Routed}
+use Rattle.object_model.specs.declared.Routed.{Routed}
+use Rattle.object_model.specs.Routes.{receivers}
 use Rattle.replay_model.specs.Setup.{Setup, refusal_of}
-use Rattle.replay_model.specs.Past.{Opened, Report, Began, Returned, Past, calls_in, is_of, open_calls, named, arguments_in, history, retrievals, routed}
+use Rattle.replay_model.specs.Past.{Opened, Began, Returned, Past, calls_in, is_of, open_calls, named, arguments_in, history, retrievals, routed}
+use Rattle.object_model.specs.Findings.{Report}
 use Rattle.replay_model.specs.Births.{made_by}
 use Rattle.replay_model.specs.ChainPlaces.{Checked, checked, findings}
-
--- ---- which drivers a call goes to
-
--- the driver behind an object
-abbrev pub driver_in : List Routed → Object → ℕ
-driver_in routes o = option_map_or (λ r. r.driver) (find (λ r. same r.object o) routes) 0
-
--- A vkCreateInstance, and a call whose first argument is an instance, goes to every driver in order; any other call to the driver behind its first argument.
-abbrev pub receivers : ℕ → List Routed → Option Object → List ℕ
-receivers drivers routes None = range_with_len 0 drivers
-receivers drivers routes (Some o) = if same_type o.ty ty.Instance then range_with_len 0 drivers else driver_in routes o ∷ []
 
 -- ---- a begin
 

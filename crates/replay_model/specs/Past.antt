@@ -1,28 +1,25 @@
 -- The judged past of a list of events, and the flat lists that later events read of it. Events and what is judged stand newest first, all other lists oldest first.
 -- Source: this project (the trace); Vulkan 1.3 specification, "Fundamentals", section "Object Lifetime" (births, owners).
-use Rattle.std.specs.Prelude.{ℕ, ◌+◌, Bool, true, false, not, ◌&&◌, ◌||◌, if◌then◌else◌, ◌==◌, Option, Some, None, is_some, List, [], ◌∷◌, ◌++◌, map, filter, find, slice_get, unwrap_or}
+use Rattle.std.specs.Prelude.{ℕ, ◌+◌, Bool, true, false, not, ◌&&◌, ◌||◌, if◌then◌else◌, ◌==◌, Option, Some, None, is_some, List, [], ◌∷◌, ◌++◌, map, filter, find, slice_get}
 use Rattle.std.specs.Option.{option_map, option_map_or}
 use Rattle.command_tables.specs.declared.types.CommandId.{CommandId}
-use Rattle.command_tables.specs.declared.types.CommandId.TheVariants as cmd
 use Rattle.command_tables.specs.declared.types.Code.{Code}
-use Rattle.command_tables.specs.declared.types.ObjectType.{ObjectType}
-use Rattle.command_tables.specs.declared.types.ObjectType.TheVariants as ty
 use Rattle.command_tables.specs.declared.types.Effect.{Effect}
 use Rattle.command_tables.specs.declared.types.Effect.TheVariants as eff
-use Rattle.command_tables.specs.Facts.{is_dispatchable}
 use Rattle.command_tables.specs.Table.{row_of}
-use Rattle.command_tables.specs.Tests.{same_command, same_type}
 use Rattle.trace_format.specs.declared.event.Name.{Name}
 use Rattle.trace_format.specs.Accepting.{same_name}
 use Rattle.trace_format.specs.Content.{Arg, BeginEvent}
 use Rattle.object_model.specs.declared.Object.{Object}
 use Rattle.object_model.specs.declared.Argument.{Argument}
+use Rattle.object_model.specs.declared.Routed.{Routed}
 use Rattle.object_model.specs.declared.Argument.TheVariants.{Null, Unborn, The}
 use Rattle.object_model.specs.History.{Call, Begins, Returns, History, Birth, born_in, births, owners_given}
-use Rattle.object_model.specs.Rules.{Failure}
+use Rattle.object_model.specs.Findings.{Report}
+use Rattle.object_model.specs.Keys.{key_payload}
+use Rattle.object_model.specs.Routes.{driver_behind, is_routed}
 use Rattle.replay_model.specs.declared.Named.{Named}
 use Rattle.replay_model.specs.declared.Born.{Born}
-use Rattle.replay_model.specs.declared.Routed.{Routed}
 
 -- A call as it was judged at its begin, which is all that its return and later events read of it: its arguments as the objects that they stand for there,
 -- the place that stops it, whether its chain is refused, and the drivers that it is sent to.
@@ -37,11 +34,6 @@ pub record Opened : Type 0 where
   pub stop : Option ℕ
   pub refused : Bool
   pub drivers : List ℕ
-
--- a failure that a place reports: the loader is place 0, the parts of the chain are numbered from 1, from the application down
-pub record Report : Type 0 where
-  pub place : ℕ
-  pub failure : Failure
 
 -- a begin as it was judged, with its reports; or a return, with the results that were born
 pub data Judged : Type 0 where
@@ -124,10 +116,6 @@ pub record Retrieval : Type 0 where
   pub payload : List ℕ
   pub object : Object
 
--- the payload as far as it is part of the key
-abbrev pub key_payload : CommandId → List ℕ → List ℕ
-key_payload c payload = if same_command c cmd.GetDeviceQueue then payload else []
-
 -- the owner of what a call makes, bound by its arguments as they were at its begin
 abbrev pub owner_by : List Birth → List (List Argument) → Effect → Option Object
 owner_by births args (eff.Create t owner many) = slice_get (owners_given births args owner) 0
@@ -160,17 +148,9 @@ retrievals (Returned o made ∷ past) = retrievals past ++ retrieved_by (births 
 
 -- ---- the drivers behind objects
 
--- a call on an object of this type goes to one driver
-abbrev pub is_routed : ObjectType → Bool
-is_routed t = is_dispatchable t && not (same_type t ty.Instance)
-
--- the driver behind a born object: a physical device's place is its driver's number, any other object's driver is the one that received the call
-abbrev pub driver_behind : Opened → Born → ℕ
-driver_behind o b = if same_command o.cmd cmd.EnumeratePhysicalDevices then b.place else unwrap_or (slice_get o.drivers 0) 0
-
 -- a born object with the driver behind it
 abbrev pub routed_of : Opened → Born → Routed
-routed_of o b = record { object = b.object; driver = driver_behind o b }
+routed_of o b = record { object = b.object; driver = driver_behind o.cmd o.drivers b.place }
 
 -- the objects that a call bears first, each with the driver behind it
 abbrev pub routed_by : List Birth → Opened → List Born → List Routed

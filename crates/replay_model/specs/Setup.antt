@@ -2,7 +2,7 @@
 -- Source: Khronos Vulkan-Loader interface documents (a chain of layers is built at vkCreateInstance); that a chain may be refused, and with which codes, is this project's.
 use Rattle.std.specs.Prelude.{ℕ, Option, Some, None, List, []}
 use Rattle.command_tables.specs.declared.types.Code.{Code}
-use Rattle.replay_model.specs.declared.PartKind.{PartKind}
+use Rattle.object_model.specs.declared.PartKind.{PartKind}
 
 -- What comes of a vkCreateInstance: a chain, by its checking and wrapping parts from the application down, with the text of its lines for the call's number;
 -- a refusal, with the code that is answered and its text; or a chain of too many layers, with their number, at which a run ends.

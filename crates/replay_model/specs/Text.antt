@@ -16,7 +16,8 @@ use Rattle.trace_format.specs.declared.event.Name.{Name}
 use Rattle.trace_format.specs.Grammar.{one_text, code_text}
 use Rattle.trace_format.specs.Content.{Arg, BeginEvent, TraceEvent, Begin, Return}
 use Rattle.replay_model.specs.Setup.{Setup, refusal_of, outcome_text}
-use Rattle.replay_model.specs.Past.{Opened, Report, Judged, Began, Returned, Past, is_skipped, is_of, open_calls, calls_in}
+use Rattle.replay_model.specs.Past.{Opened, Judged, Began, Returned, Past, is_skipped, is_of, open_calls, calls_in}
+use Rattle.object_model.specs.Findings.{Report}
 use Rattle.replay_model.specs.Judged.{begun_of, made_of}
 
 -- ---- reports

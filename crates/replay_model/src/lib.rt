@@ -14,7 +14,8 @@ ghost use Rattle.trace_format.specs.Accepting.{calls_begun};
 ghost use Rattle.trace_format.specs.Content.{TraceEvent};
 ghost use Rattle.replay_model.specs.Setup.{Setup};
 ghost use Rattle.replay_model.specs.Past.{Past, calls_in, is_of, open_calls, routed};
-ghost use Rattle.replay_model.specs.Judged.{driver_in, judge, judged};
+ghost use Rattle.replay_model.specs.Judged.{judge, judged};
+ghost use Rattle.object_model.specs.Routes.{driver_in};
 ghost use Rattle.replay_model.specs.ChainPlaces.{parts_in_force};
 ghost use Rattle.replay_model.specs.Direct.{direct, exchanges, exchanges_at, sends_at, sends_in};
 ghost use Rattle.replay_model.specs.Text.{lines, lines_at, skipped_in};
@@ -29,17 +30,6 @@ use trace_format::Name;
 /// How many bytes of a trace are replayed so far. A longer one stops at its first line.
 pub const MOST_BYTES: usize = 1_048_576;
 
-/// A checking or wrapping part of a layer. The parts of a chain are numbered from 1, from the application down.
-#[derive(Clone, Copy, Debug, PartialEq, Eq)]
-pub enum PartKind {
-    /// Reports uses that overlap between threads.
-    Threads,
-    /// Reports arguments that don't live or have another owner, and parents that are destroyed before their children.
-    Lifetimes,
-    /// Gives the layers above it handles of its own.
-    Unique,
-}
-
 /// A name and the object for which it stands.
 #[derive(Clone, Copy, Debug, PartialEq, Eq)]
 pub struct Named {
@@ -53,13 +43,6 @@ pub struct Born {
     pub place: usize,
     pub name: Name,
     pub object: Object,
-}
-
-/// An object and the number, from 0, of the driver that calls on it go to.
-#[derive(Clone, Copy, Debug, PartialEq, Eq)]
-pub struct Routed {
-    pub object: Object,
-    pub driver: u32,
 }
 
 /// Without its skipped calls a trace tells the drivers the same, whatever layers there were: what they are told is what the trace

@@ -6,13 +6,14 @@ ghost use Rattle.command_tables.specs.declared.types.ObjectType.TheVariants as t
 ghost use Rattle.command_tables.specs.declared.types.Rule.TheVariants as rule;
 ghost use Rattle.object_model.specs.History.{alive, births};
 ghost use Rattle.object_model.specs.Rules.{failure};
-ghost use Rattle.object_model.specs.Samples.{buffer, call, device, instance, sample};
+ghost use Rattle.object_model.specs.Samples.{answers, buffer, call, device, sample};
 ghost use Rattle.object_model.specs.declared.Argument.TheVariants.{The};
 ghost use Rattle.replay_model.specs.Births.{made_by, own_object};
-ghost use Rattle.replay_model.specs.Direct.{answers_to, own_replies, value_for, value_in, values_given};
+ghost use Rattle.replay_model.specs.Direct.{answers_to, own_replies, value_in};
+ghost use Rattle.object_model.specs.Values.{value_for};
 ghost use Rattle.replay_model.specs.Past.{Began, history};
 ghost use Rattle.replay_model.specs.ChainPlaces.{loader_checked};
-ghost use Rattle.replay_model.specs.Samples.{answers, device_made, name, opened};
+ghost use Rattle.replay_model.specs.Samples.{device_made, name, opened};
 ghost use Rattle.trace_format.specs.Content.{BeginEvent};
 
 /// A result is born where its owner lives at the return, and is lost where it doesn't.
@@ -32,14 +33,6 @@ pub fn a_skipped_destroy_ends_nothing()
 pub fn the_loader_checks_the_first_argument_alone()
     ensures dead { (loader_checked [] (call 2 1 cmd.DestroyBuffer (device ∷ buffer ∷ []))).failures ≡ failure 0 0 rule.Parameter 0 ∷ [] }
     ensures living { (loader_checked device_made (call 2 1 cmd.DestroyBuffer (device ∷ buffer ∷ []))).failures ≡ [] }
-{}
-
-/// A physical device has the one handle of its own driver, any other object the handle in its place of each driver that answered.
-pub fn the_values_of_a_result()
-    ensures physical_device { values_given (opened cmd.EnumeratePhysicalDevices ((The instance ∷ []) ∷ [])) answers 1
-        ≡ record { driver = 1; value = 8 } ∷ [] }
-    ensures other { values_given (opened cmd.CreateXcbSurfaceKHR ((The instance ∷ []) ∷ [])) answers 0
-        ≡ record { driver = 0; value = 7 } ∷ record { driver = 1; value = 8 } ∷ [] }
 {}
 
 /// A driver is told its own value, or that of the driver that has one; of several calls the last counts.

@@ -1,8 +1,8 @@
 -- The setups of the small traces, and what a trace that makes a device prints first in them. Source: this project.
 use Rattle.std.specs.Prelude.{ℕ, Bool, true, false, if◌then◌else◌, List, [], ◌∷◌, ◌++◌, codes, decimal}
 use Rattle.command_tables.specs.declared.types.Code.TheVariants as code
-use Rattle.replay_model.specs.declared.PartKind.{PartKind}
-use Rattle.replay_model.specs.declared.PartKind.TheVariants as part
+use Rattle.object_model.specs.declared.PartKind.{PartKind}
+use Rattle.object_model.specs.declared.PartKind.TheVariants as part
 use Rattle.replay_model.specs.Setup.{Setup, Chain, Refused}
 use Rattle.replay_rows.specs.Traces.{said}
 

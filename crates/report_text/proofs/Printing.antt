@@ -6,8 +6,8 @@ use Rattle.std.proofs.lemmas.List.Elements.{All-append, All-map}
 use Rattle.std.specs.Str.{bytes_eq}
 use Rattle.layer_search.specs.Contents.{DriverFound, LayerFound}
 use Rattle.chain_build.specs.Setup.{SetupContent}
-use Rattle.chain_build.specs.declared.parts.PartKind.{PartKind}
-use Rattle.chain_build.specs.declared.parts.PartKind.TheVariants.{Threads, Lifetimes, Unique}
+use Rattle.object_model.specs.declared.PartKind.{PartKind}
+use Rattle.object_model.specs.declared.PartKind.TheVariants.{Threads, Lifetimes, Unique}
 use Rattle.chain_build.specs.Parts.{last_component, layer_parts, library_parts, placed_parts, first_unguarded}
 use Rattle.chain_build.specs.Chain.{NoteOf, ChainContent, Outcome, TooLong, guarded_or, chain_with, driven, present_or, chain_of, chain_layers, chain_notes, is_missing}
 use Rattle.report_text.specs.Chains.{IsCounted, IsPrintable}

@@ -3,8 +3,8 @@ use Rattle.std.specs.Prelude.{ℕ, ◌-◌, ◌<◌, ◌≤◌, ◌^◌, All, Li
 use Rattle.std.specs.List.{flat_map, enumerate_from}
 use Rattle.std.specs.Option.{option_map_or}
 use Rattle.layer_search.specs.Contents.{DriverFound, LayerFound}
-use Rattle.chain_build.specs.declared.parts.PartKind.{PartKind}
-use Rattle.chain_build.specs.declared.parts.PartKind.TheVariants.{Threads, Lifetimes, Unique}
+use Rattle.object_model.specs.declared.PartKind.{PartKind}
+use Rattle.object_model.specs.declared.PartKind.TheVariants.{Threads, Lifetimes, Unique}
 use Rattle.chain_build.specs.Chain.{NoteOf, EnvMissing, Off, ChainContent, Outcome, LayerNotPresent, NoDriver, TooLong, Unguarded, Built}
 use Rattle.report_text.specs.Libraries.{library_text}
 

@@ -4,7 +4,7 @@ use Rattle.layer_search.specs.Contents.{DriverFound, LayerFound, NoteContent}
 use Rattle.layer_search.specs.declared.found.NoteKind.{NoteKind}
 use Rattle.chain_build.specs.Chain.{ChainContent, EnvMissing, Off}
 use Rattle.chain_build.specs.Setup.{SetupContent}
-use Rattle.chain_build.specs.declared.parts.PartKind.TheVariants.{Threads, Unique}
+use Rattle.object_model.specs.declared.PartKind.TheVariants.{Threads, Unique}
 
 -- a layer without a library
 abbrev pub layer : List ℕ → List ℕ → LayerFound

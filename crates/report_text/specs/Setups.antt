@@ -4,21 +4,11 @@
 use Rattle.std.specs.Prelude.{ℕ, List, length, map}
 use Rattle.command_tables.specs.declared.types.Code.TheVariants.{ErrorLayerNotPresent, ErrorIncompatibleDriver, ErrorInitializationFailed}
 use Rattle.env_filters.specs.Entries.{layer_names_of}
-use Rattle.chain_build.specs.declared.parts.PartKind.{PartKind as Part}
-use Rattle.chain_build.specs.declared.parts.PartKind.TheVariants as part
 use Rattle.chain_build.specs.Chain as built
 use Rattle.chain_build.specs.Setup.{SetupContent}
-use Rattle.replay_model.specs.declared.PartKind.{PartKind}
-use Rattle.replay_model.specs.declared.PartKind.TheVariants as kind
 use Rattle.replay_model.specs.Setup.{Setup, Outcome, Chain, Refused, TooLong}
 use Rattle.report_text.specs.Chains.{answer_text}
 use Rattle.report_text.specs.Notes.{setup_notes}
-
--- a part of a chain, as traces are judged by it
-abbrev pub part_kind : Part → PartKind
-part_kind part.Threads = kind.Threads
-part_kind part.Lifetimes = kind.Lifetimes
-part_kind part.Unique = kind.Unique
 
 -- what comes of building a chain, as traces are judged by it
 abbrev pub outcome_of : built.Outcome → Outcome
@@ -26,7 +16,7 @@ outcome_of (built.LayerNotPresent name) = Refused ErrorLayerNotPresent (λ call.
 outcome_of built.NoDriver = Refused ErrorIncompatibleDriver (λ call. answer_text call built.NoDriver)
 outcome_of (built.TooLong layers) = TooLong layers
 outcome_of (built.Unguarded layer) = Refused ErrorInitializationFailed (λ call. answer_text call (built.Unguarded layer))
-outcome_of (built.Built chain) = Chain (map (λ p. part_kind p.0) chain.parts) (λ call. answer_text call (built.Built chain))
+outcome_of (built.Built chain) = Chain (map (λ p. p.0) chain.parts) (λ call. answer_text call (built.Built chain))
 
 -- the setup under which a trace is judged
 abbrev pub trace_setup : SetupContent → Setup

@@ -6,7 +6,8 @@ use Rattle.std.proofs.lemmas.List.{reverse-append, map-append}
 use Rattle.std.specs.Prelude.{unwrap_or}
 use Rattle.object_model.specs.declared.Object.{Object}
 use Rattle.object_model.specs.Objects.{same}
-use Rattle.replay_model.specs.Direct.{Valued, last_values, value_for}
+use Rattle.replay_model.specs.Direct.{Valued, last_values}
+use Rattle.object_model.specs.Values.{value_for}
 use Rattle.session_tables.specs.declared.value_table.ValueEntry.{ValueEntry}
 use Rattle.session_tables.specs.Shown.{value_of, values_shown, last_value}
 use Rattle.session_tables.proofs.Lists.{find_map, mapped}

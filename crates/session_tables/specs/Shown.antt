@@ -5,7 +5,8 @@ use Rattle.object_model.specs.declared.Object.{Object}
 use Rattle.object_model.specs.Objects.{same}
 use Rattle.object_model.specs.declared.Argument.{Argument}
 use Rattle.trace_format.specs.declared.event.Name.{Name}
-use Rattle.replay_model.specs.Direct.{Valued, Value}
+use Rattle.replay_model.specs.Direct.{Valued}
+use Rattle.object_model.specs.Values.{Value}
 use Rattle.session_tables.specs.Dense.{cell}
 use Rattle.session_tables.specs.declared.value_table.ValueEntry.{ValueEntry}
 

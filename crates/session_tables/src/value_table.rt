@@ -1,6 +1,7 @@
 // What the driver answered for objects.
 ghost use Rattle.std.specs.Prelude.{◌≡◌, ◌++◌, ◌∷◌, [], OnOk, OnErr};
-ghost use Rattle.replay_model.specs.Direct.{last_values, value_for};
+ghost use Rattle.replay_model.specs.Direct.{last_values};
+ghost use Rattle.object_model.specs.Values.{value_for};
 ghost use Rattle.session_tables.specs.Shown.{value_of};
 
 use crate::object_map::ObjectMap;

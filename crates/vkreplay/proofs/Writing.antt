@@ -15,7 +15,7 @@ use Rattle.vkreplay.proofs.SaidLemmas.{all_of_both, front_more, front_behind}
 use Rattle.vkreplay.specs.Showing.{ChainRun, Shows, ShowsSetup, WroteAll, WroteFront, WroteSome, Writes}
 
 -- the pieces of two lists
-concat_append : (xs ys : List (List ℕ)) → concat (xs ++ ys) ≡ concat xs ++ concat ys
+pub concat_append : (xs ys : List (List ℕ)) → concat (xs ++ ys) ≡ concat xs ++ concat ys
 concat_append [] ys = refl
 concat_append (x ∷ xs) ys = ap (λ t. x ++ t) (concat_append xs ys) ∙ sym (append_assoc x (concat xs) (concat ys))
 

@@ -4,3 +4,4 @@ pub mod Output
 pub mod Statuses
 pub mod Outcome
 pub mod Exits
+pub mod Environment

@@ -155,3 +155,8 @@ pub record Keeps (p : Process) (s : Status) (session : Option Kept) : Type 0 whe
 abbrev pub IsPrepared : Option Asked → Status → Option Policy → Option Policy → Type 0
 IsPrepared (Some (AsksRun asked)) s old new = (new ≡ prepared old asked.policy) ⊎ ((s ≡ status.NoMemory) × (new ≡ old))
 IsPrepared other s old new = new ≡ old
+
+-- A tree is as it was, but where the words ask for a chain.
+abbrev pub IsLeftBy : {T : Type 0} → Option Asked → T → T → Type 0
+IsLeftBy (Some (AsksChain asked)) old new = ⊤
+IsLeftBy other old new = new ≡ old

@@ -11,7 +11,10 @@ mod chain;
 mod chain_tests;
 mod environment;
 #[cfg(test)]
+mod environment_tests;
+#[cfg(test)]
 mod fault_tests;
+mod laws;
 mod process;
 mod say;
 #[cfg(test)]

@@ -1,7 +1,8 @@
 // From what the process was started with to its exit status.
 ghost use Rattle.replay_base.specs.Changes.{changed};
 ghost use Rattle.replay_core.specs.Replayed.{run_of};
-ghost use Rattle.vkreplay.specs.Exits.{Exits};
+ghost use Rattle.vkreplay.specs.Exits.{Exits, asked_by};
+ghost use Rattle.vkreplay.specs.Outcome.{IsLeftBy};
 ghost use Rattle.vkreplay.specs.Showing.{tree_seen};
 
 use crate::top::{refuse_words, replay_main};
@@ -19,7 +20,8 @@ pub struct Invocation {
 }
 
 /// Runs the program on what the process was started with, and answers its exit status, 0 to 7. Where that can't be had nothing
-/// but the line of the status is said: `Usage` where a word isn't UTF-8.
+/// but the line of the status is said: `Usage` where a word isn't UTF-8. The driver is prepared, and the tree read, as
+/// `replay_main` does it.
 pub fn exit_status<T: Tree, S: Source, K: Sink, L: Sink, D: Driver>(
     alloc: Global,
     given: Result<Invocation, WordsError>,
@@ -29,12 +31,13 @@ pub fn exit_status<T: Tree, S: Source, K: Sink, L: Sink, D: Driver>(
     errs: &mut L,
     driver: &mut D,
 ) -> u8
-    ensures { let seen = tree_seen (T.files tree.old) (T.faults tree.old) (T.faults tree.new) in
+    ensures exits { let seen = tree_seen (T.files tree.old) (T.faults tree.old) (T.faults tree.new) in
         let source = changed (S.left trace.old) (S.left trace.new) (S.faults trace.old) (S.faults trace.new) in
         let sink = changed (K.held out.old) (K.held out.new) (K.faults out.old) (K.faults out.new) in
         let run = run_of source (D.log driver.old) (D.log driver.new) sink in
         let said = changed (L.held errs.old) (L.held errs.new) (L.faults errs.old) (L.faults errs.new) in
-        Exits given (record { tree = seen; run = run; errs = said }) result }
+        Exits given (record { tree = seen; run = run; errs = said; policy_before = D.answers_by driver.old; policy = D.answers_by driver.new }) result }
+    ensures tree { IsLeftBy (asked_by given) tree.old tree.new }
 {
     match given {
         Ok(given) => {

@@ -6,7 +6,7 @@ ghost use Rattle.replay_core.specs.Replayed.{run_of};
 ghost use Rattle.program_words.specs.Asked.{words_ask};
 ghost use Rattle.program_words.specs.Content.{words_of};
 ghost use Rattle.program_words.specs.Meant.{chain_meant};
-ghost use Rattle.vkreplay.specs.Outcome.{EndsRun, IsPrepared, Keeps, ShowEnds};
+ghost use Rattle.vkreplay.specs.Outcome.{EndsRun, IsLeftBy, IsPrepared, Keeps, ShowEnds};
 ghost use Rattle.vkreplay.specs.Output.{end_status};
 ghost use Rattle.vkreplay.specs.Said.{Said};
 ghost use Rattle.vkreplay.specs.Showing.{chain_run, tree_seen};
@@ -159,6 +159,8 @@ pub fn replay_main<T: Tree, S: Source, K: Sink, L: Sink, D: Driver>(
         Keeps (record { words = words_of words.now; env = env.now; tree = seen; run = run; errs = said }) result.status result.session }
     // The driver is prepared by these words alone.
     ensures prepared { IsPrepared (words_ask (words_of words.now)) result.status (D.answers_by driver.old) (D.answers_by driver.new) }
+    // No method of the tree is called but for a chain.
+    ensures tree { IsLeftBy (words_ask (words_of words.now)) tree.old tree.new }
 {
     match read_words(alloc, words) {
         Ok(Request::Run(run)) => replay_with(alloc, run.policy, trace, out, errs, driver),

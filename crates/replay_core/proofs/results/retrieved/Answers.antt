@@ -1,6 +1,7 @@
 use Rattle.std.proofs.Common.{◌∙◌, ap, sym, Option}
 use Rattle.std.specs.Option.{option_map_or}
-use Rattle.replay_model.specs.Past.{Retrieval, key_payload}
+use Rattle.replay_model.specs.Past.{Retrieval}
+use Rattle.object_model.specs.Keys.{key_payload}
 use Rattle.replay_model.specs.Births.{own_object, retrieved_object}
 use Rattle.object_model.specs.declared.Object.{Object}
 use Rattle.replay_core.specs.Shown.{opened_of}

@@ -1,6 +1,6 @@
 use Rattle.std.proofs.Common.{map, refl}
 use Rattle.layer_search.specs.Contents.{found_layer}
-use Rattle.chain_build.specs.declared.parts.PartKind.TheVariants.{Threads}
+use Rattle.object_model.specs.declared.PartKind.TheVariants.{Threads}
 use Rattle.report_text.specs.Chains.{part_line}
 use Rattle.report_text.proofs.Numbers.{one_more}
 use Rattle.report_text.proofs.chains.put_parts.Goals as goal

@@ -1,0 +1,4 @@
+pub mod Reports
+pub mod Histories
+pub mod Calls
+pub mod Quiet

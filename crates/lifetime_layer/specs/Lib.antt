@@ -1,0 +1,3 @@
+pub mod Shape
+pub mod Reports
+pub mod State

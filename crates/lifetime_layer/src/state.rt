@@ -1,0 +1,112 @@
+//! A lifetimes part: what it says of a call on its way down, and what it takes in of results.
+ghost use Rattle.std.specs.Prelude.{◌≡◌, ◌++◌, ◌∷◌, ℕ, [], if◌then◌else◌, false, length, IfOk, IsOk, OnErr, OnOk};
+ghost use Rattle.object_model.specs.Findings.{at_place, is_failing};
+ghost use Rattle.object_model.specs.History.{Begins, History, Returns};
+ghost use Rattle.object_model.specs.Rules.{failures};
+ghost use Rattle.layer_model.specs.Histories.{LifeMirrors};
+ghost use Rattle.layer_model.specs.Parts.{life_failures, life_leave, life_passed};
+ghost use Rattle.object_records.specs.Shape.{AreNewOnce, HasParams, arguments_of, made_of};
+ghost use Rattle.lifetime_layer.specs.Reports.{reports_of};
+ghost use Rattle.lifetime_layer.specs.Shape.{HasFewPlaces, call_read};
+
+use crate::checks::check_call;
+use crate::finding::Finding;
+use crate::verdict::Verdict;
+use command_tables::{LayerCall, NoMemory};
+use object_records::ObjectRecords;
+use std::alloc::Global;
+use std::marker::Model;
+
+/// What a lifetimes part keeps: its place in the chain, and the objects that it was told of, each known by its type and its handle.
+#[derive(Drop)]
+pub struct LifeState {
+    place: u32,
+    records: ObjectRecords,
+}
+
+impl Model for LifeState {
+    ghost use Rattle.lifetime_layer.specs.State.{LifePart};
+
+    ghost Value = { LifePart };
+
+    ghost view = { λ s. record { place = s.place; kept = s.records } };
+}
+
+impl LifeState {
+    /// Nothing is born yet. Places of a chain are numbered from 1, from the application down.
+    pub fn new(alloc: Global, place: u32) -> LifeState
+        ensures { result ≡ record { place = place; kept = record { births = []; living = [] } } }
+    {
+        LifeState {
+            place,
+            records: ObjectRecords::new(alloc),
+        }
+    }
+
+    // Adds what is found at a call, and answers whether anything is.
+    #[tactic(auto, using(crate::proofs::Reports::is_more, crate::proofs::Reports::is_none, crate::proofs::Reports::quiet_where))]
+    fn check(&self, call: &LayerCall, findings: &mut Vec<Finding>) -> Result<bool, NoMemory>
+        requires shape { HasParams call.now }
+        requires few { HasFewPlaces call.now }
+        ensures found { OnOk result (reports_of findings.new.items ≡ reports_of findings.old.items ++ at_place self.now.place (life_failures self.now.kept call.now.cmd (arguments_of call.now))) }
+        ensures quiet { is_failing (life_failures self.now.kept call.now.cmd (arguments_of call.now)) ≡ false → IsOk result }
+        ensures failing { IfOk result (λ fails. fails ≡ is_failing (life_failures self.now.kept call.now.cmd (arguments_of call.now))) }
+    {
+        let before = findings.len();
+        check_call(&self.records, self.place, call, findings)?;
+        Ok(before < findings.len())
+    }
+
+    // What a call ends lives no longer, unless it is skipped.
+    fn pass(&mut self, call: &LayerCall, skip: bool)
+        requires { HasParams call.now }
+        ensures place { self.new.place ≡ self.old.place }
+        ensures kept { self.new.kept ≡ (if skip then self.old.kept else life_passed self.old.kept call.now.cmd (arguments_of call.now)) }
+    {
+        if !skip {
+            self.records.end(call);
+        }
+    }
+
+    /// Takes in a call on its way down. What is found goes behind the verdict's findings, in the order of the arguments; the call is
+    /// skipped where there is any, and else what it ends lives no longer. Takes no memory but for findings; after `NoMemory` the
+    /// findings may hold a part of what was found.
+    pub fn enter(&mut self, call: &LayerCall, verdict: &mut Verdict) -> Result<(), NoMemory>
+        requires shape { HasParams call.now }
+        requires few { HasFewPlaces call.now }
+        ensures found { OnOk result (reports_of verdict.new.findings.items ≡ reports_of verdict.old.findings.items ++ at_place self.old.place (life_failures self.old.kept call.now.cmd (arguments_of call.now))) }
+        ensures skip { OnOk result (verdict.new.skip ≡ is_failing (life_failures self.old.kept call.now.cmd (arguments_of call.now))) }
+        ensures kept { OnOk result (self.new.kept ≡ (if verdict.new.skip then self.old.kept else life_passed self.old.kept call.now.cmd (arguments_of call.now))) }
+        ensures place { self.new.place ≡ self.old.place }
+        ensures err { OnErr result (self.new ≡ self.old) }
+        ensures quiet { is_failing (life_failures self.old.kept call.now.cmd (arguments_of call.now)) ≡ false → IsOk result }
+        ensures finds { OnOk result ((h : History) (number thread : ℕ) → LifeMirrors h self.old.kept →
+            reports_of verdict.new.findings.items ≡ reports_of verdict.old.findings.items ++ at_place self.old.place (failures h (call_read number thread call.now))) }
+        ensures stands { OnOk result ((h : History) (number thread : ℕ) → LifeMirrors h self.old.kept →
+            LifeMirrors (Begins (call_read number thread call.now) verdict.new.skip ∷ h) self.new.kept) }
+    {
+        verdict.skip = self.check(call, &mut verdict.findings)?;
+        self.pass(call, verdict.skip);
+        Ok(())
+    }
+
+    /// Takes in the results of a call, by the call as it stood above the part: each that isn't 0 and wasn't born is born and lives.
+    pub fn leave(&mut self, call: &LayerCall, results: &[u64]) -> Result<(), NoMemory>
+        requires shape { HasParams call.now }
+        requires once { AreNewOnce self.old.kept.births (made_of call.now results.now) }
+        ensures kept { OnOk result (self.new.kept ≡ life_leave self.old.kept call.now.cmd (arguments_of call.now) (made_of call.now results.now)) }
+        ensures place { self.new.place ≡ self.old.place }
+        ensures stands { OnOk result ((h : History) (number thread : ℕ) → LifeMirrors h self.old.kept →
+            LifeMirrors (Returns (call_read number thread call.now) (made_of call.now results.now) ∷ h) self.new.kept) }
+    {
+        self.records.bear(call, results)?;
+        Ok(())
+    }
+
+    /// How many objects live.
+    pub fn live_count(&self) -> usize
+        ensures { result ≡ length self.now.kept.living }
+    {
+        self.records.live_count()
+    }
+}

@@ -1,0 +1,63 @@
+-- Records in order of birth, found by the type and the handle of their object. Source: this project.
+use Rattle.std.specs.Prelude.{◌≡◌, ◌≤◌, ℕ, zero, suc, false, if◌then◌else◌, Option, Some, None, List, [], ◌∷◌, map, find}
+use Rattle.std.specs.List.{list_any}
+use Rattle.handle_map.specs.Pairs.{MapEntry}
+use Rattle.object_model.specs.declared.Object.{Object}
+use Rattle.object_model.specs.Objects.{same}
+use Rattle.object_records.specs.declared.kept_owner.KeptOwner.{KeptOwner}
+use Rattle.object_records.specs.declared.kept_owner.KeptOwner.TheVariants.{Nobody, At, Unborn}
+use Rattle.object_records.specs.declared.record.ObjectRecord.{ObjectRecord}
+
+-- all records, the oldest first, and how many further ones can be held with no further memory
+pub record TableState : Type 0 where
+  pub records : List ObjectRecord
+  pub spare : ℕ
+
+-- the index: under each object's pair the place of its record, counted from this number on
+abbrev pub entries_from : ℕ → List ObjectRecord → List (MapEntry (List ℕ))
+entries_from k [] = []
+entries_from k (r ∷ rs) = record { ty = r.object.ty; id = r.object.number; values = k ∷ [] } ∷ entries_from (suc k) rs
+
+-- how many records must stand before what has this owner
+abbrev pub before_owned : KeptOwner → ℕ
+before_owned Nobody = 0
+before_owned (At place) = suc place
+before_owned (Unborn o) = 0
+
+-- the owner of each record stands before it; the first record has this place
+abbrev pub AreOwnersBefore : ℕ → List ObjectRecord → Type 0
+AreOwnersBefore k [] = Unit {0}
+AreOwnersBefore k (r ∷ rs) = (before_owned r.owner ≤ k) × AreOwnersBefore (suc k) rs
+
+-- the index fits the records, and their owners stand before them
+pub record IsTable (records : List ObjectRecord) (entries : List (MapEntry (List ℕ))) : Type 0 where
+  pub indexed : entries ≡ entries_from 0 records
+  pub owners : AreOwnersBefore 0 records
+
+-- the objects of the records
+abbrev pub objects_kept : List ObjectRecord → List Object
+objects_kept rs = map (λ r. r.object) rs
+
+-- the place of an object among others, counted from this number on
+abbrev pub place_from : ℕ → List Object → Object → Option ℕ
+place_from k [] o = None
+place_from k (x ∷ xs) o = if same x o then Some k else place_from (suc k) xs o
+
+-- the place of an object's record
+abbrev pub place_in : List ObjectRecord → Object → Option ℕ
+place_in rs o = place_from 0 (objects_kept rs) o
+
+-- the record of an object
+abbrev pub record_in : List ObjectRecord → Object → Option ObjectRecord
+record_in rs o = find (λ r. same r.object o) rs
+
+-- no object stands twice
+abbrev pub AreOnce : List Object → Type 0
+AreOnce [] = Unit {0}
+AreOnce (x ∷ xs) = (list_any (λ y. same y x) xs ≡ false) × AreOnce xs
+
+-- the record at a place lives no longer
+abbrev pub ended_at : List ObjectRecord → ℕ → List ObjectRecord
+ended_at [] place = []
+ended_at (r ∷ rs) zero = record r { lives = false } ∷ rs
+ended_at (r ∷ rs) (suc place) = r ∷ ended_at rs place

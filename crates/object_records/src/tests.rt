@@ -1,0 +1,226 @@
+//! A small history: an instance, its physical device, a device, and on that a descriptor pool with two sets.
+ghost use Rattle.std.specs.Prelude.{◌≡◌, ◌≤◌, length, IfOk};
+ghost use Rattle.object_records.specs.Shape.{HasParams};
+
+use crate::{ObjectRecords, argument_at, count_places, first_argument};
+use command_tables::{CommandId, LayerCall, ObjectType, row};
+use object_model::{Argument, Object};
+use std::alloc::Global;
+use std::test::Fail;
+
+// A call with these handles in each of its parameters.
+fn call_of(alloc: Global, cmd: CommandId, params: &[&[u64]]) -> Result<LayerCall, Fail>
+    requires { length params.now ≤ 6 }
+    ensures { IfOk result (λ call. HasParams call) }
+{
+    if params.len() != row(cmd).params.len() {
+        return Err("another number of parameters".into());
+    }
+    let mut call = LayerCall::with_room(alloc, 0, 0).ok().ok_or("memory")?;
+    call.cmd = cmd;
+    for p in 0..params.len() {
+        call.args.push_param(params[p]).ok().ok_or("memory")?;
+    }
+    Ok(call)
+}
+
+// A call comes back with one result.
+#[tactic(auto, using(crate::proofs::Once::one_once))]
+fn bear(
+    alloc: Global,
+    records: &mut ObjectRecords,
+    cmd: CommandId,
+    params: &[&[u64]],
+    handle: u64,
+) -> Result<(), Fail>
+    requires { length params.now ≤ 6 }
+{
+    let call = call_of(alloc, cmd, params)?;
+    records.bear(&call, &[handle]).ok().ok_or("memory")?;
+    Ok(())
+}
+
+// Two sets of the pool come back, and a lost one between them.
+#[tactic(auto, using(crate::proofs::Once::two_once))]
+fn bear_sets(alloc: Global, records: &mut ObjectRecords) -> Result<(), Fail> {
+    let call = call_of(
+        alloc,
+        CommandId::AllocateDescriptorSets,
+        &[&[3], &[4], &[7, 7]],
+    )?;
+    records.bear(&call, &[5, 0, 6]).ok().ok_or("memory")?;
+    Ok(())
+}
+
+// A call that isn't skipped goes down.
+fn end(
+    alloc: Global,
+    records: &mut ObjectRecords,
+    cmd: CommandId,
+    params: &[&[u64]],
+) -> Result<(), Fail>
+    requires { length params.now ≤ 6 }
+{
+    let call = call_of(alloc, cmd, params)?;
+    records.end(&call);
+    Ok(())
+}
+
+const INSTANCE: Object = Object {
+    ty: ObjectType::Instance,
+    number: 1,
+};
+
+const PHYSICAL_DEVICE: Object = Object {
+    ty: ObjectType::PhysicalDevice,
+    number: 2,
+};
+
+const DEVICE: Object = Object {
+    ty: ObjectType::Device,
+    number: 3,
+};
+
+const POOL: Object = Object {
+    ty: ObjectType::DescriptorPool,
+    number: 4,
+};
+
+const FIRST_SET: Object = Object {
+    ty: ObjectType::DescriptorSet,
+    number: 5,
+};
+
+const SECOND_SET: Object = Object {
+    ty: ObjectType::DescriptorSet,
+    number: 6,
+};
+
+// The results of the first three calls.
+fn with_device(alloc: Global) -> Result<ObjectRecords, Fail> {
+    let mut records = ObjectRecords::new(alloc);
+    bear(alloc, &mut records, CommandId::CreateInstance, &[], 1)?;
+    bear(
+        alloc,
+        &mut records,
+        CommandId::EnumeratePhysicalDevices,
+        &[&[1]],
+        2,
+    )?;
+    bear(alloc, &mut records, CommandId::CreateDevice, &[&[2]], 3)?;
+    Ok(records)
+}
+
+fn small_history(alloc: Global) -> Result<ObjectRecords, Fail> {
+    let mut records = with_device(alloc)?;
+    bear(
+        alloc,
+        &mut records,
+        CommandId::CreateDescriptorPool,
+        &[&[3]],
+        4,
+    )?;
+    bear_sets(alloc, &mut records)?;
+    Ok(records)
+}
+
+#[test]
+fn what_is_kept_of_each_object(rt: HostRuntime) -> Result<(), Fail> {
+    let records = small_history(rt.alloc())?;
+    assert_eq!(rt; records.live_count(), 6);
+    assert!(rt; records.is_born(INSTANCE) && records.is_created(INSTANCE));
+    assert!(rt; records.is_born(PHYSICAL_DEVICE) && !records.is_created(PHYSICAL_DEVICE));
+    assert!(rt;
+        !records.is_born(Object {
+            ty: ObjectType::Buffer,
+            number: 4
+        })
+    );
+    assert_eq!(rt; records.owner(INSTANCE), None);
+    assert_eq!(rt; records.owner(PHYSICAL_DEVICE), Some(INSTANCE));
+    assert_eq!(rt; records.owner(DEVICE), Some(INSTANCE));
+    assert_eq!(rt; records.owner(SECOND_SET), Some(POOL));
+    assert_eq!(rt; records.device(FIRST_SET), Some(DEVICE));
+    assert_eq!(rt; records.device(DEVICE), Some(DEVICE));
+    assert_eq!(rt; records.device(PHYSICAL_DEVICE), None);
+    assert_eq!(rt; records.count_children(INSTANCE), 1);
+    assert_eq!(rt; records.count_children(DEVICE), 1);
+    assert_eq!(rt; records.count_children(POOL), 2);
+    Ok(())
+}
+
+#[test]
+fn what_an_object_owns_is_listed_behind_the_rest(rt: HostRuntime) -> Result<(), Fail> {
+    let records = small_history(rt.alloc())?;
+    let mut owned = Vec::new(rt.alloc());
+    owned.push(DEVICE)?;
+    records
+        .list_owned(ObjectType::DescriptorSet, POOL, &mut owned)
+        .ok()
+        .ok_or("memory")?;
+    assert_eq!(rt;
+        owned.as_slice(),
+        [DEVICE, FIRST_SET, SECOND_SET].as_slice()
+    );
+    Ok(())
+}
+
+#[test]
+fn a_reset_ends_the_sets_alone(rt: HostRuntime) -> Result<(), Fail> {
+    let mut records = small_history(rt.alloc())?;
+    end(
+        rt.alloc(),
+        &mut records,
+        CommandId::ResetDescriptorPool,
+        &[&[3], &[4]],
+    )?;
+    assert!(rt; records.is_alive(POOL) && !records.is_alive(FIRST_SET));
+    assert!(rt; records.is_born(FIRST_SET));
+    assert_eq!(rt; records.live_count(), 4);
+    assert_eq!(rt; records.count_children(POOL), 0);
+    Ok(())
+}
+
+#[test]
+fn a_free_ends_what_it_names(rt: HostRuntime) -> Result<(), Fail> {
+    let mut records = small_history(rt.alloc())?;
+    end(
+        rt.alloc(),
+        &mut records,
+        CommandId::FreeDescriptorSets,
+        &[&[3], &[4], &[0, 6]],
+    )?;
+    assert!(rt; records.is_alive(FIRST_SET) && !records.is_alive(SECOND_SET));
+    Ok(())
+}
+
+#[test]
+fn an_instance_takes_all_with_it(rt: HostRuntime) -> Result<(), Fail> {
+    let mut records = small_history(rt.alloc())?;
+    end(
+        rt.alloc(),
+        &mut records,
+        CommandId::DestroyInstance,
+        &[&[1]],
+    )?;
+    assert_eq!(rt; records.live_count(), 0);
+    Ok(())
+}
+
+#[test]
+fn a_call_is_read_by_its_handles(rt: HostRuntime) -> Result<(), Fail> {
+    let call = call_of(
+        rt.alloc(),
+        CommandId::FreeDescriptorSets,
+        &[&[3], &[4], &[0, 6]],
+    )?;
+    assert_eq!(rt; count_places(&call, 2), 2);
+    assert_eq!(rt; count_places(&call, 3), 0);
+    assert_eq!(rt; first_argument(&call, 0), Some(DEVICE));
+    assert_eq!(rt; first_argument(&call, 2), None);
+    for k in 0..count_places(&call, 2) {
+        let known = argument_at(&call, 2, k);
+        assert!(rt; known == Argument::Null || known == Argument::The(SECOND_SET));
+    }
+    Ok(())
+}

@@ -1,0 +1,5 @@
+mod ClockMoves
+pub mod Laws
+mod LogMoves
+mod Reading
+mod Rest

@@ -1,0 +1,4 @@
+use Rattle.stream_log.proofs.step_clock.StepClock.new.Given as goal
+
+abbrev pub ghosts-share_of : goal.ghosts-share_of
+ghosts-share_of a = record { amount = a.left }

@@ -1,0 +1,221 @@
+//! What a threads part keeps, and its two steps.
+ghost use Rattle.std.specs.Prelude.{◌≡◌, ◌++◌, ◌∷◌, [], ℕ, ◌==◌, false, filter, map, not, IfOk, OnErr, OnOk};
+ghost use Rattle.object_model.specs.Findings.{at_place};
+ghost use Rattle.object_model.specs.History.{Begins, History, Returns};
+ghost use Rattle.object_model.specs.Objects.{is_in};
+ghost use Rattle.object_model.specs.Uses.{overlaps, uses_in};
+ghost use Rattle.layer_model.specs.Histories.{UseMirrors};
+ghost use Rattle.layer_model.specs.Parts.{use_enter, use_failures, use_leave};
+ghost use Rattle.object_records.specs.Shape.{AreNewOnce, HasParams, arguments_of, made_of};
+ghost use Rattle.lifetime_layer.specs.Reports.{reports_of};
+ghost use Rattle.lifetime_layer.specs.Shape.{HasFewPlaces, call_read};
+ghost use Rattle.thread_layer.specs.Kept.{of_others, open_seen, use_seen};
+
+use crate::gathering::{Beside, Gathered, gather};
+use crate::object_use::ObjectUse;
+use crate::open_call::OpenCall;
+use command_tables::{LayerCall, NoMemory};
+use lifetime_layer::Verdict;
+use object_records::ObjectRecords;
+use std::alloc::Global;
+use std::marker::Model;
+use std::mem;
+
+/// What a threads part was told of: which objects were born and live, and the open calls with what they use, the oldest first.
+#[derive(Drop)]
+pub struct UseState {
+    alloc: Global,
+    place: u32,
+    records: ObjectRecords,
+    open_calls: Vec<OpenCall>,
+    // Buffers of calls that returned, to be filled again.
+    spare: Vec<Vec<ObjectUse>>,
+    gathered: Gathered,
+}
+
+impl Model for UseState {
+    ghost use Rattle.thread_layer.specs.Kept.{PlacedUses, with_opens};
+
+    ghost Value = { PlacedUses };
+
+    ghost view = { λ s. record { place = s.place; kept = with_opens s.records s.open_calls.items } };
+}
+
+// The first open call of a thread is taken out, for its buffer.
+#[tactic(auto, using(crate::proofs::Least::taken_away))]
+fn take_call(open_calls: &mut Vec<OpenCall>, thread: u32) -> Option<OpenCall>
+    ensures { of_others thread (map open_seen open_calls.new.items) ≡ of_others thread (map open_seen open_calls.old.items) }
+{
+    for i in 0..open_calls.len() {
+        if open_calls[i].thread == thread {
+            return Some(open_calls.remove(i));
+        }
+    }
+    None
+}
+
+fn is_of(call: &OpenCall, thread: u32) -> bool
+    ensures { result ≡ (call.now.thread == thread) }
+{
+    call.thread == thread
+}
+
+fn retain_others(open_calls: &mut Vec<OpenCall>, thread: u32)
+    ensures { open_calls.new.items ≡ filter (λ c. not (c.thread == thread)) open_calls.old.items }
+{
+    open_calls.retain(|c| !is_of(c, thread));
+}
+
+// No call of the thread stays open.
+fn keep_others(open_calls: &mut Vec<OpenCall>, thread: u32)
+    ensures { map open_seen open_calls.new.items ≡ of_others thread (map open_seen open_calls.old.items) }
+{
+    retain_others(open_calls, thread);
+}
+
+// Closes the calls of a thread, and keeps a buffer.
+fn close(
+    open_calls: &mut Vec<OpenCall>,
+    thread: u32,
+    spare: &mut Vec<Vec<ObjectUse>>,
+) -> Result<(), NoMemory>
+    ensures { OnOk result (map open_seen open_calls.new.items ≡ of_others thread (map open_seen open_calls.old.items)) }
+{
+    let taken = take_call(open_calls, thread);
+    keep_others(open_calls, thread);
+    if let Some(call) = taken {
+        spare.push(call.uses)?;
+    }
+    Ok(())
+}
+
+// An empty list of uses.
+fn empty_uses(alloc: Global, spare: &mut Vec<Vec<ObjectUse>>) -> Vec<ObjectUse>
+    ensures { result.items ≡ [] }
+{
+    match spare.pop() {
+        None => Vec::new(alloc),
+        Some(mut uses) => {
+            uses.clear();
+            uses
+        }
+    }
+}
+
+impl UseState {
+    /// Nothing is born yet, and no call is open. Places of a chain are numbered from 1, from the application down.
+    pub fn new(alloc: Global, place: u32) -> UseState
+        ensures { result ≡ record { place = place; kept = record { births = []; living = []; opens = [] } } }
+    {
+        UseState {
+            alloc,
+            place,
+            records: ObjectRecords::new(alloc),
+            open_calls: Vec::new(alloc),
+            spare: Vec::new(alloc),
+            gathered: Gathered {
+                uses: Vec::new(alloc),
+                implied: Vec::new(alloc),
+            },
+        }
+    }
+
+    /// A call with this number begins on a thread. What is found goes behind the verdict's findings, in the order of the arguments: at
+    /// most one for each, with the least number of an open call of another thread that conflicts. The call is open until the thread's
+    /// results come, also where a part further on skips it. After `NoMemory` the findings may hold a part of what was found.
+    pub fn enter(
+        &mut self,
+        thread: u32,
+        number: u64,
+        call: &LayerCall,
+        verdict: &mut Verdict,
+    ) -> Result<(), NoMemory>
+        requires shape { HasParams call.now }
+        requires few { HasFewPlaces call.now }
+        ensures findings { OnOk result (reports_of verdict.new.findings.items ≡ reports_of verdict.old.findings.items ++ at_place self.old.place (use_failures self.old.kept thread call.now.cmd (arguments_of call.now))) }
+        ensures kept { OnOk result (self.new.kept ≡ use_enter self.old.kept thread number call.now.cmd (arguments_of call.now)) }
+        ensures skip { verdict.new.skip ≡ verdict.old.skip }
+        ensures place { self.new.place ≡ self.old.place }
+        ensures err { OnErr result (self.new ≡ self.old) }
+        ensures overlaps { OnOk result ((h : History) → UseMirrors h self.old.kept → reports_of verdict.new.findings.items ≡ reports_of verdict.old.findings.items ++ at_place self.old.place (overlaps h (call_read number thread call.now))) }
+        ensures stands { OnOk result ((h : History) → UseMirrors h self.old.kept → UseMirrors (Begins (call_read number thread call.now) false ∷ h) self.new.kept) }
+    {
+        self.take_in(thread, number, call, verdict)?;
+        Ok(())
+    }
+
+    // The same, without what it says of histories.
+    fn take_in(
+        &mut self,
+        thread: u32,
+        number: u64,
+        call: &LayerCall,
+        verdict: &mut Verdict,
+    ) -> Result<(), NoMemory>
+        requires shape { HasParams call.now }
+        requires few { HasFewPlaces call.now }
+        ensures findings { OnOk result (reports_of verdict.new.findings.items ≡ reports_of verdict.old.findings.items ++ at_place self.old.place (use_failures self.old.kept thread call.now.cmd (arguments_of call.now))) }
+        ensures kept { OnOk result (self.new.kept ≡ use_enter self.old.kept thread number call.now.cmd (arguments_of call.now)) }
+        ensures skip { verdict.new.skip ≡ verdict.old.skip }
+        ensures place { self.new.place ≡ self.old.place }
+        ensures err { OnErr result (self.new ≡ self.old) }
+    {
+        let uses = self.uses_of(thread, call, verdict)?;
+        self.open_calls.push(OpenCall {
+            number,
+            thread,
+            uses,
+        })?;
+        self.records.end(call);
+        Ok(())
+    }
+
+    // The uses of a call, and its findings.
+    fn uses_of(
+        &mut self,
+        thread: u32,
+        call: &LayerCall,
+        verdict: &mut Verdict,
+    ) -> Result<Vec<ObjectUse>, NoMemory>
+        requires shape { HasParams call.now }
+        requires few { HasFewPlaces call.now }
+        ensures uses { IfOk result (λ v. map use_seen v.items ≡ uses_in self.old.kept.births (is_in self.old.kept.living) call.now.cmd (arguments_of call.now)) }
+        ensures findings { OnOk result (reports_of verdict.new.findings.items ≡ reports_of verdict.old.findings.items ++ at_place self.old.place (use_failures self.old.kept thread call.now.cmd (arguments_of call.now))) }
+        ensures same { self.new ≡ self.old }
+        ensures skip { verdict.new.skip ≡ verdict.old.skip }
+    {
+        let beside = Beside {
+            records: &self.records,
+            open_calls: &self.open_calls,
+            place: self.place,
+            thread,
+        };
+        gather(beside, call, &mut self.gathered, verdict)?;
+        let empty = empty_uses(self.alloc, &mut self.spare);
+        Ok(mem::replace(&mut self.gathered.uses, empty))
+    }
+
+    /// The results of a thread's open call come: the call is open no longer, and each result that isn't 0 and wasn't born is born and
+    /// lives. After `NoMemory` the call may be closed and only a part of the results born.
+    pub fn leave(&mut self, thread: u32, call: &LayerCall, results: &[u64]) -> Result<(), NoMemory>
+        requires shape { HasParams call.now }
+        requires once { AreNewOnce self.old.kept.births (made_of call.now results.now) }
+        ensures kept { OnOk result (self.new.kept ≡ use_leave self.old.kept thread call.now.cmd (arguments_of call.now) (made_of call.now results.now)) }
+        ensures place { self.new.place ≡ self.old.place }
+        ensures stands { OnOk result ((h : History) (number : ℕ) → UseMirrors h self.old.kept → UseMirrors (Returns (call_read number thread call.now) (made_of call.now results.now) ∷ h) self.new.kept) }
+    {
+        self.take_back(thread, call, results)?;
+        Ok(())
+    }
+
+    // The same, without what it says of histories.
+    fn take_back(&mut self, thread: u32, call: &LayerCall, results: &[u64]) -> Result<(), NoMemory>
+        requires shape { HasParams call.now }
+        requires once { AreNewOnce self.old.kept.births (made_of call.now results.now) }
+        ensures kept { OnOk result (self.new.kept ≡ use_leave self.old.kept thread call.now.cmd (arguments_of call.now) (made_of call.now results.now)) }
+        ensures place { self.new.place ≡ self.old.place }
+    {
+        close(&mut self.open_calls, thread, &mut self.spare)?;
+        self.records.bear(call, results)
+    }
+}

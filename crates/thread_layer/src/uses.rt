@@ -1,0 +1,129 @@
+// What an argument uses.
+ghost use Rattle.std.specs.Prelude.{◌≡◌, ◌++◌, ◌∷◌, [], filter, map, true, OnOk, Some};
+ghost use Rattle.command_tables.specs.declared.types.Implied.TheVariants as imp;
+ghost use Rattle.command_tables.specs.Table.{ParamSpec, seen_param};
+ghost use Rattle.object_model.specs.Objects.{is_in, object_of};
+ghost use Rattle.object_model.specs.Uses.{implied_objects, use_of, uses_at};
+ghost use Rattle.thread_layer.specs.Kept.{use_seen};
+
+use crate::object_use::ObjectUse;
+use command_tables::{Implied, NoMemory, ObjectType, Param};
+use object_model::{Argument, Object};
+use object_records::{ObjectRecords, object_of};
+
+// Which argument it is: its parameter and its place in it, from 0.
+#[derive(Clone, Copy)]
+pub(crate) struct ArgumentPlace {
+    pub param: u8,
+    pub index: u32,
+}
+
+// The dead leave the list.
+fn keep_alive(records: &ObjectRecords, objects: &mut Vec<Object>)
+    ensures { objects.new.items ≡ filter (λ o. is_in records.now.living o) objects.old.items }
+{
+    objects.retain(|o| records.is_alive(*o));
+}
+
+fn list_owner(
+    records: &ObjectRecords,
+    object: Object,
+    objects: &mut Vec<Object>,
+) -> Result<(), NoMemory>
+    ensures { OnOk result (objects.new.items ≡ objects.old.items ++ implied_objects records.now.births (is_in records.now.living) imp.PoolOf object) }
+{
+    if let Some(owner) = records.owner(object) {
+        objects.push(owner)?;
+    }
+    Ok(())
+}
+
+// Lists what is written besides an object by this mark, in place of what was listed.
+fn list_implied(
+    records: &ObjectRecords,
+    implied: Implied,
+    object: Object,
+    objects: &mut Vec<Object>,
+) -> Result<(), NoMemory>
+    ensures { OnOk result (objects.new.items ≡ implied_objects records.now.births (is_in records.now.living) implied object) }
+{
+    objects.clear();
+    match implied {
+        Implied::None => Ok(()),
+        Implied::PoolOf => list_owner(records, object, objects),
+        Implied::QueuesOf => records.list_owned(ObjectType::Queue, object, objects),
+        Implied::SetsOf => {
+            records.list_owned(ObjectType::DescriptorSet, object, objects)?;
+            keep_alive(records, objects);
+            Ok(())
+        }
+    }
+}
+
+fn add_use(
+    at: ArgumentPlace,
+    object: Object,
+    write: bool,
+    uses: &mut Vec<ObjectUse>,
+) -> Result<(), NoMemory>
+    ensures { OnOk result (map use_seen uses.new.items ≡ map use_seen uses.old.items ++ use_of at.param at.index write object ∷ []) }
+{
+    uses.push(ObjectUse {
+        param: at.param,
+        index: at.index,
+        object,
+        write,
+    })?;
+    Ok(())
+}
+
+// Each of these objects is written.
+#[tactic(auto, using(crate::proofs::Gathered::written_more))]
+fn add_writes(
+    at: ArgumentPlace,
+    objects: &[Object],
+    uses: &mut Vec<ObjectUse>,
+) -> Result<(), NoMemory>
+    ensures { OnOk result (map use_seen uses.new.items ≡ map use_seen uses.old.items ++ map (use_of at.param at.index true) objects.now) }
+{
+    for i in 0..objects.len() {
+        add_use(at, objects[i], true, uses)?;
+    }
+    Ok(())
+}
+
+// Adds the uses of an argument that stands for this object.
+fn add_object_uses(
+    records: &ObjectRecords,
+    at: ArgumentPlace,
+    param: &Param,
+    object: Object,
+    implied: &mut Vec<Object>,
+    uses: &mut Vec<ObjectUse>,
+) -> Result<(), NoMemory>
+    ensures { OnOk result (map use_seen uses.new.items ≡ map use_seen uses.old.items ++ uses_at records.now.births (is_in records.now.living) at.param (seen_param param.now) at.index (Some object)) }
+{
+    if !records.is_born(object) {
+        return Ok(());
+    }
+    list_implied(records, param.implied, object, implied)?;
+    add_use(at, object, param.sync, uses)?;
+    add_writes(at, implied, uses)
+}
+
+/// Adds the uses of an argument. The list of implied objects is only room to work in.
+pub(crate) fn add_uses(
+    records: &ObjectRecords,
+    at: ArgumentPlace,
+    param: &Param,
+    argument: Argument,
+    implied: &mut Vec<Object>,
+    uses: &mut Vec<ObjectUse>,
+) -> Result<(), NoMemory>
+    ensures { OnOk result (map use_seen uses.new.items ≡ map use_seen uses.old.items ++ uses_at records.now.births (is_in records.now.living) at.param (seen_param param.now) at.index (object_of argument)) }
+{
+    match object_of(argument) {
+        None => Ok(()),
+        Some(object) => add_object_uses(records, at, param, object, implied, uses),
+    }
+}

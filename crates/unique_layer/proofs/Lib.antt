@@ -1,0 +1,6 @@
+pub mod Found
+pub mod Chains
+pub mod Places
+pub mod Issued
+pub mod FirstRead
+pub mod Payloads

@@ -1,0 +1,9 @@
+use Rattle.std.proofs.Common.{◌≡◌, map}
+use Rattle.layer_model.specs.Ids.{issue_all}
+use Rattle.layer_model.specs.Parts.{there}
+use Rattle.unique_layer.specs.Shown.{key_asked}
+use Rattle.unique_layer.proofs.Issued.{from_place}
+use Rattle.unique_layer.proofs.state.UniqueState.issue_all.Given as goal
+
+abbrev pub invariant-loop-k : goal.invariant-loop-k
+invariant-loop-k l = from_place l.self (key_asked l.key) l.ty l.k l.results ≡ issue_all l.fn.self (key_asked l.key) l.ty 0 (map there l.fn.results)

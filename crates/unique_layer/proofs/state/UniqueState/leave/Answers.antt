@@ -1,0 +1,12 @@
+use Rattle.std.proofs.Common.{◌≡◌, ℕ, sym, ◌∙◌, subst}
+use Rattle.std.specs.Prelude.{OnOk}
+use Rattle.layer_model.specs.Ids.{IssuedAll}
+use Rattle.unique_layer.specs.Shown.{key_asked}
+use Rattle.unique_layer.proofs.Payloads.{leave_by}
+use Rattle.unique_layer.proofs.state.UniqueState.leave.Goals as goal
+
+pub returns-in-Some : goal.returns-in-Some
+returns-in-Some c =
+    let by = leave_by c.args.self.now c.args.upper.now c.args.results.now c.in-Some.ty c.row-row.result.now (key_asked c.key_of-key.result) c.row-row.ensures (sym c.in-Some.ensures) (sym c.wraps.ensures ∙ c.if-wraps.true) c.key_of-key.ensures in
+    let P : IssuedAll ℕ → Type 0 = λ all. OnOk c.issue_all.result (record { results = c.issue_all.new.results; ids = c.issue_all.new.self } ≡ all) in
+    subst P by c.issue_all.ensures
