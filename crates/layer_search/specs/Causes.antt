@@ -1,6 +1,6 @@
 -- When a search ends without an answer. Source: this project.
 use Rattle.std.specs.Prelude.{◌≡◌, ℕ, ◌+◌, ◌<◌, ◌≤◌, ⊤, List, length, Option, Some, Result, OnOk, IfErr}
-use Rattle.replay_base.specs.Faults.{Rose}
+use Rattle.replay_base.specs.Faults.{raised}
 use Rattle.replay_base.specs.Files.{File}
 use Rattle.replay_base.specs.declared.tree.TreeError.{TreeError}
 use Rattle.replay_base.specs.declared.tree.TreeError.TheVariants as tree
@@ -17,9 +17,9 @@ abbrev pub search_error : TreeError → SearchError
 search_error tree.Failed = Tree
 search_error tree.NoMemory = NoMemory
 
--- what an error says of the tree's count of faults: it rose where the tree failed, and else it stands; too many are one more than may be
+-- what an error says of the tree's count of faults: it is one higher where the tree failed, and else it stands; too many are one more than may be
 abbrev pub ErrorHasCause : ℕ → ℕ → SearchError → Type 0
-ErrorHasCause before now Tree = Rose before now
+ErrorHasCause before now Tree = now ≡ raised before
 ErrorHasCause before now (TooMany count) = (now ≡ before) × (count ≡ most_paths + 1)
 ErrorHasCause before now NoMemory = now ≡ before
 
@@ -41,7 +41,7 @@ MeetsLimit paths Tree = ⊤
 MeetsLimit paths (TooMany count) = most_paths < length paths
 MeetsLimit paths NoMemory = ⊤
 
--- the tree's count of faults hasn't fallen, stands at Ok, and rose where the error says that the tree failed
+-- the tree's count of faults hasn't fallen, stands at Ok, and is one higher where the error says that the tree failed
 pub record HasSearchCause {T : Type 0} (before now : ℕ) (result : Result T SearchError) : Type 0 where
   pub later : before ≤ now
   pub stood : OnOk result (now ≡ before)

@@ -1,7 +1,6 @@
 // Reading a source whole.
 ghost use Rattle.std.specs.Prelude.{◌≡◌, ◌≢◌, ◌<◌, ◌≤◌, ℕ, List, length, IfOk, Err};
 ghost use Rattle.replay_base.specs.Bytes.{before};
-ghost use Rattle.replay_base.specs.Faults.{Rose};
 ghost use Rattle.replay_base.specs.Changes.{Gave, changed};
 ghost use Rattle.replay_core.specs.Ending.{GaveTooMuch, Reads};
 

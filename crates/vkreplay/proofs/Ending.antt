@@ -9,8 +9,8 @@ use Rattle.program_words.specs.Asked.{Asked, AsksChain, AsksRun, ChainAsked, Run
 use Rattle.program_words.specs.declared.read.WordsError.{WordsError}
 use Rattle.program_words.specs.declared.read.WordsError.TheVariants as words
 use Rattle.replay_base.specs.Bytes.{before, grown, IsSpent}
-use Rattle.replay_base.specs.Changes.{Change, FailedOnce, Gained}
-use Rattle.replay_base.specs.Faults.{Rose}
+use Rattle.replay_base.specs.Changes.{Change, Gained}
+use Rattle.replay_base.specs.Faults.{Rose, raised}
 use Rattle.replay_base.specs.Files.{File}
 use Rattle.replay_base.specs.Lines.{lines_of}
 use Rattle.replay_base.specs.declared.limit.Which.TheVariants as which
@@ -97,8 +97,8 @@ gave_some bs bytes (Some more) given =
     omega (arith, ap length same, length-append bytes more)
 
 -- a failure of an object is a count that rose
-rose : (c : Change) → FailedOnce c → Rose c.faults_before c.faults
-rose c failed = omega (arith, failed)
+rose : (before now : ℕ) → now ≡ raised before → Rose before now
+rose before now failed = omega (arith, failed)
 
 -- a replay that ended
 ended_gives : (run : Run) (errs : Change) (k : Kept) (bs : List ℕ) → run.source.old ≡ Some bs → Completed k run errs → IsAnswer (run_output bs) (end_status k.reports) run.traffic.sink errs
@@ -167,8 +167,8 @@ run_gives p status.Reported (Some k) done bs tells = inl (subst (λ (t : Status)
 run_gives p status.Malformed None done bs tells =
     inl (stop_gives (at_fault done.line done.fault) p.run p.errs bs status.Malformed (stopped_at _ p.run bs tells.told done.stopped.cut)
     (λ sink wrote. record { status = refl; wrote = wrote; said = done.stopped.said }))
-run_gives p status.ReadFault None done bs tells = absurd (tells.source (rose p.run.source done.cut.failed))
-run_gives p status.WriteFault None done bs tells = absurd (tells.sink (rose p.run.traffic.sink done.cut.failed))
+run_gives p status.ReadFault None done bs tells = absurd (tells.source (rose p.run.source.faults_before p.run.source.faults done.cut.failed))
+run_gives p status.WriteFault None done bs tells = absurd (tells.sink (rose p.run.traffic.sink.faults_before p.run.traffic.sink.faults done.cut.failed))
 run_gives p status.Limit None done bs tells =
     inl (stop_gives (record { line = done.cut.line; cause = Names }) p.run p.errs bs status.Limit (stopped_in _ p.run bs tells.told done.cut.stopped)
     (λ sink wrote. record { status = refl; wrote = wrote; said = done.said }))
@@ -216,8 +216,8 @@ chain_gives p asked status.Clean None done files tells =
     let all = done.1 in
     inl (shown chain p.run.traffic.sink p.errs files tells.told status.Clean (Ok tt) false all.shows all.shows.writes.0 all.shows.writes.1
     (λ bytes wrote. record { status = refl; wrote = wrote; said = inl (record { stood = all.silent.stood; gained = all.silent.same ∙ sym (grown_nil p.errs.old) }) }))
-chain_gives p asked status.ReadFault None done files tells = absurd (tells.tree done.1.shows.rose)
-chain_gives p asked status.WriteFault None done files tells = absurd (tells.sink (rose p.run.traffic.sink done.1.shows.writes.failed))
+chain_gives p asked status.ReadFault None done files tells = absurd (tells.tree (rose p.tree.faults_before p.tree.faults done.1.shows.failed))
+chain_gives p asked status.WriteFault None done files tells = absurd (tells.sink (rose p.run.traffic.sink.faults_before p.run.traffic.sink.faults done.1.shows.writes.failed))
 chain_gives p asked status.Limit None (left, inl cut) files tells =
     let chain : ChainRun = record { asked = asked; env = p.env; tree = p.tree } in
     inl (too_many chain p.run.traffic.sink p.errs files tells.told (cut.shows.told files tells.told)

@@ -3,7 +3,7 @@ use Rattle.std.specs.Prelude.{◌≡◌, ◌⊎◌, ◌≤◌, ◌<◌, ℕ, Boo
 use Rattle.std.specs.List.{concat}
 use Rattle.replay_base.specs.Bytes.{GrownByFront}
 use Rattle.replay_base.specs.Changes.{Change, FailedOnce, Gained, IsUnmoved, Stood}
-use Rattle.replay_base.specs.Faults.{Rose}
+use Rattle.replay_base.specs.Faults.{raised}
 use Rattle.replay_base.specs.Files.{File}
 use Rattle.replay_base.specs.declared.limit.Which.TheVariants as which
 use Rattle.env_filters.specs.Variables.{Variable}
@@ -112,9 +112,9 @@ pub record WroteNothing (sink : Change) : Type 0 where
   pub same : IsUnmoved sink
   pub stood : Stood sink
 
--- the tree failed before anything was written
+-- the tree failed, once, before anything was written
 pub record TreeFailed (run : ChainRun) (sink : Change) : Type 0 where
-  pub rose : Rose run.tree.faults_before run.tree.faults
+  pub failed : run.tree.faults ≡ raised run.tree.faults_before
   pub nothing : WroteNothing sink
 
 -- a search met too many manifest files, and nothing was written
