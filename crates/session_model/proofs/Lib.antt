@@ -1,0 +1,9 @@
+pub mod Living
+pub mod Begun
+pub mod Began
+pub mod Returned
+pub mod Turns
+pub mod Drivers
+pub mod Apart
+pub mod Steps
+pub mod Idle

@@ -1,0 +1,5 @@
+pub mod Session
+pub mod Beginning
+pub mod Returning
+pub mod Stands
+pub mod Steps

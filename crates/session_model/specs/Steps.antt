@@ -1,0 +1,55 @@
+-- What the steps of a chain's parts and of its terminator may rely on, where a session stands for a trace. Source: this project.
+use Rattle.std.specs.Prelude.{◌≡◌, ℕ, true, false, not, ◌==◌, None, List, [], ◌∷◌, map, filter, find}
+use Rattle.std.specs.List.{IsDistinct}
+use Rattle.command_tables.specs.Calls.{CallContent}
+use Rattle.command_tables.specs.Effects.{type_made}
+use Rattle.command_tables.specs.Table.{row_of}
+use Rattle.object_model.specs.History.{Birth, born_in}
+use Rattle.object_model.specs.Objects.{same}
+use Rattle.replay_model.specs.Setup.{Setup}
+use Rattle.replay_model.specs.Past.{is_skipped}
+use Rattle.replay_model.specs.Direct.{Sent}
+use Rattle.layer_model.specs.Reading.{read_made}
+use Rattle.layer_model.specs.Routes.{drivers_at}
+use Rattle.layer_model.specs.Terminator.{terminator_leave}
+use Rattle.layer_model.specs.Walks.{PartState, Threads, Lifetimes, Unique, leave_parts}
+use Rattle.chain_model.specs.Simulated.{Held, born_flags}
+use Rattle.chain_model.specs.Traces.{IsSent, held_in_force, in_force}
+use Rattle.session_model.specs.Session.{SessionKept}
+use Rattle.session_model.specs.Returning.{lost_kept, made_kept}
+
+-- ---- a begin
+
+-- no threads part has an open call of the thread
+abbrev pub NoneOpen : ℕ → List PartState → Type 0
+NoneOpen thread [] = Unit {0}
+NoneOpen thread (Threads m ∷ states) = (find (λ u. u.thread == thread) m.opens ≡ None) × NoneOpen thread states
+NoneOpen thread (Lifetimes m ∷ states) = NoneOpen thread states
+NoneOpen thread (Unique m ∷ states) = NoneOpen thread states
+
+-- ---- a return
+
+-- of the results of a call, read as objects, no two that are new to these births are the same
+abbrev pub AreNewApart : List Birth → CallContent → List ℕ → Type 0
+AreNewApart births c hs = IsDistinct same (filter (λ o. not (born_in births o)) (read_made (type_made (row_of c.cmd).effect) hs))
+
+-- so it is at each checking part that the call had reached, with the results that come from below it
+abbrev pub ComeUpApart : ℕ → List PartState → List CallContent → List ℕ → Type 0
+ComeUpApart thread [] forms hs = Unit {0}
+ComeUpApart thread (s ∷ states) [] hs = Unit {0}
+ComeUpApart thread (Threads m ∷ states) (c ∷ forms) hs = AreNewApart m.births c (leave_parts thread states forms hs).results × ComeUpApart thread states forms hs
+ComeUpApart thread (Lifetimes m ∷ states) (c ∷ forms) hs = AreNewApart m.births c (leave_parts thread states forms hs).results × ComeUpApart thread states forms hs
+ComeUpApart thread (Unique m ∷ states) (c ∷ forms) hs = ComeUpApart thread states forms hs
+
+-- the results that come up from the terminator, with 0 for each lost one
+abbrev pub results_sent : Setup → SessionKept → Sent → Held → List ℕ
+results_sent s k c h =
+    (terminator_leave (in_force s k.chain c.opened).terminator (held_in_force s c.opened h).bottom c.answers (born_flags (made_kept s k c.opened) (lost_kept s k c.opened))).results
+
+-- What the steps of a return may rely on: the call has an answer of each of its drivers, these are found again by its first argument, and whether
+-- it was sent or skipped, the results that come up are new once to each checking part.
+pub record ReturnSteps (s : Setup) (k : SessionKept) (c : Sent) (h : Held) : Type 0 where
+  pub answers : IsSent c
+  pub drivers : is_skipped c.opened ≡ false → drivers_at s.drivers k.chain.routes h.bottom ≡ c.opened.drivers
+  pub sent : is_skipped c.opened ≡ false → ComeUpApart c.opened.thread (in_force s k.chain c.opened).states (held_in_force s c.opened h).forms (results_sent s k c h)
+  pub skipped : is_skipped c.opened ≡ true → ComeUpApart c.opened.thread k.chain.states h.forms (map (λ _. 0) (lost_kept s k c.opened))
