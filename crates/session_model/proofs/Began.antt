@@ -1,6 +1,6 @@
 -- A begin more: what is kept then stands for the trace with it.
-use Rattle.std.proofs.Common.{◌≡◌, ℕ, suc, ◌+◌, Bool, cond, Option, List, [], ◌∷◌, ◌++◌, map, length, reverse, refl, sym, ◌∙◌, ap, subst, arith}
-use Rattle.std.proofs.lemmas.List.{drop_at, length-append, length-reverse, map-append, reverse-reverse, take_at}
+use Rattle.std.proofs.Common.{◌≡◌, ℕ, suc, ◌+◌, Bool, cond, Option, List, [], ◌∷◌, ◌++◌, map, length, reverse, take, refl, sym, ◌∙◌, ap, subst, arith}
+use Rattle.std.proofs.lemmas.List.{drop_at, length-append, length-reverse, map-append, reverse-reverse, take-append-drop, take_at}
 use Rattle.std.specs.List.{zip}
 use Rattle.command_tables.specs.Calls.{DriverCallContent, ReplyContent}
 use Rattle.trace_format.specs.Content.{BeginEvent, TraceEvent, Begin, Return}
@@ -83,6 +83,18 @@ module _ (s : Setup) (k : SessionKept) (events : List TraceEvent) (e : BeginEven
     simulates = (goes_down s k.chain events e replies (reverse own ++ replies) trace st.simulates).stands given;
   }
 
+-- answers of the drivers are replies to the calls
+own_answered : (values : List Valued) (o : Opened) (ds : List ℕ) (own : List ReplyContent) → AreAnswered values o ds own → AreRepliesTo (map (driver_call values o) ds) own
+own_answered values o [] [] a = tt
+own_answered values o [] (r ∷ own) a = absurd a
+own_answered values o (d ∷ ds) [] a = absurd a
+own_answered values o (d ∷ ds) (r ∷ own) a = (a.0, own_answered values o ds own a.1)
+
+-- what is taken off in front, turned, stands in front again
+turned_back : (o : Opened) (after replies : List ReplyContent) → before_call o after ≡ replies → reverse (own_replies o after) ++ replies ≡ after
+turned_back o after replies back =
+    ap (λ rs. rs ++ replies) (reverse-reverse (take (length o.drivers) after)) ∙ (ap (λ rs. take (length o.drivers) after ++ rs) (sym back) ∙ take-append-drop (length o.drivers) after)
+
 -- by what is kept
 pub begins_well : (s : Setup) (k : SessionKept) (events : List TraceEvent) (e : BeginEvent) (replies : List ReplyContent) → IsTrace (Begin e ∷ events) → Stands s k events replies → BeginsWell s k events e replies
 begins_well s k events e replies trace st =
@@ -96,6 +108,11 @@ begins_well s k events e replies trace st =
       sends = sends_is s k events e replies trace st;
       lines = lines_are s k events e replies trace st;
       answered = λ own a. given s k events e replies trace st own (to_past own a);
+      turned = λ after r. (
+        subst (λ cs. AreRepliesTo cs (own_replies (begun_of s (judged s events) e).opened after)) (sym told)
+            (own_answered (valued (judged s events) replies) (begun_of s (judged s events) e).opened (begun_of s (judged s events) e).opened.drivers (own_replies (begun_of s (judged s events) e).opened after) r.answers),
+        turned_back (begun_of s (judged s events) e).opened after replies r.back,
+      );
       exchanges = λ own a. ap (λ cs. zip cs own) told ∙ exchanged s k events e replies trace st own (to_past own a);
       stands = λ own living a on.
           subst (λ (x : Begun). Stands s (kept_after_begun k x (loader_kept k e) own living) (Begin e ∷ events) (reverse own ++ replies)) (sym begun)

@@ -7,3 +7,4 @@ pub mod Drivers
 pub mod Apart
 pub mod Steps
 pub mod Idle
+pub mod Shapes

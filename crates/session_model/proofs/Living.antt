@@ -11,7 +11,8 @@ use Rattle.object_model.specs.History.{Birth, born_in, births, alive, ends_by, b
 use Rattle.replay_model.specs.Past.{Opened, Past, history, is_skipped}
 use Rattle.layer_model.proofs.Same.{same_is}
 use Rattle.session_model.specs.Session.{SessionKept}
-use Rattle.session_model.specs.Beginning.{LivesPast}
+use Rattle.session_model.specs.Beginning.{LivesPast, living_past}
+use Rattle.session_model.specs.Returning.{LivesSince, living_since}
 
 -- what lives after a begin
 pub living_begun : (k : SessionKept) (past : Past) (o : Opened) (living : List Object) (x : Object) → k.births ≡ births (history past) → is_in k.living x ≡ alive (history past) x → LivesPast k.births k.living o living
@@ -58,3 +59,30 @@ born_more lives before args e made o =
     go : (t : Bool) → born_in before o ≡ t → born_in given o ≡ (not t && (t || born_in given o))
     go true known = new_given before args e made o known
     go false known = refl
+
+-- ---- there are such lists
+
+-- a filter keeps what passes its test
+in_filter : (p : Object → Bool) (xs : List Object) (x : Object) → is_in (filter p xs) x ≡ (is_in xs x && p x)
+in_filter p [] x = refl
+in_filter p (y ∷ xs) x = go (same y x) refl (p y) refl (in_filter p xs x)
+  where
+    go : (t : Bool) → same y x ≡ t → (u : Bool) → p y ≡ u → is_in (filter p xs) x ≡ (is_in xs x && p x) → is_in (cond u (y ∷ filter p xs) (filter p xs)) x ≡ ((t || is_in xs x) && p x)
+    go true e true d ih = let passes : p x ≡ true = ap p (sym (same_is y x e)) ∙ d in ap (λ t. t || is_in (filter p xs) x) e ∙ sym passes
+    go true e false d ih = let fails : p x ≡ false = ap p (sym (same_is y x e)) ∙ d in ih ∙ (ap (λ t. is_in xs x && t) fails ∙ (none (is_in xs x) ∙ sym fails))
+      where
+        none : (b : Bool) → (b && false) ≡ false
+        none true = refl
+        none false = refl
+    go false e true d ih = ap (λ t. t || is_in (filter p xs) x) e ∙ ih
+    go false e false d ih = ih
+
+pub past_listed : (bs : List Birth) (before : List Object) (o : Opened) → LivesPast bs before o (living_past bs before o)
+past_listed bs before o = λ x. in_filter (λ y. is_skipped o || not (ends_by bs o.args (row_of o.cmd).effect y)) before x
+
+in_given : (given : List Birth) (x : Object) → is_in (map (λ b. b.object) given) x ≡ born_in given x
+in_given [] x = refl
+in_given (b ∷ given) x = ap (λ t. same b.object x || t) (in_given given x)
+
+pub since_listed : (before : List Object) (given : List Birth) → LivesSince before given (living_since before given)
+since_listed before given = λ x. any_append (λ y. same y x) before (map (λ b. b.object) given) ∙ ap (λ t. is_in before x || t) (in_given given x)

@@ -1,5 +1,5 @@
 -- A begin by what a session keeps: how it is judged, what the drivers are told, what is kept then, and its lines. Source: this project.
-use Rattle.std.specs.Prelude.{◌≡◌, ℕ, ◌+◌, Bool, false, not, ◌&&◌, ◌||◌, if◌then◌else◌, Option, None, is_some, List, [], ◌∷◌, ◌++◌, map, length}
+use Rattle.std.specs.Prelude.{◌≡◌, ℕ, ◌+◌, Bool, false, not, ◌&&◌, ◌||◌, if◌then◌else◌, Option, None, is_some, List, [], ◌∷◌, ◌++◌, map, filter, length}
 use Rattle.std.specs.List.{flat_map}
 use Rattle.command_tables.specs.Calls.{DriverCallContent, ReplyContent}
 use Rattle.command_tables.specs.Table.{row_of}
@@ -74,6 +74,10 @@ calls_told s k e = map (told_call k.chain.terminator (walk_kept k e).bottom) (dr
 -- the objects that live after a begin: a skipped call ends nothing
 abbrev pub LivesPast : List Birth → List Object → Opened → List Object → Type 0
 LivesPast births before o living = (x : Object) → is_in living x ≡ (is_in before x && (is_skipped o || not (ends_by births o.args (row_of o.cmd).effect x)))
+
+-- such a list: those that lived, in their order, without what the call ends
+abbrev pub living_past : List Birth → List Object → Opened → List Object
+living_past births before o = filter (λ x. is_skipped o || not (ends_by births o.args (row_of o.cmd).effect x)) before
 
 -- what is kept after a begin that was judged so, with what the loader found, these replies of its drivers in their order, and these objects that live
 abbrev pub kept_after_begun : SessionKept → Begun → List Failure → List ReplyContent → List Object → SessionKept

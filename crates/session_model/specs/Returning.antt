@@ -51,6 +51,10 @@ chain_after_return s k c h =
 abbrev pub LivesSince : List Object → List Birth → List Object → Type 0
 LivesSince before given living = (x : Object) → is_in living x ≡ (is_in before x || born_in given x)
 
+-- such a list: those that lived, and behind them what was given
+abbrev pub living_since : List Object → List Birth → List Object
+living_since before given = before ++ map (λ b. b.object) given
+
 -- what is kept after the return of this open call, with these objects that live
 abbrev pub kept_after_return : Setup → SessionKept → Sent → Held → List Object → SessionKept
 kept_after_return s k c h living =

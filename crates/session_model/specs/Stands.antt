@@ -43,13 +43,15 @@ AreRepliesTo (c ∷ calls) [] = ⊥
 AreRepliesTo (c ∷ calls) (r ∷ own) = IsAnsweredBy c r × AreRepliesTo calls own
 
 -- What a begin comes to: it is judged as the trace says, its drivers are told what the trace makes, its lines are the trace's, and with the replies of
--- its drivers, in their order, what is kept then stands for the trace with the begin.
+-- its drivers, in their order, what is kept then stands for the trace with the begin. Every list of replies that the trace allows is such a list.
 pub record BeginsWell (s : Setup) (k : SessionKept) (events : List TraceEvent) (e : BeginEvent) (replies : List ReplyContent) : Type 0 where
   pub begun : begun_kept s k e ≡ begun_of s (judged s events) e
   pub told : calls_told s k e ≡ driver_calls (valued (judged s events) replies) (begun_of s (judged s events) e).opened
   pub sends : length (calls_told s k e) ≡ sends_at s (judged s events) (Begin e)
   pub lines : begin_lines s k e ≡ lines_at s (judged s events) (Begin e)
   pub answered : (own : List ReplyContent) → AreRepliesTo (calls_told s k e) own → Replies (valued (judged s events) replies) (begun_of s (judged s events) e).opened replies (reverse own ++ replies)
+  pub turned : (after : List ReplyContent) → Replies (valued (judged s events) replies) (begun_of s (judged s events) e).opened replies after
+      → AreRepliesTo (calls_told s k e) (own_replies (begun_of s (judged s events) e).opened after) × (reverse (own_replies (begun_of s (judged s events) e).opened after) ++ replies ≡ after)
   pub exchanges : (own : List ReplyContent) → AreRepliesTo (calls_told s k e) own → zip (calls_told s k e) own ≡ exchanges_at s (judged s events) (Begin e) (reverse own ++ replies)
   pub stands : (own : List ReplyContent) (living : List Object) → AreRepliesTo (calls_told s k e) own → LivesPast k.births k.living (begun_kept s k e).opened living
       → Stands s (kept_after_begin s k e own living) (Begin e ∷ events) (reverse own ++ replies)

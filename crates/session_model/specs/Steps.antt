@@ -1,21 +1,26 @@
 -- What the steps of a chain's parts and of its terminator may rely on, where a session stands for a trace. Source: this project.
 use Rattle.std.specs.Prelude.{◌≡◌, ℕ, true, false, not, ◌==◌, None, List, [], ◌∷◌, map, filter, find}
-use Rattle.std.specs.List.{IsDistinct}
+use Rattle.std.specs.List.{AllByRecursion, IsDistinct}
 use Rattle.command_tables.specs.Calls.{CallContent}
 use Rattle.command_tables.specs.Effects.{type_made}
 use Rattle.command_tables.specs.Table.{row_of}
+use Rattle.model_driver.specs.Driver.{FitsRow, HasShape}
+use Rattle.trace_format.specs.Content.{BeginEvent}
 use Rattle.object_model.specs.History.{Birth, born_in}
 use Rattle.object_model.specs.Objects.{same}
 use Rattle.replay_model.specs.Setup.{Setup}
-use Rattle.replay_model.specs.Past.{is_skipped}
+use Rattle.replay_model.specs.Past.{arguments_in, is_skipped}
 use Rattle.replay_model.specs.Direct.{Sent}
 use Rattle.layer_model.specs.Reading.{read_made}
 use Rattle.layer_model.specs.Routes.{drivers_at}
 use Rattle.layer_model.specs.Terminator.{terminator_leave}
 use Rattle.layer_model.specs.Walks.{PartState, Threads, Lifetimes, Unique, leave_parts}
-use Rattle.chain_model.specs.Simulated.{Held, born_flags}
+use Rattle.chain_model.specs.Chained.{form_by}
+use Rattle.chain_model.specs.Handed.{handle_in}
+use Rattle.chain_model.specs.Simulated.{Held, base_of, born_flags}
 use Rattle.chain_model.specs.Traces.{IsSent, held_in_force, in_force}
 use Rattle.session_model.specs.Session.{SessionKept}
+use Rattle.session_model.specs.Beginning.{calls_told, opened_with}
 use Rattle.session_model.specs.Returning.{lost_kept, made_kept}
 
 -- ---- a begin
@@ -26,6 +31,17 @@ NoneOpen thread [] = Unit {0}
 NoneOpen thread (Threads m ∷ states) = (find (λ u. u.thread == thread) m.opens ≡ None) × NoneOpen thread states
 NoneOpen thread (Lifetimes m ∷ states) = NoneOpen thread states
 NoneOpen thread (Unique m ∷ states) = NoneOpen thread states
+
+-- the call as it comes to the first part, in the handles above it
+abbrev pub call_handed : SessionKept → BeginEvent → CallContent
+call_handed k e = form_by (handle_in k.chain.handed) (base_of (opened_with k e None false [])) (arguments_in k.names e.args)
+
+-- What the steps of a begin may rely on: no threads part has an open call of its thread, the call has a list of handles for each parameter, and what
+-- each driver is told has its command's shape.
+pub record BeginSteps (s : Setup) (k : SessionKept) (e : BeginEvent) : Type 0 where
+  pub idle : NoneOpen e.thread k.chain.states
+  pub row : FitsRow (row_of e.cmd).params (call_handed k e).args
+  pub shapes : AllByRecursion HasShape (calls_told s k e)
 
 -- ---- a return
 
