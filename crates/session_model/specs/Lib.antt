@@ -3,3 +3,4 @@ pub mod Beginning
 pub mod Returning
 pub mod Stands
 pub mod Steps
+pub mod Samples

@@ -3,6 +3,8 @@
 //! Leaves to others the code of the session, which is proved equal to these functions, and the steps of the chain, which `chain_model` proves.
 #![tactic(auto)]
 
+mod samples;
+
 ghost use Rattle.std.specs.Prelude.{◌≡◌, ℕ, Some, List, [], ◌∷◌};
 ghost use Rattle.command_tables.specs.Calls.{ReplyContent};
 ghost use Rattle.trace_format.specs.Content.{BeginEvent, TraceEvent, Begin, Return};
