@@ -2,6 +2,7 @@
 use Rattle.std.specs.Prelude.{ℕ, false, Option, Some, None, List, [], ◌∷◌, ◌++◌, codes, decimal, drop, length, take}
 use Rattle.command_tables.specs.Calls.{DriverCallContent, ReplyContent}
 use Rattle.command_tables.specs.declared.types.Code.TheVariants as code
+use Rattle.command_tables.specs.declared.types.CommandId.{CommandId}
 use Rattle.command_tables.specs.declared.types.CommandId.TheVariants as cmd
 use Rattle.trace_format.specs.declared.event.Name.{Name}
 use Rattle.trace_format.specs.Content.{Arg, BeginEvent, TraceEvent, Begin, Return}
@@ -63,20 +64,38 @@ three_parts = record { drivers = 1; notes = []; outcome = λ payload. Chain (par
 abbrev pub name_given : ℕ → Name
 name_given n = record { thread = 1; number = n }
 
--- the instance as an argument
-abbrev pub the_instance : List Arg
-the_instance = record { many = false; names = Some (name_given 1) ∷ [] } ∷ []
+-- one name as the only argument
+abbrev pub argument_named : ℕ → List Arg
+argument_named n = record { many = false; names = Some (name_given n) ∷ [] } ∷ []
+
+-- the begin of a call that succeeds and has this one result
+abbrev pub gives_one : CommandId → List Arg → ℕ → TraceEvent
+gives_one c args n = Begin (record { thread = 1; cmd = c; args = args; results = name_given n ∷ []; code = Some code.Success; payload = [] })
+
+-- the begin of a destroy
+abbrev pub destroys : ℕ → CommandId → ℕ → TraceEvent
+destroys thread c n = Begin (record { thread = thread; cmd = c; args = argument_named n; results = []; code = None; payload = [] })
 
 -- Thread 1 makes an instance and enumerates its physical devices; before it returns, thread 2 destroys the instance.
 abbrev pub destroyed_while_enumerated : List TraceEvent
 destroyed_while_enumerated =
-    Begin (record { thread = 1; cmd = cmd.CreateInstance; args = []; results = name_given 1 ∷ []; code = Some code.Success; payload = [] }) ∷ Return 1
-    ∷ Begin (record { thread = 1; cmd = cmd.EnumeratePhysicalDevices; args = the_instance; results = name_given 2 ∷ []; code = Some code.Success; payload = [] })
-    ∷ Begin (record { thread = 2; cmd = cmd.DestroyInstance; args = the_instance; results = []; code = None; payload = [] }) ∷ Return 1 ∷ []
+    gives_one cmd.CreateInstance [] 1 ∷ Return 1 ∷ gives_one cmd.EnumeratePhysicalDevices (argument_named 1) 2 ∷ destroys 2 cmd.DestroyInstance 1 ∷ Return 1 ∷ []
 
--- what the driver answers: an instance 7, a physical device 8, and nothing
-abbrev pub seven_and_eight : List ReplyContent
-seven_and_eight = record { code = Some code.Success; handles = 7 ∷ [] } ∷ record { code = Some code.Success; handles = 8 ∷ [] } ∷ record { code = None; handles = [] } ∷ []
+-- An instance is destroyed that has a device; then the device is destroyed twice.
+abbrev pub destroyed_before_its_device : List TraceEvent
+destroyed_before_its_device =
+    gives_one cmd.CreateInstance [] 1 ∷ Return 1 ∷ gives_one cmd.EnumeratePhysicalDevices (argument_named 1) 2 ∷ Return 1 ∷ gives_one cmd.CreateDevice (argument_named 2) 3
+    ∷ Return 1 ∷ destroys 1 cmd.DestroyInstance 1 ∷ Return 1 ∷ destroys 1 cmd.DestroyDevice 3 ∷ Return 1 ∷ destroys 1 cmd.DestroyDevice 3 ∷ Return 1 ∷ []
+
+-- ---- replies
+
+-- one handle
+abbrev pub one_handle : ℕ → ReplyContent
+one_handle h = record { code = Some code.Success; handles = h ∷ [] }
+
+-- nothing
+abbrev pub no_handle : ReplyContent
+no_handle = record { code = None; handles = [] }
 
 -- what a driver was asked: its number and how many handles, and then the lists of arguments
 abbrev pub asked_of : DriverCallContent → List (List ℕ)

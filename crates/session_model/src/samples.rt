@@ -1,18 +1,38 @@
-//! A session over a small trace, by computation.
+//! Sessions over small traces, by computation.
 ghost use Rattle.std.specs.Prelude.{◌≡◌, [], ◌∷◌, ◌++◌, codes, map, reverse};
 ghost use Rattle.replay_model.specs.Judged.{judged};
-ghost use Rattle.replay_model.specs.Text.{lines};
-ghost use Rattle.session_model.specs.Samples.{asked_of, destroyed_while_enumerated, session_of, seven_and_eight, three_parts};
+ghost use Rattle.replay_model.specs.Text.{end_line, lines};
+ghost use Rattle.session_model.specs.Samples.{asked_of, destroyed_before_its_device, destroyed_while_enumerated, name_given, no_handle, one_handle, session_of, three_parts};
 
 /// An instance is destroyed by one thread while another enumerates its physical devices. The threads part reports it, the call goes on to the driver with
 /// the driver's own handle, and the device that the enumeration gives is lost. The session's lines are these, and so is the text of the trace.
 pub fn an_instance_is_destroyed_while_it_is_used()
-    ensures session { (session_of three_parts seven_and_eight destroyed_while_enumerated).lines
+    ensures session { (session_of three_parts (one_handle 7 ∷ one_handle 8 ∷ no_handle ∷ []) destroyed_while_enumerated).lines
         ≡ codes "chain 1 ok\n"
         ++ (codes "ret 1 vkCreateInstance VK_SUCCESS born=1\n"
         ++ (codes "report 3 1 VKR-vkDestroyInstance-instance-overlap %1.1 with=2\n"
         ++ codes "ret 2 vkEnumeratePhysicalDevices VK_SUCCESS born=0\n")) }
-    ensures trace { (session_of three_parts seven_and_eight destroyed_while_enumerated).lines ≡ lines three_parts (judged three_parts (reverse destroyed_while_enumerated)) }
-    ensures told { map asked_of (session_of three_parts seven_and_eight destroyed_while_enumerated).told
+    ensures trace { (session_of three_parts (one_handle 7 ∷ one_handle 8 ∷ no_handle ∷ []) destroyed_while_enumerated).lines
+        ≡ lines three_parts (judged three_parts (reverse destroyed_while_enumerated)) }
+    ensures told { map asked_of (session_of three_parts (one_handle 7 ∷ one_handle 8 ∷ no_handle ∷ []) destroyed_while_enumerated).told
         ≡ ((0 ∷ 1 ∷ []) ∷ []) ∷ ((0 ∷ 1 ∷ []) ∷ (7 ∷ []) ∷ []) ∷ ((0 ∷ 0 ∷ []) ∷ (7 ∷ []) ∷ []) ∷ [] }
+    ensures named { map (λ n. n.name) (session_of three_parts (one_handle 7 ∷ one_handle 8 ∷ no_handle ∷ []) destroyed_while_enumerated).kept.names ≡ name_given 1 ∷ [] }
+{}
+
+/// A call that the lifetimes part skips ends nothing and isn't told to the driver. A device that is destroyed twice is reported by the loader alone.
+pub fn an_instance_with_a_device_lives_on()
+    ensures session { (session_of three_parts (one_handle 7 ∷ one_handle 8 ∷ one_handle 9 ∷ no_handle ∷ []) destroyed_before_its_device).lines
+        ≡ codes "chain 1 ok\n"
+        ++ (codes "ret 1 vkCreateInstance VK_SUCCESS born=1\n"
+        ++ (codes "ret 2 vkEnumeratePhysicalDevices VK_SUCCESS born=1\n"
+        ++ (codes "ret 3 vkCreateDevice VK_SUCCESS born=1\n"
+        ++ (codes "report 4 2 VKR-vkDestroyInstance-instance-children %1.1 children=1\n"
+        ++ (codes "ret 4 vkDestroyInstance void\n"
+        ++ (codes "ret 5 vkDestroyDevice void\n"
+        ++ (codes "report 6 0 VUID-vkDestroyDevice-device-parameter %1.3\n"
+        ++ codes "ret 6 vkDestroyDevice void\n"))))))) }
+    ensures told { map asked_of (session_of three_parts (one_handle 7 ∷ one_handle 8 ∷ one_handle 9 ∷ no_handle ∷ []) destroyed_before_its_device).told
+        ≡ ((0 ∷ 1 ∷ []) ∷ []) ∷ ((0 ∷ 1 ∷ []) ∷ (7 ∷ []) ∷ []) ∷ ((0 ∷ 1 ∷ []) ∷ (8 ∷ []) ∷ []) ∷ ((0 ∷ 0 ∷ []) ∷ (9 ∷ []) ∷ []) ∷ [] }
+    ensures end { let k = (session_of three_parts (one_handle 7 ∷ one_handle 8 ∷ one_handle 9 ∷ no_handle ∷ []) destroyed_before_its_device).kept in
+        end_line k.calls k.skipped k.reports ≡ codes "end calls=6 skipped=2 reports=2\n" }
 {}

@@ -7,4 +7,4 @@ use Rattle.session_model.proofs.samples.an_instance_is_destroyed_while_it_is_use
 
 pub returns : goal.returns
 unfolding digits row_of same_type same_command same_code
-returns c = record { session = refl; trace = refl; told = refl }
+returns c = record { session = refl; trace = refl; told = refl; named = refl }
