@@ -1,6 +1,6 @@
 -- Results that come up are new once to each checking part.
-use Rattle.std.proofs.Common.{◌≡◌, ℕ, ◌+◌, Bool, true, false, not, cond, ◌||◌, Option, Some, None, List, [], ◌∷◌, ◌++◌, map, refl, sym, ◌∙◌, ap, subst}
-use Rattle.std.specs.List.{filter, list_any, AllByRecursion, IsDistinct}
+use Rattle.std.proofs.Common.{◌≡◌, ℕ, ◌+◌, Bool, true, false, not, List, [], ◌∷◌, ◌++◌, map, sym, ◌∙◌, subst}
+use Rattle.std.specs.List.{filter, AllByRecursion, IsDistinct}
 use Rattle.command_tables.specs.Calls.{CallContent}
 use Rattle.command_tables.specs.Effects.{type_made}
 use Rattle.command_tables.specs.Table.{row_of}
@@ -8,7 +8,7 @@ use Rattle.command_tables.specs.declared.types.Effect.{Effect}
 use Rattle.command_tables.specs.declared.types.Effect.TheVariants as eff
 use Rattle.object_model.specs.declared.Object.{Object}
 use Rattle.object_model.specs.declared.Argument.{Argument}
-use Rattle.object_model.specs.History.{Birth, History, born_in, births, births_given, births_of, owners_given}
+use Rattle.object_model.specs.History.{Birth, History, born_in, births, births_given, owners_given}
 use Rattle.object_model.specs.Objects.{same}
 use Rattle.object_model.specs.Renaming.{IsOneToOne, renamed}
 use Rattle.object_model.proofs.Renaming.{KnowsBirths, born_in-renamed, births-known, births-renamed, renamed_birth}
@@ -23,7 +23,7 @@ use Rattle.chain_model.proofs.Answering.{or_parts}
 use Rattle.chain_model.proofs.OneByOne.{AreOnce}
 use Rattle.chain_model.proofs.OneToOne.{one_to_one}
 use Rattle.chain_model.proofs.Sound.{Sound}
-use Rattle.session_model.specs.Steps.{AreNewApart, ComeUpApart}
+use Rattle.session_model.specs.Steps.{ComeUpApart}
 
 -- ---- births that are apart
 

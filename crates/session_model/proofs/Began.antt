@@ -1,11 +1,10 @@
 -- A begin more: what is kept then stands for the trace with it.
-use Rattle.std.proofs.Common.{◌≡◌, ℕ, suc, ◌+◌, Bool, cond, Option, List, [], ◌∷◌, ◌++◌, map, length, reverse, take, refl, sym, ◌∙◌, ap, subst, arith}
+use Rattle.std.proofs.Common.{◌≡◌, ℕ, suc, ◌+◌, cond, List, [], ◌∷◌, ◌++◌, map, length, reverse, take, refl, sym, ◌∙◌, ap, subst, arith}
 use Rattle.std.proofs.lemmas.List.{drop_at, length-append, length-reverse, map-append, reverse-reverse, take-append-drop, take_at}
 use Rattle.std.specs.List.{zip}
-use Rattle.command_tables.specs.Calls.{DriverCallContent, ReplyContent}
-use Rattle.trace_format.specs.Content.{BeginEvent, TraceEvent, Begin, Return}
+use Rattle.command_tables.specs.Calls.{ReplyContent}
+use Rattle.trace_format.specs.Content.{BeginEvent, TraceEvent, Begin}
 use Rattle.object_model.specs.declared.Object.{Object}
-use Rattle.object_model.specs.Rules.{Failure}
 use Rattle.replay_model.specs.Setup.{Setup}
 use Rattle.replay_model.specs.Past.{Opened, Past, is_skipped}
 use Rattle.replay_model.specs.Judged.{Begun, begun_of, judged}
@@ -13,7 +12,7 @@ use Rattle.replay_model.specs.Direct.{Sent, Valued, answers_to, before_call, dri
 use Rattle.chain_model.specs.Traces.{AreAnswered, IsTrace, Replies, loader_finds}
 use Rattle.chain_model.proofs.Tracing.{goes_down}
 use Rattle.session_model.specs.Session.{SessionKept}
-use Rattle.session_model.specs.Beginning.{LivesPast, begun_kept, calls_told, kept_after_begin, kept_after_begun, loader_kept}
+use Rattle.session_model.specs.Beginning.{LivesPast, begun_kept, calls_told, kept_after_begun, loader_kept}
 use Rattle.session_model.specs.Stands.{AreRepliesTo, BeginsWell, Stands}
 use Rattle.session_model.proofs.Begun.{begun_is, lines_are, loader_is, sends_is, told_is}
 use Rattle.session_model.proofs.Living.{living_begun}

@@ -1,23 +1,23 @@
 -- A begin by what is kept is the begin of the trace.
-use Rattle.std.proofs.Common.{◌≡◌, ℕ, ◌+◌, Bool, true, false, cond, ◌||◌, Option, Some, None, List, [], ◌∷◌, ◌++◌, map, length, refl, sym, ◌∙◌, ap}
+use Rattle.std.proofs.Common.{◌≡◌, ℕ, ◌+◌, Bool, true, false, cond, ◌||◌, None, List, [], ◌∷◌, ◌++◌, map, length, refl, sym, ◌∙◌, ap}
 use Rattle.std.proofs.lemmas.List.{length-map}
 use Rattle.std.specs.Prelude.{is_some}
 use Rattle.std.specs.List.{flat_map}
 use Rattle.command_tables.specs.Calls.{DriverCallContent, ReplyContent}
 use Rattle.command_tables.specs.Table.{row_of}
-use Rattle.trace_format.specs.Content.{BeginEvent, TraceEvent, Begin, Return}
+use Rattle.trace_format.specs.Content.{BeginEvent, TraceEvent, Begin}
 use Rattle.object_model.specs.declared.Object.{Object}
-use Rattle.object_model.specs.Findings.{Findings, Report}
+use Rattle.object_model.specs.Findings.{Findings}
 use Rattle.object_model.specs.History.{alive}
-use Rattle.object_model.specs.Objects.{first_in, is_in}
+use Rattle.object_model.specs.Objects.{first_in}
 use Rattle.object_model.specs.Routes.{receivers}
-use Rattle.object_model.specs.Rules.{Failure, loader_failures}
+use Rattle.object_model.specs.Rules.{loader_failures}
 use Rattle.replay_model.specs.declared.Named.{Named}
 use Rattle.replay_model.specs.Setup.{Setup}
 use Rattle.replay_model.specs.Past.{Opened, Past, arguments_in, call_of, calls_in, history, named, routed}
 use Rattle.replay_model.specs.ChainPlaces.{checked, findings}
 use Rattle.replay_model.specs.Judged.{Begun, begun_of, is_refused, judged}
-use Rattle.replay_model.specs.Direct.{Valued, driver_call, driver_calls, sends_at, valued}
+use Rattle.replay_model.specs.Direct.{driver_call, driver_calls, sends_at, valued}
 use Rattle.replay_model.specs.Text.{chain_text, lines_at, report_text}
 use Rattle.layer_model.specs.Routes.{drivers_at}
 use Rattle.layer_model.specs.Terminator.{told_call}

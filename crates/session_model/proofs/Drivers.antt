@@ -1,10 +1,9 @@
 -- The drivers of an open call stay those behind its first argument.
-use Rattle.std.proofs.Common.{◌≡◌, ◌==◌, ℕ, Bool, true, false, not, cond, ◌&&◌, ◌||◌, Option, Some, None, List, [], ◌∷◌, ◌++◌, map, refl, sym, ◌∙◌, ap, subst}
-use Rattle.std.specs.Prelude.{find, is_some}
+use Rattle.std.proofs.Common.{◌≡◌, ℕ, Bool, true, false, not, cond, ◌&&◌, Option, Some, None, List, [], ◌∷◌, ◌++◌, map, refl, sym, ◌∙◌, ap}
+use Rattle.std.specs.Prelude.{find}
 use Rattle.std.specs.List.{filter, range_with_len, AllByRecursion}
 use Rattle.std.specs.Option.{is_none, option_map_or}
 use Rattle.command_tables.specs.declared.types.ObjectType.TheVariants as ty
-use Rattle.command_tables.specs.Table.{row_of}
 use Rattle.command_tables.specs.Tests.{same_type}
 use Rattle.trace_format.specs.Accepting.{are_accepted, fault_after}
 use Rattle.trace_format.specs.Content.{TraceEvent, Begin, Return}
@@ -17,7 +16,7 @@ use Rattle.object_model.specs.Routes.{driver_in, is_routed, receivers}
 use Rattle.object_model.proofs.Renaming.{IsKnown, first_in-known}
 use Rattle.replay_model.specs.declared.Born.{Born}
 use Rattle.replay_model.specs.Setup.{Setup}
-use Rattle.replay_model.specs.Past.{Opened, Past, Returned, history, is_new, is_of, is_skipped, open_calls, routed, routed_by, routed_of}
+use Rattle.replay_model.specs.Past.{Opened, Returned, history, is_new, is_of, is_skipped, open_calls, routed, routed_by, routed_of}
 use Rattle.replay_model.specs.Judged.{begun_of, judged, made_of, returned_by}
 use Rattle.layer_model.proofs.Same.{and_true, same_is}
 use Rattle.chain_model.specs.Tokens.{token_in}

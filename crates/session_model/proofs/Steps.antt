@@ -1,5 +1,5 @@
 -- What the steps of a return may rely on.
-use Rattle.std.proofs.Common.{◌≡◌, ℕ, false, true, Some, List, [], ◌∷◌, map, refl, sym, ◌∙◌, ap, subst}
+use Rattle.std.proofs.Common.{◌≡◌, ℕ, false, Some, List, ◌∷◌, map, refl, sym, ◌∙◌, ap, subst}
 use Rattle.std.specs.Prelude.{find}
 use Rattle.std.specs.List.{AllByRecursion}
 use Rattle.command_tables.specs.Calls.{CallContent, ReplyContent}
@@ -10,15 +10,15 @@ use Rattle.object_model.specs.Objects.{first_in}
 use Rattle.object_model.specs.Renaming.{KnowsArgs}
 use Rattle.object_model.specs.Routes.{receivers}
 use Rattle.replay_model.specs.Setup.{Setup}
-use Rattle.replay_model.specs.Past.{Opened, Past, Returned, history, is_of, is_skipped, open_calls, retrievals, routed}
+use Rattle.replay_model.specs.Past.{Opened, Past, history, is_of, is_skipped, open_calls, retrievals, routed}
 use Rattle.replay_model.specs.ChainPlaces.{seen_past}
-use Rattle.replay_model.specs.Judged.{judged, made_of}
+use Rattle.replay_model.specs.Judged.{judged}
 use Rattle.replay_model.specs.Direct.{Sent, valued}
 use Rattle.layer_model.specs.Routes.{drivers_at}
 use Rattle.layer_model.specs.Walks.{PartState, leave_parts}
 use Rattle.chain_model.specs.Chained.{StatesMirror}
 use Rattle.chain_model.specs.Routes.{routes_in}
-use Rattle.chain_model.specs.Simulated.{ChainKept, Held, IsBottom, after_reply, after_skipped, first_of}
+use Rattle.chain_model.specs.Simulated.{ChainKept, Held, IsBottom, first_of}
 use Rattle.chain_model.specs.Traces.{GivesGuarded, IsSent, IsTrace, Simulates, held_in_force, in_force}
 use Rattle.chain_model.proofs.Accepted.{IsAccepted, accepted_judged, accepted_returned}
 use Rattle.chain_model.proofs.Answering.{is_nothing, or_parts}
@@ -30,7 +30,7 @@ use Rattle.chain_model.proofs.Passing.{AreTyped}
 use Rattle.chain_model.proofs.Starting.{params_none}
 use Rattle.chain_model.proofs.Stepping.{held_found, sound_of}
 use Rattle.session_model.specs.Session.{SessionKept}
-use Rattle.session_model.specs.Returning.{held_of_thread, lost_kept, made_kept, sent_of_thread}
+use Rattle.session_model.specs.Returning.{held_of_thread, lost_kept, sent_of_thread}
 use Rattle.session_model.specs.Stands.{Stands}
 use Rattle.session_model.specs.Steps.{ComeUpApart, ReturnSteps, results_sent}
 use Rattle.session_model.proofs.Apart.{come_apart, seen_once}

@@ -1,10 +1,9 @@
 -- Which threads have an open call.
-use Rattle.std.proofs.Common.{◌≡◌, ◌==◌, ℕ, Bool, true, false, not, cond, ◌&&◌, Option, Some, None, List, [], ◌∷◌, map, refl, sym, ◌∙◌, ap}
+use Rattle.std.proofs.Common.{◌≡◌, ◌==◌, ℕ, Bool, true, false, not, cond, Option, Some, None, List, [], ◌∷◌, map, refl, sym, ◌∙◌, ap}
 use Rattle.std.specs.Prelude.{find, is_some}
 use Rattle.std.specs.Option.{is_none}
 use Rattle.command_tables.specs.Calls.{ReplyContent}
 use Rattle.trace_format.specs.Accepting.{are_accepted, breaks_instance, fault_after, first_fault, is_open}
-use Rattle.trace_format.specs.declared.fault.TraceFault.{TraceFault}
 use Rattle.trace_format.specs.declared.fault.TraceFault.TheVariants as fault
 use Rattle.trace_format.specs.Content.{BeginEvent, TraceEvent, Begin, Return}
 use Rattle.object_model.specs.History.{Birth, births}

@@ -5,7 +5,7 @@ use Rattle.command_tables.specs.Calls.{DriverCallContent, ReplyContent}
 use Rattle.command_tables.specs.Table.{row_of}
 use Rattle.trace_format.specs.Content.{BeginEvent}
 use Rattle.object_model.specs.declared.Object.{Object}
-use Rattle.object_model.specs.Findings.{Findings, Report}
+use Rattle.object_model.specs.Findings.{Findings}
 use Rattle.object_model.specs.History.{Birth, ends_by}
 use Rattle.object_model.specs.Objects.{is_in}
 use Rattle.object_model.specs.Rules.{Failure, loader_failures}

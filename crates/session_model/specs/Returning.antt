@@ -1,5 +1,5 @@
 -- A return by what a session keeps: the open call, what is born, what is kept then, and its line. Source: this project.
-use Rattle.std.specs.Prelude.{◌≡◌, ℕ, ◌||◌, ◌==◌, Bool, not, if◌then◌else◌, Option, List, ◌++◌, map, filter, find, drop, length}
+use Rattle.std.specs.Prelude.{◌≡◌, ℕ, ◌||◌, ◌==◌, not, if◌then◌else◌, Option, List, ◌++◌, map, filter, find, drop, length}
 use Rattle.command_tables.specs.Table.{row_of}
 use Rattle.trace_format.specs.declared.event.Name.{Name}
 use Rattle.object_model.specs.declared.Object.{Object}
