@@ -8,3 +8,4 @@ pub mod Apart
 pub mod Steps
 pub mod Idle
 pub mod Shapes
+pub mod Running

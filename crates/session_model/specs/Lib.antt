@@ -3,4 +3,5 @@ pub mod Beginning
 pub mod Returning
 pub mod Stands
 pub mod Steps
+pub mod Running
 pub mod Samples

@@ -1,5 +1,5 @@
 -- What the steps of a chain's parts and of its terminator may rely on, where a session stands for a trace. Source: this project.
-use Rattle.std.specs.Prelude.{◌≡◌, ℕ, true, false, not, ◌==◌, None, List, [], ◌∷◌, map, filter, find}
+use Rattle.std.specs.Prelude.{◌≡◌, ℕ, true, false, not, ◌==◌, None, List, [], ◌∷◌, map, filter, find, length}
 use Rattle.std.specs.List.{AllByRecursion, IsDistinct}
 use Rattle.command_tables.specs.Calls.{CallContent}
 use Rattle.command_tables.specs.Effects.{type_made}
@@ -45,6 +45,10 @@ pub record BeginSteps (s : Setup) (k : SessionKept) (e : BeginEvent) : Type 0 wh
 
 -- ---- a return
 
+-- the call has a list of handles for each parameter of its row
+abbrev pub HasRow : CallContent → Type 0
+HasRow c = length c.args ≡ length (row_of c.cmd).params
+
 -- of the results of a call, read as objects, no two that are new to these births are the same
 abbrev pub AreNewApart : List Birth → CallContent → List ℕ → Type 0
 AreNewApart births c hs = IsDistinct same (filter (λ o. not (born_in births o)) (read_made (type_made (row_of c.cmd).effect) hs))
@@ -62,10 +66,12 @@ abbrev pub results_sent : Setup → SessionKept → Sent → Held → List ℕ
 results_sent s k c h =
     (terminator_leave (in_force s k.chain c.opened).terminator (held_in_force s c.opened h).bottom c.answers (born_flags (made_kept s k c.opened) (lost_kept s k c.opened))).results
 
--- What the steps of a return may rely on: the call has an answer of each of its drivers, these are found again by its first argument, and whether
--- it was sent or skipped, the results that come up are new once to each checking part.
+-- What the steps of a return may rely on: the call has an answer of each of its drivers, these are found again by its first argument, it has the
+-- lists of its row above each part, and whether it was sent or skipped, the results that come up are new once to each checking part.
 pub record ReturnSteps (s : Setup) (k : SessionKept) (c : Sent) (h : Held) : Type 0 where
   pub answers : IsSent c
   pub drivers : is_skipped c.opened ≡ false → drivers_at s.drivers k.chain.routes h.bottom ≡ c.opened.drivers
+  pub rows : AllByRecursion HasRow h.forms
+  pub rows_in_force : AllByRecursion HasRow (held_in_force s c.opened h).forms
   pub sent : is_skipped c.opened ≡ false → ComeUpApart c.opened.thread (in_force s k.chain c.opened).states (held_in_force s c.opened h).forms (results_sent s k c h)
   pub skipped : is_skipped c.opened ≡ true → ComeUpApart c.opened.thread k.chain.states h.forms (map (λ _. 0) (lost_kept s k c.opened))

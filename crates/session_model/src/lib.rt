@@ -5,7 +5,7 @@
 
 mod samples;
 
-ghost use Rattle.std.specs.Prelude.{◌≡◌, ℕ, Some, List, [], ◌∷◌};
+ghost use Rattle.std.specs.Prelude.{◌≡◌, ℕ, Some, List, [], ◌∷◌, reverse};
 ghost use Rattle.command_tables.specs.Calls.{ReplyContent};
 ghost use Rattle.trace_format.specs.Content.{BeginEvent, TraceEvent, Begin, Return};
 ghost use Rattle.object_model.specs.declared.Object.{Object};
@@ -17,6 +17,7 @@ ghost use Rattle.replay_model.specs.Past.{Opened};
 ghost use Rattle.replay_model.specs.Text.{end_line, end_of};
 ghost use Rattle.chain_model.specs.Simulated.{Held};
 ghost use Rattle.chain_model.specs.Traces.{GivesGuarded, IsTrace};
+ghost use Rattle.session_model.specs.Running.{AreAnsweredInRun, RanWell, session_of, session_started};
 ghost use Rattle.session_model.specs.Session.{SessionKept, nothing_kept};
 ghost use Rattle.session_model.specs.Beginning.{LivesPast, living_past};
 ghost use Rattle.session_model.specs.Returning.{LivesSince, held_of_thread, living_since, sent_of_thread};
@@ -47,6 +48,13 @@ pub fn threads_call_in_turn()
         IsTrace (Begin e ∷ events) → Stands s k events replies → HasNoCall k e.thread }
     ensures returns { (s : Setup) (k : SessionKept) (events : List TraceEvent) (thread : ℕ) (replies : List ReplyContent) →
         IsTrace (Return thread ∷ events) → Stands s k events replies → HasCall k thread }
+{}
+
+/// So a session that replays a trace from nothing, event by event, writes the lines of the trace and tells the drivers what the trace tells them,
+/// whatever they answer, and stands for the trace at its end.
+pub fn a_session_replays_its_trace()
+    ensures { (s : Setup) (replies : List ReplyContent) (events : List TraceEvent) → GivesGuarded s → IsTrace (reverse events) →
+        AreAnsweredInRun s (session_started replies) events → RanWell s (session_of s replies events) (reverse events) }
 {}
 
 /// What the steps of the chain rely on. At a begin no threads part has an open call of its thread, and the call and what the drivers are told have their

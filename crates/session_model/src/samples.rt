@@ -2,7 +2,8 @@
 ghost use Rattle.std.specs.Prelude.{◌≡◌, [], ◌∷◌, ◌++◌, codes, map, reverse};
 ghost use Rattle.replay_model.specs.Judged.{judged};
 ghost use Rattle.replay_model.specs.Text.{end_line, lines};
-ghost use Rattle.session_model.specs.Samples.{asked_of, destroyed_before_its_device, destroyed_while_enumerated, name_given, no_handle, one_handle, session_of, three_parts};
+ghost use Rattle.session_model.specs.Running.{session_of};
+ghost use Rattle.session_model.specs.Samples.{asked_of, destroyed_before_its_device, destroyed_while_enumerated, device_of_the_second_driver, name_given, no_handle, one_handle, three_parts, two_drivers};
 
 /// An instance is destroyed by one thread while another enumerates its physical devices. The threads part reports it, the call goes on to the driver with
 /// the driver's own handle, and the device that the enumeration gives is lost. The session's lines are these, and so is the text of the trace.
@@ -35,4 +36,15 @@ pub fn an_instance_with_a_device_lives_on()
         ≡ ((0 ∷ 1 ∷ []) ∷ []) ∷ ((0 ∷ 1 ∷ []) ∷ (7 ∷ []) ∷ []) ∷ ((0 ∷ 1 ∷ []) ∷ (8 ∷ []) ∷ []) ∷ ((0 ∷ 0 ∷ []) ∷ (9 ∷ []) ∷ []) ∷ [] }
     ensures end { let k = (session_of three_parts (one_handle 7 ∷ one_handle 8 ∷ one_handle 9 ∷ no_handle ∷ []) destroyed_before_its_device).kept in
         end_line k.calls k.skipped k.reports ≡ codes "end calls=6 skipped=2 reports=2\n" }
+{}
+
+/// Each driver is told its own handles, and a call on the second physical device goes to the second driver alone.
+pub fn a_device_is_made_on_the_second_driver()
+    ensures session { (session_of two_drivers (one_handle 7 ∷ one_handle 17 ∷ one_handle 8 ∷ one_handle 18 ∷ one_handle 19 ∷ []) device_of_the_second_driver).lines
+        ≡ codes "chain 1 ok\n"
+        ++ (codes "ret 1 vkCreateInstance VK_SUCCESS born=1\n"
+        ++ (codes "ret 2 vkEnumeratePhysicalDevices VK_SUCCESS born=2\n"
+        ++ codes "ret 3 vkCreateDevice VK_SUCCESS born=1\n")) }
+    ensures told { map asked_of (session_of two_drivers (one_handle 7 ∷ one_handle 17 ∷ one_handle 8 ∷ one_handle 18 ∷ one_handle 19 ∷ []) device_of_the_second_driver).told
+        ≡ ((0 ∷ 1 ∷ []) ∷ []) ∷ ((1 ∷ 1 ∷ []) ∷ []) ∷ ((0 ∷ 1 ∷ []) ∷ (7 ∷ []) ∷ []) ∷ ((1 ∷ 1 ∷ []) ∷ (17 ∷ []) ∷ []) ∷ ((1 ∷ 1 ∷ []) ∷ (18 ∷ []) ∷ []) ∷ [] }
 {}
