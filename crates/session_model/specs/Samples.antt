@@ -43,8 +43,8 @@ destroyed_before_its_device =
     ∷ Return 1 ∷ destroys 1 cmd.DestroyInstance 1 ∷ Return 1 ∷ destroys 1 cmd.DestroyDevice 3 ∷ Return 1 ∷ destroys 1 cmd.DestroyDevice 3 ∷ Return 1 ∷ []
 
 -- two drivers, and no layers
-abbrev pub two_drivers : Setup
-two_drivers = record { drivers = 2; notes = []; outcome = λ payload. Chain [] (λ number. codes "chain " ++ decimal number ++ codes " ok\n") }
+abbrev pub pair_of_drivers : Setup
+pair_of_drivers = record { drivers = 2; notes = []; outcome = λ payload. Chain [] (λ number. codes "chain " ++ decimal number ++ codes " ok\n") }
 
 -- An instance of two drivers names its two physical devices, and a device is made on the second.
 abbrev pub device_of_the_second_driver : List TraceEvent
@@ -64,5 +64,5 @@ abbrev pub no_handle : ReplyContent
 no_handle = record { code = None; handles = [] }
 
 -- what a driver was asked: its number and how many handles, and then the lists of arguments
-abbrev pub asked_of : DriverCallContent → List (List ℕ)
-asked_of d = (d.driver ∷ d.asked ∷ []) ∷ d.args
+abbrev pub asked_handles : DriverCallContent → List (List ℕ)
+asked_handles d = (d.driver ∷ d.asked ∷ []) ∷ d.args

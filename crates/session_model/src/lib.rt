@@ -58,8 +58,8 @@ pub fn a_session_replays_its_trace()
 {}
 
 /// What the steps of the chain rely on. At a begin no threads part has an open call of its thread, and the call and what the drivers are told have their
-/// command's shape. At a return the call has an answer of each of its drivers, its first argument leads to these drivers again, and the results that
-/// come up are new once to each checking part.
+/// command's shape. At a return the call has an answer of each of its drivers and the lists of its row above each part, its first argument leads to
+/// these drivers again, and the results that come up are new once to each checking part.
 pub fn the_steps_may_rely_on_it()
     ensures begins { (s : Setup) (k : SessionKept) (events : List TraceEvent) (e : BeginEvent) (replies : List ReplyContent) →
         IsTrace (Begin e ∷ events) → Stands s k events replies → BeginSteps s k e }
