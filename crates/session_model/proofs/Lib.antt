@@ -1,0 +1,11 @@
+pub mod Living
+pub mod Begun
+pub mod Began
+pub mod Returned
+pub mod Turns
+pub mod Drivers
+pub mod Apart
+pub mod Steps
+pub mod Idle
+pub mod Shapes
+pub mod Running

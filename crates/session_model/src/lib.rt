@@ -1,0 +1,80 @@
+//! What a session keeps while it replays a trace through any chain of layers with any number of drivers, and how a begin and a return change it.
+//! Promises that this says what the judged trace says: how each begin is judged, what the drivers are told, what is born, and every line.
+//! Leaves to others the code of the session, which is proved equal to these functions, and the steps of the chain, which `chain_model` proves.
+#![tactic(auto)]
+
+mod samples;
+
+ghost use Rattle.std.specs.Prelude.{◌≡◌, ℕ, Some, List, [], ◌∷◌, reverse};
+ghost use Rattle.command_tables.specs.Calls.{ReplyContent};
+ghost use Rattle.trace_format.specs.Content.{BeginEvent, TraceEvent, Begin, Return};
+ghost use Rattle.object_model.specs.declared.Object.{Object};
+ghost use Rattle.object_model.specs.History.{Birth};
+ghost use Rattle.replay_model.specs.Setup.{Setup};
+ghost use Rattle.replay_model.specs.Direct.{Sent};
+ghost use Rattle.replay_model.specs.Judged.{judged};
+ghost use Rattle.replay_model.specs.Past.{Opened};
+ghost use Rattle.replay_model.specs.Text.{end_line, end_of};
+ghost use Rattle.chain_model.specs.Simulated.{Held};
+ghost use Rattle.chain_model.specs.Traces.{GivesGuarded, IsTrace};
+ghost use Rattle.session_model.specs.Running.{AreAnsweredInRun, RanWell, session_of, session_started};
+ghost use Rattle.session_model.specs.Session.{SessionKept, nothing_kept};
+ghost use Rattle.session_model.specs.Beginning.{LivesPast, living_past};
+ghost use Rattle.session_model.specs.Returning.{LivesSince, held_of_thread, living_since, sent_of_thread};
+ghost use Rattle.session_model.specs.Stands.{BeginsWell, HasCall, HasNoCall, ReturnsWell, Stands};
+ghost use Rattle.session_model.specs.Steps.{BeginSteps, ReturnSteps};
+
+/// With no events yet, a session that kept nothing stands.
+pub fn a_new_session_stands()
+    ensures { (s : Setup) → Stands s nothing_kept [] [] }
+{}
+
+/// A begin more of a trace is judged by what is kept as the trace judges it. Its drivers are told, in order, what the trace tells them, its
+/// lines are the trace's, and with the replies of its drivers what is kept then stands for the trace with the begin.
+pub fn a_begin_is_replayed()
+    ensures { (s : Setup) (k : SessionKept) (events : List TraceEvent) (e : BeginEvent) (replies : List ReplyContent) →
+        IsTrace (Begin e ∷ events) → Stands s k events replies → BeginsWell s k events e replies }
+{}
+
+/// A return more: what is born and the line are the trace's, and what is kept then stands for the trace with the return.
+pub fn a_return_is_replayed()
+    ensures { (s : Setup) (k : SessionKept) (events : List TraceEvent) (thread : ℕ) (replies : List ReplyContent) (c : Sent) (h : Held) → GivesGuarded s →
+        IsTrace events → Stands s k events replies → sent_of_thread k thread ≡ Some c → held_of_thread k thread ≡ Some h → ReturnsWell s k events thread replies c h }
+{}
+
+/// The thread of a begin has no open call among those kept, and that of a return has one, which the chain holds too.
+pub fn threads_call_in_turn()
+    ensures begins { (s : Setup) (k : SessionKept) (events : List TraceEvent) (e : BeginEvent) (replies : List ReplyContent) →
+        IsTrace (Begin e ∷ events) → Stands s k events replies → HasNoCall k e.thread }
+    ensures returns { (s : Setup) (k : SessionKept) (events : List TraceEvent) (thread : ℕ) (replies : List ReplyContent) →
+        IsTrace (Return thread ∷ events) → Stands s k events replies → HasCall k thread }
+{}
+
+/// So a session that replays a trace from nothing, event by event, writes the lines of the trace and tells the drivers what the trace tells them,
+/// whatever they answer, and stands for the trace at its end.
+pub fn a_session_replays_its_trace()
+    ensures { (s : Setup) (replies : List ReplyContent) (events : List TraceEvent) → GivesGuarded s → IsTrace (reverse events) →
+        AreAnsweredInRun s (session_started replies) events → RanWell s (session_of s replies events) (reverse events) }
+{}
+
+/// What the steps of the chain rely on. At a begin no threads part has an open call of its thread, and the call and what the drivers are told have their
+/// command's shape. At a return the call has an answer of each of its drivers and the lists of its row above each part, its first argument leads to
+/// these drivers again, and the results that come up are new once to each checking part.
+pub fn the_steps_may_rely_on_it()
+    ensures begins { (s : Setup) (k : SessionKept) (events : List TraceEvent) (e : BeginEvent) (replies : List ReplyContent) →
+        IsTrace (Begin e ∷ events) → Stands s k events replies → BeginSteps s k e }
+    ensures returns { (s : Setup) (k : SessionKept) (events : List TraceEvent) (thread : ℕ) (replies : List ReplyContent) (c : Sent) (h : Held) → GivesGuarded s →
+        IsTrace events → Stands s k events replies → sent_of_thread k thread ≡ Some c → held_of_thread k thread ≡ Some h → ReturnSteps s k c h }
+{}
+
+/// What lives then can be listed: the lists that are asked for after a begin and after a return are there.
+pub fn what_lives_can_be_listed()
+    ensures begins { (births : List Birth) (before : List Object) (o : Opened) → LivesPast births before o (living_past births before o) }
+    ensures returns { (before : List Object) (given : List Birth) → LivesSince before given (living_since before given) }
+{}
+
+/// The last line by the numbers that are kept is the trace's.
+pub fn the_end_line_is_the_traces()
+    ensures { (s : Setup) (k : SessionKept) (events : List TraceEvent) (replies : List ReplyContent) → Stands s k events replies →
+        end_line k.calls k.skipped k.reports ≡ end_of (judged s events) }
+{}
