@@ -1,13 +1,12 @@
 -- What the steps of a chain's parts and of its terminator may rely on, where a session stands for a trace. Source: this project.
-use Rattle.std.specs.Prelude.{◌≡◌, ℕ, true, false, not, ◌==◌, None, List, [], ◌∷◌, map, filter, find, length}
-use Rattle.std.specs.List.{AllByRecursion, IsDistinct}
+use Rattle.std.specs.Prelude.{◌≡◌, ℕ, true, false, ◌==◌, None, List, [], ◌∷◌, map, find, length}
+use Rattle.std.specs.List.{AllByRecursion}
 use Rattle.command_tables.specs.Calls.{CallContent}
 use Rattle.command_tables.specs.Effects.{type_made}
 use Rattle.command_tables.specs.Table.{row_of}
 use Rattle.model_driver.specs.Driver.{FitsRow, HasShape}
 use Rattle.trace_format.specs.Content.{BeginEvent}
-use Rattle.object_model.specs.History.{Birth, born_in}
-use Rattle.object_model.specs.Objects.{same}
+use Rattle.object_model.specs.History.{Birth}
 use Rattle.replay_model.specs.Setup.{Setup}
 use Rattle.replay_model.specs.Past.{arguments_in, is_skipped}
 use Rattle.replay_model.specs.Direct.{Sent}
@@ -19,6 +18,7 @@ use Rattle.chain_model.specs.Chained.{form_by}
 use Rattle.chain_model.specs.Handed.{handle_in}
 use Rattle.chain_model.specs.Simulated.{Held, base_of, born_flags}
 use Rattle.chain_model.specs.Traces.{IsSent, held_in_force, in_force}
+use Rattle.object_records.specs.Shape.{AreNewOnce}
 use Rattle.session_model.specs.Session.{SessionKept}
 use Rattle.session_model.specs.Beginning.{calls_told, opened_with}
 use Rattle.session_model.specs.Returning.{lost_kept, made_kept}
@@ -51,7 +51,7 @@ HasRow c = length c.args ≡ length (row_of c.cmd).params
 
 -- of the results of a call, read as objects, no two that are new to these births are the same
 abbrev pub AreNewApart : List Birth → CallContent → List ℕ → Type 0
-AreNewApart births c hs = IsDistinct same (filter (λ o. not (born_in births o)) (read_made (type_made (row_of c.cmd).effect) hs))
+AreNewApart births c hs = AreNewOnce births (read_made (type_made (row_of c.cmd).effect) hs)
 
 -- so it is at each checking part that the call had reached, with the results that come from below it
 abbrev pub ComeUpApart : ℕ → List PartState → List CallContent → List ℕ → Type 0
