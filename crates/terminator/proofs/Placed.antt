@@ -427,10 +427,11 @@ renewed_behind es flat vs e d id t is table type driver start len =
 pub added_as : (es es2 : List IdEntry) (flat flat2 vs : List DriverValue) (e : IdEntry) (id : ℕ) → IsTable es flat → e.start ≡ length flat → e.len ≡ length vs → id ≡ length es + 1 → es2 ≡ es ++ e ∷ [] → flat2 ≡ flat ++ vs
     → (ids_from 1 flat2 es2 ≡ with_values (ids_from 1 flat es) e.ty id (map value_of vs)) × (routes_from 1 es2 ≡ add_route (routes_from 1 es) (record { ty = e.ty; number = id }) e.driver) × IsTable es2 flat2
 added_as es es2 flat flat2 vs e id table start len is entries values =
-    let all : IsAdded es flat vs e id = added es flat vs e id table start len is in
-    (ap (λ (xs : List IdEntry). ids_from 1 flat2 xs) entries ∙ (ap (λ (ys : List DriverValue). ids_from 1 ys (es ++ e ∷ [])) values ∙ all.entries),
-    ap (λ (xs : List IdEntry). routes_from 1 xs) entries ∙ all.routes,
-    subst (λ (xs : List IdEntry). IsTable xs flat2) (sym entries) (subst (λ (ys : List DriverValue). IsTable (es ++ e ∷ []) ys) (sym values) all.table))
+    let all : IsAdded es flat vs e id = added es flat vs e id table start len is in (
+      ap (λ (xs : List IdEntry). ids_from 1 flat2 xs) entries ∙ (ap (λ (ys : List DriverValue). ids_from 1 ys (es ++ e ∷ [])) values ∙ all.entries),
+      ap (λ (xs : List IdEntry). routes_from 1 xs) entries ∙ all.routes,
+      subst (λ (xs : List IdEntry). IsTable xs flat2) (sym entries) (subst (λ (ys : List DriverValue). IsTable (es ++ e ∷ []) ys) (sym values) all.table),
+    )
 
 pub put_here : (es : List IdEntry) (flat flat2 vs : List DriverValue) (x : IdEntry) (id : ℕ) (t : ObjectType) → has_pair (ids_from 1 flat es) t id ≡ true → IsTable es flat → x ≡ get_or es (id - 1) x → length vs ≤ x.len → flat2 ≡ written flat x.start vs
     → IsRenewed es flat flat2 vs (record x { len = length vs }) id t

@@ -46,12 +46,6 @@ pub fn issued_type(cmd: CommandId) -> Option<ObjectType>
 {
     match row(cmd).effect.type_made() {
         None => None,
-        Some(ty) => {
-            if is_bare(ty) {
-                Some(ty)
-            } else {
-                None
-            }
-        }
+        Some(ty) => { if is_bare(ty) { Some(ty) } else { None } }
     }
 }

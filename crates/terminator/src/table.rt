@@ -127,12 +127,7 @@ impl IdTable {
     }
 
     /// Gives an id that was issued other values, in place where there is room. After `NoMemory` all is as before.
-    pub fn put(
-        &mut self,
-        ty: ObjectType,
-        id: u64,
-        values: &[DriverValue],
-    ) -> Result<(), NoMemory>
+    pub fn put(&mut self, ty: ObjectType, id: u64, values: &[DriverValue]) -> Result<(), NoMemory>
         requires { has_pair self.old.entries ty id ≡ true }
         ensures entries { OnOk result (self.new.entries ≡ with_values self.old.entries ty id (map value_of values.now)) }
         ensures routes { self.new.routes ≡ self.old.routes }
@@ -151,7 +146,11 @@ impl IdTable {
             self.values.reserve(len)?;
             let start = self.values.len();
             self.values.extend_from_slice(values).unwrap();
-            self.entries[place] = IdEntry { start, len, ..entry };
+            self.entries[place] = IdEntry {
+                start,
+                len,
+                ..entry
+            };
         }
         Ok(())
     }

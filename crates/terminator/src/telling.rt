@@ -28,13 +28,7 @@ fn replace(issued: &IssuedIds, driver: u32, ty: ObjectType, args: &mut HandleArg
 
 // One parameter is told, where the terminator issues ids for its type.
 #[tactic(auto, using(crate::proofs::Places::own, crate::proofs::Places::set_beyond))]
-fn tell_param(
-    issued: &IssuedIds,
-    driver: u32,
-    ty: ObjectType,
-    args: &mut HandleArgs<6>,
-    p: usize,
-)
+fn tell_param(issued: &IssuedIds, driver: u32, ty: ObjectType, args: &mut HandleArgs<6>, p: usize)
     ensures { args.new.lists ≡ slice_set args.old.lists p (told_handles issued.now.ids driver ty (list_at args.old.lists p)) }
 {
     if p < args.len() && is_bare(ty) {
@@ -55,11 +49,7 @@ fn tell_params(issued: &IssuedIds, driver: u32, params: &[Param], args: &mut Han
 fn asked_of_each(cmd: CommandId, asked: u32) -> u32
     ensures { result ≡ asked_of_each cmd asked }
 {
-    if enumerates_devices(cmd) {
-        1
-    } else {
-        asked
-    }
+    if enumerates_devices(cmd) { 1 } else { asked }
 }
 
 /// A driver's call becomes what it is told of this one. After `NoMemory` anything stands there.

@@ -13,15 +13,8 @@ struct Told {
     args: &'static [&'static [u64]],
 }
 
-const fn told(driver: u32, asked: u32, args: &'static [&'static [u64]]) -> Told {
-    Told {
-        driver,
-        asked,
-        args,
-    }
-}
-
 // A call that comes to the terminator, and what comes of it.
+#[derive(Clone, Copy)]
 struct Step {
     cmd: CommandId,
     args: &'static [&'static [u64]],
@@ -98,61 +91,108 @@ fn play_one(
     Ok(())
 }
 
-fn play(rt: &impl Abort, alloc: Global, steps: &[Step]) -> Result<(), Fail> {
-    let mut part = Terminator::new(alloc, 2);
-    let mut out = Vec::new(alloc);
+fn play_all(
+    rt: &impl Abort,
+    alloc: Global,
+    part: &mut Terminator,
+    out: &mut Vec<DriverCall>,
+    steps: &[Step],
+) -> Result<(), Fail> {
     for step in steps {
-        play_one(rt, alloc, &mut part, &mut out, step)?;
+        play_one(rt, alloc, part, out, step)?;
     }
     Ok(())
 }
 
+// Behind the instance and the devices, these steps.
+fn play(rt: &impl Abort, alloc: Global, steps: &[Step]) -> Result<(), Fail> {
+    let mut part = Terminator::new(alloc, 2);
+    let mut out = Vec::new(alloc);
+    play_all(rt, alloc, &mut part, &mut out, &begin())?;
+    play_all(rt, alloc, &mut part, &mut out, &devices())?;
+    play_all(rt, alloc, &mut part, &mut out, steps)
+}
+
 // An instance of both drivers, and a physical device of each.
-const BEGIN: [Step; 2] = [
-    Step {
-        cmd: CommandId::CreateInstance,
-        args: &[],
-        payload: b"",
-        told: &[told(0, 1, &[]), told(1, 1, &[])],
-        replies: &[&[500], &[600]],
-        flags: &[1],
-        above: &[1],
-    },
-    Step {
-        cmd: CommandId::EnumeratePhysicalDevices,
-        args: &[&[1]],
-        payload: b"",
-        told: &[told(0, 1, &[&[500]]), told(1, 1, &[&[600]])],
-        replies: &[&[51], &[61]],
-        flags: &[1, 1],
-        above: &[2, 3],
-    },
-];
+fn begin() -> [Step; 2] {
+    [
+        Step {
+            cmd: CommandId::CreateInstance,
+            args: &[],
+            payload: b"",
+            told: &[
+                Told {
+                    driver: 0,
+                    asked: 1,
+                    args: &[],
+                },
+                Told {
+                    driver: 1,
+                    asked: 1,
+                    args: &[],
+                },
+            ],
+            replies: &[&[500], &[600]],
+            flags: &[1],
+            above: &[1],
+        },
+        Step {
+            cmd: CommandId::EnumeratePhysicalDevices,
+            args: &[&[1]],
+            payload: b"",
+            told: &[
+                Told {
+                    driver: 0,
+                    asked: 1,
+                    args: &[&[500]],
+                },
+                Told {
+                    driver: 1,
+                    asked: 1,
+                    args: &[&[600]],
+                },
+            ],
+            replies: &[&[51], &[61]],
+            flags: &[1, 1],
+            above: &[2, 3],
+        },
+    ]
+}
 
 // A device of the second driver, then one of the first, with the same value.
-const DEVICES: [Step; 2] = [
-    Step {
-        cmd: CommandId::CreateDevice,
-        args: &[&[3]],
-        payload: b"",
-        told: &[told(1, 1, &[&[61]])],
-        replies: &[&[71]],
-        flags: &[1],
-        above: &[4],
-    },
-    Step {
-        cmd: CommandId::CreateDevice,
-        args: &[&[2]],
-        payload: b"",
-        told: &[told(0, 1, &[&[51]])],
-        replies: &[&[71]],
-        flags: &[1],
-        above: &[5],
-    },
-];
+fn devices() -> [Step; 2] {
+    [
+        Step {
+            cmd: CommandId::CreateDevice,
+            args: &[&[3]],
+            payload: b"",
+            told: &[Told {
+                driver: 1,
+                asked: 1,
+                args: &[&[61]],
+            }],
+            replies: &[&[71]],
+            flags: &[1],
+            above: &[4],
+        },
+        Step {
+            cmd: CommandId::CreateDevice,
+            args: &[&[2]],
+            payload: b"",
+            told: &[Told {
+                driver: 0,
+                asked: 1,
+                args: &[&[51]],
+            }],
+            replies: &[&[71]],
+            flags: &[1],
+            above: &[5],
+        },
+    ]
+}
 
 // A step of a call to one driver, that asks for no handle.
-const fn to_one(cmd: CommandId, args: &'static [&'static [u64]], told: &'static [Told]) -> Step {
+fn to_one(cmd: CommandId, args: &'static [&'static [u64]], told: &'static [Told]) -> Step {
     Step {
         cmd,
         args,
@@ -164,12 +204,16 @@ const fn to_one(cmd: CommandId, args: &'static [&'static [u64]], told: &'static 
     }
 }
 
-const fn queue(device: &'static [&'static [u64]], payload: &'static [u8]) -> Step {
+fn queue(device: &'static [&'static [u64]], payload: &'static [u8]) -> Step {
     Step {
         cmd: CommandId::GetDeviceQueue,
         args: device,
         payload,
-        told: &[told(1, 1, &[&[71]])],
+        told: &[Told {
+            driver: 1,
+            asked: 1,
+            args: &[&[71]],
+        }],
         replies: &[&[91]],
         flags: &[1],
         above: &[6],
@@ -183,7 +227,18 @@ fn each_driver_is_told_its_own_values(rt: HostRuntime) -> Result<(), Fail> {
         cmd: CommandId::CreateXcbSurfaceKHR,
         args: &[&[1]],
         payload: b"",
-        told: &[told(0, 1, &[&[500]]), told(1, 1, &[&[600]])],
+        told: &[
+            Told {
+                driver: 0,
+                asked: 1,
+                args: &[&[500]],
+            },
+            Told {
+                driver: 1,
+                asked: 1,
+                args: &[&[600]],
+            },
+        ],
         replies: &[&[81], &[82]],
         flags: &[1],
         above: &[6],
@@ -191,26 +246,56 @@ fn each_driver_is_told_its_own_values(rt: HostRuntime) -> Result<(), Fail> {
     let support = to_one(
         CommandId::GetPhysicalDeviceSurfaceSupportKHR,
         &[&[3], &[6]],
-        &[told(1, 0, &[&[61], &[82]])],
+        &[Told {
+            driver: 1,
+            asked: 0,
+            args: &[&[61], &[82]],
+        }],
     );
     let again = Step {
         cmd: CommandId::EnumeratePhysicalDevices,
         args: &[&[1]],
         payload: b"",
-        told: &[told(0, 1, &[&[500]]), told(1, 1, &[&[600]])],
+        told: &[
+            Told {
+                driver: 0,
+                asked: 1,
+                args: &[&[500]],
+            },
+            Told {
+                driver: 1,
+                asked: 1,
+                args: &[&[600]],
+            },
+        ],
         replies: &[&[52], &[62]],
         flags: &[0, 1],
         above: &[0, 3],
     };
     let features = CommandId::GetPhysicalDeviceFeatures;
-    let mut steps = Vec::new(alloc);
-    steps.extend(BEGIN)?;
-    steps.extend(DEVICES)?;
-    steps.extend([surface, support, again])?;
-    steps.extend([
-        to_one(features, &[&[2]], &[told(0, 0, &[&[51]])]),
-        to_one(features, &[&[3]], &[told(1, 0, &[&[62]])]),
-    ])?;
+    let steps = [
+        surface,
+        support,
+        again,
+        to_one(
+            features,
+            &[&[2]],
+            &[Told {
+                driver: 0,
+                asked: 0,
+                args: &[&[51]],
+            }],
+        ),
+        to_one(
+            features,
+            &[&[3]],
+            &[Told {
+                driver: 1,
+                asked: 0,
+                args: &[&[62]],
+            }],
+        ),
+    ];
     play(&rt, alloc, &steps)
 }
 
@@ -223,7 +308,11 @@ fn queues_keep_their_ids(rt: HostRuntime) -> Result<(), Fail> {
         ..queue(&[&[4]], b"0 1")
     };
     let other = Step {
-        told: &[told(0, 1, &[&[71]])],
+        told: &[Told {
+            driver: 0,
+            asked: 1,
+            args: &[&[71]],
+        }],
         above: &[8],
         ..queue(&[&[5]], b"0 0")
     };
@@ -232,15 +321,39 @@ fn queues_keep_their_ids(rt: HostRuntime) -> Result<(), Fail> {
         ..queue(&[&[4]], b"0 0")
     };
     let wait = CommandId::QueueWaitIdle;
-    let mut steps = Vec::new(alloc);
-    steps.extend(BEGIN)?;
-    steps.extend(DEVICES)?;
-    steps.extend([queue(&[&[4]], b"0 0"), second, other, again])?;
-    steps.extend([
-        to_one(wait, &[&[6]], &[told(1, 0, &[&[93]])]),
-        to_one(wait, &[&[7]], &[told(1, 0, &[&[92]])]),
-        to_one(wait, &[&[8]], &[told(0, 0, &[&[91]])]),
-    ])?;
+    let steps = [
+        queue(&[&[4]], b"0 0"),
+        second,
+        other,
+        again,
+        to_one(
+            wait,
+            &[&[6]],
+            &[Told {
+                driver: 1,
+                asked: 0,
+                args: &[&[93]],
+            }],
+        ),
+        to_one(
+            wait,
+            &[&[7]],
+            &[Told {
+                driver: 1,
+                asked: 0,
+                args: &[&[92]],
+            }],
+        ),
+        to_one(
+            wait,
+            &[&[8]],
+            &[Told {
+                driver: 0,
+                asked: 0,
+                args: &[&[91]],
+            }],
+        ),
+    ];
     play(&rt, alloc, &steps)
 }
 
@@ -251,7 +364,11 @@ fn lost_results_and_other_types(rt: HostRuntime) -> Result<(), Fail> {
         cmd: CommandId::AllocateCommandBuffers,
         args: &[&[4], &[30]],
         payload: b"",
-        told: &[told(1, 3, &[&[71], &[30]])],
+        told: &[Told {
+            driver: 1,
+            asked: 3,
+            args: &[&[71], &[30]],
+        }],
         replies: &[&[101, 102, 103]],
         flags: &[1, 0, 1],
         above: &[6, 0, 7],
@@ -260,7 +377,11 @@ fn lost_results_and_other_types(rt: HostRuntime) -> Result<(), Fail> {
         cmd: CommandId::CreateFence,
         args: &[&[5]],
         payload: b"",
-        told: &[told(0, 1, &[&[71]])],
+        told: &[Told {
+            driver: 0,
+            asked: 1,
+            args: &[&[71]],
+        }],
         replies: &[&[111]],
         flags: &[1],
         above: &[111],
@@ -274,11 +395,12 @@ fn lost_results_and_other_types(rt: HostRuntime) -> Result<(), Fail> {
     let free = to_one(
         CommandId::FreeCommandBuffers,
         &[&[5], &[30], &[7, 0, 6, 99]],
-        &[told(0, 0, &[&[71], &[30], &[103, 0, 101, 0]])],
+        &[Told {
+            driver: 0,
+            asked: 0,
+            args: &[&[71], &[30], &[103, 0, 101, 0]],
+        }],
     );
-    let mut steps = Vec::new(alloc);
-    steps.extend(BEGIN)?;
-    steps.extend(DEVICES)?;
-    steps.extend([buffers, fence, lost, free])?;
+    let steps = [buffers, fence, lost, free];
     play(&rt, alloc, &steps)
 }
