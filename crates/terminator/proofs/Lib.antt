@@ -1,0 +1,13 @@
+pub mod Chains
+pub mod Flat
+pub mod FirstRead
+pub mod Keys
+pub mod Answering
+pub mod Placed
+pub mod Places
+pub mod Issuing
+pub mod Leaving
+pub mod Told
+pub mod Drivers
+pub mod Staying
+pub mod Known

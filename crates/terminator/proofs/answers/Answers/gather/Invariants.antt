@@ -1,0 +1,10 @@
+use Rattle.std.proofs.Common.{◌≡◌, map, take}
+use Rattle.model_driver.specs.Driver.{reply_shown}
+use Rattle.object_model.specs.Values.{values_answered}
+use Rattle.terminator.specs.Calls.{answered}
+use Rattle.terminator.specs.Shown.{drivers_named}
+use Rattle.terminator.specs.Table.{value_of}
+use Rattle.terminator.proofs.answers.Answers.gather.Given as goal
+
+abbrev pub invariant-loop-k : goal.invariant-loop-k
+invariant-loop-k l = map value_of l.values.items ≡ values_answered l.fn.self.cmd (answered (drivers_named l.fn.self.receivers) (map reply_shown (take l.k l.fn.self.replies.now))) l.fn.place

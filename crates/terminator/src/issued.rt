@@ -1,0 +1,117 @@
+//! The ids that were issued, with those of retrieved objects by their keys.
+ghost use Rattle.std.specs.Prelude.{◌≡◌, ◌≤◌, [], true, map, unwrap_or, IfOk, IfSome};
+ghost use Rattle.command_tables.specs.declared.types.ObjectType.{ObjectType};
+ghost use Rattle.handle_map.specs.Pairs.{has_pair, values_of};
+ghost use Rattle.layer_model.specs.Ids.{issue, kept_for, new_id, no_ids};
+ghost use Rattle.layer_model.specs.Routes.{add_route};
+ghost use Rattle.object_model.specs.Routes.{driver_in};
+ghost use Rattle.terminator.specs.Shown.{IsKeyOf, key_asked};
+ghost use Rattle.terminator.specs.Table.{value_of};
+
+use crate::kept::KeptIds;
+use crate::key::RetrievedKey;
+use crate::table::IdTable;
+use crate::value::DriverValue;
+use command_tables::{NoMemory, ObjectType};
+use object_model::Object;
+use std::alloc::Global;
+use std::marker::Model;
+
+/// The ids with their values, and the kept ids of retrieved objects, each of which was issued.
+#[derive(Drop)]
+pub struct IssuedIds {
+    table: IdTable,
+    kept: KeptIds,
+}
+
+impl Model for IssuedIds {
+    ghost use Rattle.terminator.specs.Shown.{IssuedState};
+    ghost use Rattle.terminator.specs.Table.{AreIssued};
+
+    ghost Value = { IssuedState };
+
+    ghost view = { λ s. record { ids = record { entries = s.table.entries; kept = s.kept }; routes = s.table.routes } };
+
+    ghost invariant = { λ s. AreIssued s.table.entries s.kept };
+}
+
+impl IssuedIds {
+    pub fn new(alloc: Global) -> IssuedIds
+        ensures ids { result.ids ≡ no_ids }
+        ensures routes { result.routes ≡ [] }
+    {
+        IssuedIds {
+            table: IdTable::new(alloc),
+            kept: KeptIds::new(alloc),
+        }
+    }
+
+    /// The values of an id of this type; none where it wasn't issued.
+    pub fn values(&self, ty: ObjectType, id: u64) -> &[DriverValue]
+        ensures { map value_of result.now ≡ unwrap_or (values_of self.now.ids.entries ty id) [] }
+    {
+        self.table.values(ty, id)
+    }
+
+    /// The driver behind an object; 0 where there is none.
+    pub fn driver_of(&self, object: Object) -> u32
+        ensures { result ≡ driver_in self.now.routes object }
+    {
+        self.table.driver_of(object)
+    }
+
+    // The id kept for a result, where the call retrieves. It was issued.
+    fn kept_for(&self, key: Option<RetrievedKey<'_>>) -> Option<u64>
+        ensures id { result ≡ kept_for self.now.ids.kept (key_asked key.entry) }
+        ensures known { IfSome result (λ id. (t : ObjectType) → IsKeyOf t (key_asked key.entry) → has_pair self.now.ids.entries t id ≡ true) }
+    {
+        match key {
+            None => None,
+            Some(key) => self.kept.get(key),
+        }
+    }
+
+    // A new id, kept by its key where the call retrieves.
+    #[tactic(auto, using(crate::proofs::Known::issued_more, crate::proofs::Known::issued_stay))]
+    fn issue_new(
+        &mut self,
+        key: Option<RetrievedKey<'_>>,
+        ty: ObjectType,
+        driver: u32,
+        values: &[DriverValue],
+    ) -> Result<u64, NoMemory>
+        requires { IsKeyOf ty (key_asked key) }
+        ensures ids { IfOk result (λ id. record { id = id; ids = self.new.ids } ≡ new_id self.old.ids (key_asked key.entry) ty (map value_of values.now)) }
+        ensures positive { IfOk result (λ id. 1 ≤ id) }
+        ensures routes { IfOk result (λ id. self.new.routes ≡ add_route self.old.routes (record { ty = ty; number = id }) driver) }
+    {
+        let id = self.table.add(ty, driver, values)?;
+        if let Some(key) = key {
+            self.kept.add(key, id)?;
+        }
+        Ok(id)
+    }
+
+    /// The kept id of a key, else a new one, with these values; a new one has this driver behind it.
+    #[tactic(auto, using(crate::proofs::Known::issued_stay))]
+    pub fn issue(
+        &mut self,
+        key: Option<RetrievedKey<'_>>,
+        ty: ObjectType,
+        driver: u32,
+        values: &[DriverValue],
+    ) -> Result<u64, NoMemory>
+        requires { IsKeyOf ty (key_asked key) }
+        ensures ids { IfOk result (λ id. record { id = id; ids = self.new.ids } ≡ issue self.old.ids (key_asked key.entry) ty (map value_of values.now)) }
+        ensures positive { IfOk result (λ id. 1 ≤ id) }
+        ensures routes { IfOk result (λ id. self.new.routes ≡ add_route self.old.routes (record { ty = ty; number = id }) driver) }
+    {
+        match self.kept_for(key) {
+            None => self.issue_new(key, ty, driver, values),
+            Some(id) => {
+                self.table.put(ty, id, values)?;
+                Ok(id)
+            }
+        }
+    }
+}

@@ -1,0 +1,157 @@
+//! The ids with their values.
+ghost use Rattle.std.specs.Prelude.{◌≡◌, ◌≤◌, [], ℕ, true, map, unwrap_or, IfNone, IfOk, IfSome, OnErr, OnOk};
+ghost use Rattle.command_tables.specs.Tests.{same_type};
+ghost use Rattle.handle_map.specs.Pairs.{has_pair, values_of, with_values};
+ghost use Rattle.layer_model.specs.Ids.{next_id};
+ghost use Rattle.layer_model.specs.Routes.{add_route};
+ghost use Rattle.object_model.specs.Routes.{driver_in};
+ghost use Rattle.terminator.specs.Table.{HasNoPlace, IsPlace, value_of};
+
+use crate::bare::is_routed;
+use crate::entry::IdEntry;
+use crate::value::DriverValue;
+use crate::values::{span, write};
+use command_tables::{NoMemory, ObjectType};
+use object_model::Object;
+use std::alloc::Global;
+use std::marker::Model;
+
+/// The ids that were issued, over all types together, in order from 1; for each its values, and the driver behind it.
+#[derive(Drop)]
+pub struct IdTable {
+    entries: Vec<IdEntry>,
+    values: Vec<DriverValue>,
+}
+
+impl Model for IdTable {
+    ghost use Rattle.terminator.specs.Table.{IsTable, TableState, ids_from, routes_from};
+
+    ghost Value = { TableState };
+
+    ghost view = { λ t. record { entries = ids_from 1 t.values.items t.entries.items; routes = routes_from 1 t.entries.items } };
+
+    ghost invariant = { λ t. IsTable t.entries.items t.values.items };
+}
+
+// Whether two types are one.
+#[tactic(auto, unfolding(command_tables::specs::Tests::same_type))]
+fn is_type(a: ObjectType, b: ObjectType) -> bool
+    ensures { result ≡ same_type a b }
+{
+    a == b
+}
+
+// The place of the entry of an id, if it is of this type.
+fn place_of(entries: &[IdEntry], ty: ObjectType, id: u64) -> Option<usize>
+    ensures some { IfSome result (λ place. IsPlace entries.now ty id place) }
+    ensures none { IfNone result (HasNoPlace entries.now ty id) }
+{
+    if id == 0 {
+        return None;
+    }
+    let place = (id - 1) as usize;
+    if entries.len() <= place {
+        return None;
+    }
+    if is_type(entries[place].ty, ty) {
+        Some(place)
+    } else {
+        None
+    }
+}
+
+impl IdTable {
+    pub fn new(alloc: Global) -> IdTable
+        ensures entries { result.entries ≡ [] }
+        ensures routes { result.routes ≡ [] }
+    {
+        IdTable {
+            entries: Vec::new(alloc),
+            values: Vec::new(alloc),
+        }
+    }
+
+    /// The values of an id of this type; none where it wasn't issued.
+    pub fn values(&self, ty: ObjectType, id: u64) -> &[DriverValue]
+        ensures { map value_of result.now ≡ unwrap_or (values_of self.now.entries ty id) [] }
+    {
+        match place_of(&self.entries, ty, id) {
+            None => &[],
+            Some(place) => {
+                let entry = self.entries[place];
+                span(&self.values, entry.start, entry.len)
+            }
+        }
+    }
+
+    /// The driver behind an object; 0 where there is none.
+    pub fn driver_of(&self, object: Object) -> u32
+        ensures { result ≡ driver_in self.now.routes object }
+    {
+        match place_of(&self.entries, object.ty, object.number) {
+            None => 0,
+            Some(place) => {
+                let entry = self.entries[place];
+                if is_routed(object.ty) {
+                    entry.driver
+                } else {
+                    0
+                }
+            }
+        }
+    }
+
+    /// Issues the next id. After `NoMemory` all is as before.
+    pub fn add(
+        &mut self,
+        ty: ObjectType,
+        driver: u32,
+        values: &[DriverValue],
+    ) -> Result<u64, NoMemory>
+        ensures id { IfOk result (λ id. id ≡ next_id self.old.entries) }
+        ensures entries { IfOk result (λ id. self.new.entries ≡ with_values self.old.entries ty id (map value_of values.now)) }
+        ensures routes { IfOk result (λ id. self.new.routes ≡ add_route self.old.routes (record { ty = ty; number = id }) driver) }
+        ensures err { OnErr result (self.new ≡ self.old) }
+    {
+        self.entries.reserve(1)?;
+        self.values.reserve(values.len())?;
+        let entry = IdEntry {
+            ty,
+            driver,
+            start: self.values.len(),
+            len: values.len(),
+        };
+        self.values.extend_from_slice(values).unwrap();
+        self.entries.push(entry).unwrap();
+        Ok(self.entries.len() as u64)
+    }
+
+    /// Gives an id that was issued other values, in place where there is room. After `NoMemory` all is as before.
+    pub fn put(&mut self, ty: ObjectType, id: u64, values: &[DriverValue]) -> Result<(), NoMemory>
+        requires { has_pair self.old.entries ty id ≡ true }
+        ensures entries { OnOk result (self.new.entries ≡ with_values self.old.entries ty id (map value_of values.now)) }
+        ensures routes { self.new.routes ≡ self.old.routes }
+        ensures positive { 1 ≤ id }
+        ensures known { (driver : ℕ) → add_route self.old.routes (record { ty = ty; number = id }) driver ≡ self.old.routes }
+        ensures err { OnErr result (self.new ≡ self.old) }
+    {
+        let _count = self.entries.len();
+        let place = (id - 1) as usize;
+        let entry = self.entries[place];
+        let len = values.len();
+        if len <= entry.len {
+            write(&mut self.values, entry.start, values);
+            self.entries[place] = IdEntry { len, ..entry };
+        } else {
+            self.values.reserve(len)?;
+            let start = self.values.len();
+            self.values.extend_from_slice(values).unwrap();
+            self.entries[place] = IdEntry {
+                start,
+                len,
+                ..entry
+            };
+        }
+        Ok(())
+    }
+}

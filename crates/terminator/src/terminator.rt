@@ -1,0 +1,187 @@
+//! The terminator: its ids with the drivers' values, what it tells the drivers, and what becomes of their replies.
+ghost use Rattle.std.specs.Prelude.{◌≡◌, ◌≤◌, map, length, IfOk, OnOk};
+ghost use Rattle.command_tables.specs.Calls.{call_content};
+ghost use Rattle.layer_model.specs.Ids.{at_key, issue, issue_all};
+ghost use Rattle.layer_model.specs.Routes.{add_route, route_all};
+ghost use Rattle.object_model.specs.Routes.{driver_behind};
+ghost use Rattle.object_model.specs.Values.{values_answered};
+ghost use Rattle.layer_model.specs.Terminator.{told_call, values_from};
+ghost use Rattle.model_driver.specs.Driver.{call_shown, reply_shown};
+ghost use Rattle.terminator.specs.Calls.{born_where, drivers_for, left_by, nothing_issued, routes_left, targets_of};
+ghost use Rattle.terminator.specs.Shown.{IsKeyOf, answers_in, drivers_named, key_asked};
+
+use crate::answers::Answers;
+use crate::bare::issued_type;
+use crate::issued::IssuedIds;
+use crate::key::{RetrievedKey, key_at};
+use crate::reading::{first_object, key_of};
+use crate::receivers::Receivers;
+use crate::telling::tell;
+use crate::value::DriverValue;
+use command_tables::{LayerCall, NoMemory, ObjectType};
+use model_driver::{DriverCall, DriverReply};
+use std::alloc::Global;
+use std::marker::Model;
+
+/// The end of a chain: ids of dispatchable handles and surfaces, numbered over all of them from 1, each driver's values for
+/// them, and the driver behind each that has one of its own.
+#[derive(Drop)]
+pub struct Terminator {
+    alloc: Global,
+    drivers: u32,
+    issued: IssuedIds,
+    // Room for the values of one result.
+    values: Vec<DriverValue>,
+}
+
+impl Model for Terminator {
+    ghost use Rattle.terminator.specs.Calls.{TerminatorState};
+
+    ghost Value = { TerminatorState };
+
+    ghost view = { λ t. record { ids = t.issued.ids; routes = t.issued.routes; drivers = t.drivers } };
+}
+
+// As many calls as there are drivers to tell.
+fn make_calls(alloc: Global, count: usize, calls: &mut Vec<DriverCall>) -> Result<(), NoMemory>
+    ensures { OnOk result (length calls.new.items ≡ count) }
+{
+    calls.truncate(count);
+    for place in 0..count {
+        if calls.len() <= place {
+            calls.push(DriverCall::with_room(alloc, 0, 0)?)?;
+        }
+    }
+    Ok(())
+}
+
+impl Terminator {
+    /// A terminator above so many drivers that has issued nothing.
+    pub fn new(alloc: Global, drivers: u32) -> Terminator
+        ensures { result ≡ nothing_issued drivers }
+    {
+        Terminator {
+            alloc,
+            drivers,
+            issued: IssuedIds::new(alloc),
+            values: Vec::new(alloc),
+        }
+    }
+
+    // The drivers that a call goes to.
+    #[tactic(auto, unfolding(command_tables::specs::Tests::same_type))]
+    fn receivers(&self, call: &LayerCall) -> Receivers
+        ensures { drivers_named result ≡ drivers_for self.now (call_content call.now) }
+    {
+        match first_object(call) {
+            None => Receivers::All(self.drivers),
+            Some(first) if first.ty == ObjectType::Instance => Receivers::All(self.drivers),
+            Some(first) => Receivers::One(self.issued.driver_of(first)),
+        }
+    }
+
+    // Each driver of a call is told it.
+    fn tell_each(
+        &self,
+        call: &LayerCall,
+        receivers: Receivers,
+        out: &mut Vec<DriverCall>,
+    ) -> Result<(), NoMemory>
+        requires { length out.old.items ≡ length (drivers_named receivers) }
+        ensures told { OnOk result (map call_shown out.new.items ≡ map (told_call self.now.ids (call_content call.now)) (drivers_named receivers)) }
+        ensures count { OnOk result (length out.new.items ≡ length (drivers_named receivers)) }
+    {
+        for place in 0..receivers.count() {
+            let driver = receivers.at(place);
+            tell(&self.issued, call, driver, &mut out[place as usize])?;
+        }
+        Ok(())
+    }
+
+    /// What each driver of a call is told, in order: the call in the driver's own values. What stood in `out` before is gone,
+    /// and its room is used again. After `NoMemory` anything stands there.
+    pub fn targets(&self, call: &LayerCall, out: &mut Vec<DriverCall>) -> Result<(), NoMemory>
+        ensures told { OnOk result (map call_shown out.new.items ≡ targets_of self.now (call_content call.now)) }
+        ensures count { OnOk result (length out.new.items ≡ length (drivers_for self.now (call_content call.now))) }
+    {
+        let receivers = self.receivers(call);
+        make_calls(self.alloc, receivers.count() as usize, out)?;
+        self.tell_each(call, receivers, out)
+    }
+
+    // The id of one result that is born, with the values that the drivers answered for it.
+    #[tactic(auto, using(crate::proofs::Leaving::key_type_at))]
+    fn issue_one(
+        &mut self,
+        key: Option<RetrievedKey<'_>>,
+        ty: ObjectType,
+        answers: Answers<'_>,
+        place: usize,
+    ) -> Result<u64, NoMemory>
+        requires key { IsKeyOf ty (key_asked key) }
+        requires count { length answers.replies.now ≡ length (drivers_named answers.receivers) }
+        ensures ids { IfOk result (λ id. record { id = id; ids = self.new.ids } ≡ issue self.old.ids (at_key (key_asked key.entry) place) ty (values_answered answers.entry.cmd (answers_in answers.entry) place)) }
+        ensures positive { IfOk result (λ id. 1 ≤ id) }
+        ensures routes { IfOk result (λ id. self.new.routes ≡ add_route self.old.routes (record { ty = ty; number = id }) (driver_behind answers.entry.cmd (drivers_named answers.entry.receivers) place)) }
+        ensures drivers { self.new.drivers ≡ self.old.drivers }
+    {
+        answers.gather(place, &mut self.values)?;
+        let driver = answers.driver_behind(place)?;
+        self.issued
+            .issue(key_at(key, place), ty, driver, &self.values)
+    }
+
+    // The results of a call of which each that is born gets an id; 0 stays.
+    #[tactic(auto, using(crate::proofs::Issuing::lost_left, crate::proofs::Issuing::issued_left))]
+    fn issue_all(
+        &mut self,
+        key: Option<RetrievedKey<'_>>,
+        ty: ObjectType,
+        answers: Answers<'_>,
+        results: &mut [u64],
+    ) -> Result<(), NoMemory>
+        requires key { IsKeyOf ty (key_asked key) }
+        requires count { length answers.replies.now ≡ length (drivers_named answers.receivers) }
+        ensures ids { OnOk result (record { results = results.new; ids = self.new.ids } ≡ issue_all self.old.ids (key_asked key.entry) ty 0 (values_from answers.entry.cmd (answers_in answers.entry) 0 (born_where results.old))) }
+        ensures routes { OnOk result (self.new.routes ≡ route_all self.old.routes answers.entry.cmd (drivers_named answers.entry.receivers) ty 0 results.new) }
+        ensures drivers { self.new.drivers ≡ self.old.drivers }
+    {
+        for place in 0..results.len() {
+            if results[place] != 0 {
+                results[place] = self.issue_one(key, ty, answers, place)?;
+            }
+        }
+        Ok(())
+    }
+
+    /// Replies on their way up, by the call as it stood above, one for each of its drivers in order. A result that is flagged,
+    /// by anything but 0, is born: it gets its id where the terminator issues ids for its type, else the first driver's handle;
+    /// 0 stays. A created object gets a new id, one above the greatest, a retrieved one the kept id of its owner, type, place
+    /// and a queue's payload, else a new one; its values are those answered now. After `NoMemory` the terminator and the results
+    /// are for dropping.
+    #[tactic(auto, using(crate::proofs::Leaving::key_type_read, crate::proofs::Leaving::not_devices))]
+    pub fn leave(
+        &mut self,
+        call: &LayerCall,
+        replies: &[DriverReply],
+        results: &mut [u64],
+    ) -> Result<(), NoMemory>
+        requires { length replies.now ≡ length (drivers_for self.old (call_content call.now)) }
+        ensures ids { OnOk result (record { results = results.new; ids = self.new.ids } ≡ left_by self.old (call_content call.now) (map reply_shown replies.now) results.old) }
+        ensures routes { OnOk result (self.new.routes ≡ routes_left self.old (call_content call.now) results.new) }
+        ensures drivers { self.new.drivers ≡ self.old.drivers }
+    {
+        let answers = Answers {
+            cmd: call.cmd,
+            receivers: self.receivers(call),
+            replies,
+        };
+        match issued_type(call.cmd) {
+            Some(ty) => self.issue_all(key_of(call), ty, answers, results),
+            None => {
+                answers.hand_up(results);
+                Ok(())
+            }
+        }
+    }
+}
