@@ -1,0 +1,32 @@
+//! How a kit is made of the layers' own calls.
+ghost use Rattle.std.specs.Prelude.{◌≡◌, IfOk, length};
+ghost use Rattle.dispatch_chain.specs.Rows.{entries_of, kinds_placed};
+
+use crate::kit::Kit;
+use crate::table::DispatchTable;
+use command_tables::{CommandId, NoMemory};
+use lifetime_layer::LifeState;
+use object_model::PartKind;
+use std::alloc::Global;
+use thread_layer::UseState;
+use unique_layer::UniqueState;
+
+/// How many parts of a chain intercept a command, by a table with the layers' own calls. A program makes its kit in the same way.
+pub fn count_parts(
+    alloc: Global,
+    parts: &[(PartKind, u32)],
+    cmd: CommandId,
+) -> Result<usize, NoMemory>
+    ensures { IfOk result (λ n. n ≡ length (entries_of cmd (kinds_placed parts.now))) }
+{
+    let kit = Kit::new(
+        UniqueState::enter,
+        UniqueState::leave,
+        LifeState::enter,
+        LifeState::leave,
+        UseState::enter,
+        UseState::leave,
+    );
+    let table = DispatchTable::build(alloc, parts, &kit)?;
+    Ok(table.at(cmd).len())
+}
