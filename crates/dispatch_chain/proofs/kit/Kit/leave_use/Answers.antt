@@ -1,0 +1,8 @@
+use Rattle.std.proofs.Common.{rules}
+use Rattle.dispatch_chain.proofs.kit.Kit.leave_use.Goals as goal
+
+pub returns-clause-kept : goal.returns-clause-kept
+returns-clause-kept g c = let k = c.args.self.now.use_leaves _ _ _ _ _ _ c.requires.shape c.requires.once c.use_leave.ensures.0 in search rules
+
+pub returns-clause-place : goal.returns-clause-place
+returns-clause-place g c = let k = c.args.self.now.use_leaves _ _ _ _ _ _ c.requires.shape c.requires.once c.use_leave.ensures.0 in search rules

@@ -1,0 +1,18 @@
+use Rattle.std.proofs.Common.{◌≡◌, map, drop, length}
+use Rattle.object_records.specs.Shape.{HasParams}
+use Rattle.lifetime_layer.specs.Shape.{HasFewPlaces}
+use Rattle.dispatch_chain.specs.Entries.{AllWithin, enter_entries, with_front, down_of}
+use Rattle.dispatch_chain.specs.Seats.{seat_of, state_of}
+use Rattle.dispatch_chain.proofs.walks.down.Given as goal
+
+abbrev pub invariant-loop-entry : goal.invariant-loop-entry
+invariant-loop-entry g l = record {
+  told : with_front l.held.forms (enter_entries l.thread l.number (drop l.entry-index l.entries) (down_of (map state_of l.parts) l.call l.verdict))
+      ≡ with_front l.fn.held.forms (enter_entries l.thread l.number l.entries (down_of (map state_of l.fn.parts) l.fn.call l.fn.verdict));
+  within : AllWithin (length l.parts) (drop l.entry-index l.entries);
+  seats : map seat_of l.parts ≡ map seat_of l.fn.parts;
+  shape : HasParams l.call;
+  few : HasFewPlaces l.call;
+  cmd : l.call.cmd ≡ l.held.cmd;
+  held : l.held.cmd ≡ l.fn.held.cmd;
+}

@@ -1,0 +1,17 @@
+use Rattle.std.proofs.Common.{◌-◌, subst}
+use Rattle.command_tables.specs.Calls.{call_content}
+use Rattle.dispatch_chain.specs.Entries.{MayLeaveAt}
+use Rattle.dispatch_chain.proofs.Seats.{seat_set}
+use Rattle.dispatch_chain.proofs.Stepping.{on_both, left_at, state_there}
+use Rattle.dispatch_chain.proofs.walks.leave_at.Goals as goal
+
+pub leave_part-requires-clause-once : goal.leave_part-requires-clause-once
+leave_part-requires-clause-once g c = subst (MayLeaveAt (call_content c.args.form.now) c.args.results.now) (state_there c.args.parts.now (c.args.entry.place - 1) c.index-parts-index.result c.requires.to) c.requires.once
+
+pub returns-clause-left : goal.returns-clause-left
+returns-clause-left g c =
+    on_both c.leave_part.result (left_at c.args.thread c.args.entry c.args.parts.now c.index-parts-index.result c.leave_part.new.part (call_content c.args.form.now) c.args.results.now c.leave_part.new.results c.requires.to)
+    c.leave_part.ensures.state c.leave_part.ensures.results
+
+pub returns-clause-seats : goal.returns-clause-seats
+returns-clause-seats g c = seat_set c.args.parts.now (c.args.entry.place - 1) c.leave_part.new.part c.index-parts-index.result c.requires.to c.leave_part.ensures.seat

@@ -1,0 +1,41 @@
+use Rattle.std.proofs.Common.{◌-◌, map, length, ◌∙◌, arith, inl, inr, refl, sym, subst}
+use Rattle.std.proofs.lemmas.List.{length-map}
+use Rattle.command_tables.specs.Calls.{call_content}
+use Rattle.object_records.specs.Shape.{HasParams}
+use Rattle.dispatch_chain.proofs.Upwards.{can_one, drop_less, ended, form_less, one_up, within_at}
+use Rattle.dispatch_chain.proofs.walks.up.Goals as goal
+
+pub loop-i-init : goal.loop-i-init
+loop-i-init g c = record {
+  told = ended c.args.thread c.args.entries.now (map call_content c.args.forms.now) _ c.lesser-i.result (elim c.lesser-i.ensures.one [ inl h ↦ inl h | inr h ↦ inr (simp length-map h) ]);
+  entries = c.lesser-i.ensures.first;
+  forms = c.lesser-i.ensures.second;
+  seats = refl;
+}
+
+pub leave_at-requires-clause-from : goal.leave_at-requires-clause-from
+leave_at-requires-clause-from g c = (within_at (length c.args.parts.now) c.args.entries.now (c.loop-i.i - 1) _ c.requires.within (omega arith)).0
+
+pub leave_at-requires-clause-to : goal.leave_at-requires-clause-to
+leave_at-requires-clause-to g c = rw c.loop-i.auto.parts ((within_at (length c.args.parts.now) c.args.entries.now (c.loop-i.i - 1) _ c.requires.within (omega arith)).1)
+
+pub leave_at-requires-clause-shape : goal.leave_at-requires-clause-shape
+leave_at-requires-clause-shape g c = subst HasParams (sym c.index-forms-i.is) (c.requires.shaped (c.loop-i.i - 1) c.index-forms-i.result (omega arith))
+
+pub leave_at-requires-clause-once : goal.leave_at-requires-clause-once
+leave_at-requires-clause-once g c = can_one c.args.thread c.args.entries.now (map call_content c.args.forms.now) _ _ c.loop-i.i _ (call_content c.index-forms-i.result) c.requires.can
+    (drop_less c.args.entries.now c.loop-i.i _ c.loop-i-test.true c.loop-i.invariant.entries)
+    (form_less c.args.forms.now c.loop-i.i c.index-forms-i.result c.loop-i-test.true c.loop-i.invariant.forms c.index-forms-i.is)
+    c.loop-i.invariant.told
+
+pub loop-i-preserved : goal.loop-i-preserved
+loop-i-preserved g c = record {
+  told = one_up c.args.thread c.args.entries.now (map call_content c.args.forms.now) _ _ c.loop-i.i _ (call_content c.index-forms-i.result)
+      (drop_less c.args.entries.now c.loop-i.i _ c.loop-i-test.true c.loop-i.invariant.entries)
+      (form_less c.args.forms.now c.loop-i.i c.index-forms-i.result c.loop-i-test.true c.loop-i.invariant.forms c.index-forms-i.is)
+      c.loop-i.invariant.told
+      ∙ sym c.in_ok-leave_at.ensures.left;
+  entries = omega arith;
+  forms = omega arith;
+  seats = c.in_ok-leave_at.ensures.seats ∙ c.loop-i.invariant.seats;
+}

@@ -1,0 +1,32 @@
+use Rattle.std.proofs.Common.{◌≡◌, map, length, ◌∙◌, ap, sym, subst}
+use Rattle.dispatch_chain.specs.Holding.{AllShaped}
+use Rattle.dispatch_chain.specs.Rows.{entries_of}
+use Rattle.dispatch_chain.specs.Seats.{kinds_of, seat_of, seats_from, state_of}
+use Rattle.dispatch_chain.proofs.Seats.{kinds_stay, seats_stay}
+use Rattle.dispatch_chain.proofs.Stepping.{on_ok}
+use Rattle.dispatch_chain.proofs.Upwards.{left_up, can_up}
+use Rattle.dispatch_chain.proofs.Holding.{shaped_at}
+use Rattle.dispatch_chain.proofs.Walked.{kinds_long}
+use Rattle.dispatch_chain.proofs.Whole.{all_of_it, row_within}
+use Rattle.dispatch_chain.proofs.walks.walk_leave.Goals as goal
+
+pub up-requires-clause-within : goal.up-requires-clause-within
+up-requires-clause-within g c = row_within c.args.held.now.cmd _ (kinds_of c.args.states.now) c.at-entries.result.now (c.at-entries.ensures ∙ ap (λ x. entries_of x c.args.table.now.rows) c.command.ensures ∙ ap (entries_of c.args.held.now.cmd) c.requires.table) (ap length c.deref_mut.ensures.value ∙ kinds_long c.states.inside.parts.items ∙ ap (λ xs. length (kinds_of xs)) c.states.view_is)
+
+pub up-requires-clause-shaped : goal.up-requires-clause-shaped
+up-requires-clause-shaped g c = λ i d h. shaped_at c.args.held.now.cmd c.forms.result.now i d (subst (AllShaped c.args.held.now.cmd) (sym c.forms.ensures.forms) c.forms.ensures.shaped) h
+
+pub up-requires-clause-can : goal.up-requires-clause-can
+up-requires-clause-can g c = can_up c.args.thread c.args.held.now c.args.states.now c.states.inside.parts.items _ c.at-entries.result.now _ c.args.results.now c.states.view_is (c.at-entries.ensures ∙ ap (λ x. entries_of x c.args.table.now.rows) c.command.ensures ∙ ap (entries_of c.args.held.now.cmd) c.requires.table) c.deref_mut.ensures.value c.forms.ensures.forms c.requires.once
+
+pub returns-clause-states : goal.returns-clause-states
+returns-clause-states g c = on_ok c.up.result (λ h forms k. ap (map state_of) (all_of_it c.states.inside.parts.len c.up.new.parts c.states.inside.parts.items (c.up.auto.parts ∙ ap length c.deref_mut.ensures.value) c.states.inside.parts.ok.0) ∙ ap (λ w. w.states) (h ∙ left_up c.args.thread c.args.held.now c.args.states.now c.states.inside.parts.items _ c.at-entries.result.now _ forms c.args.results.now c.states.view_is (c.at-entries.ensures ∙ ap (λ x. entries_of x c.args.table.now.rows) c.command.ensures ∙ ap (entries_of c.args.held.now.cmd) c.requires.table) c.deref_mut.ensures.value c.forms.ensures.forms k)) c.up.ensures.left
+
+pub returns-clause-results : goal.returns-clause-results
+returns-clause-results g c = on_ok c.up.result (λ h forms k. ap (λ w. w.results) (h ∙ left_up c.args.thread c.args.held.now c.args.states.now c.states.inside.parts.items _ c.at-entries.result.now _ forms c.args.results.now c.states.view_is (c.at-entries.ensures ∙ ap (λ x. entries_of x c.args.table.now.rows) c.command.ensures ∙ ap (entries_of c.args.held.now.cmd) c.requires.table) c.deref_mut.ensures.value c.forms.ensures.forms k)) c.up.ensures.left
+
+pub returns-clause-kinds : goal.returns-clause-kinds
+returns-clause-kinds g c = ap (λ xs. kinds_of (map state_of xs)) (all_of_it c.states.inside.parts.len c.up.new.parts c.states.inside.parts.items (c.up.auto.parts ∙ ap length c.deref_mut.ensures.value) c.states.inside.parts.ok.0) ∙ kinds_stay c.states.inside.parts.items c.up.new.parts (c.up.ensures.seats ∙ ap (map seat_of) c.deref_mut.ensures.value) ∙ ap kinds_of c.states.view_is
+
+pub invariant_of-states : goal.invariant_of-states
+invariant_of-states g c = subst (λ xs. map seat_of xs ≡ seats_from 1 (kinds_of (map state_of xs))) (sym (all_of_it c.states.inside.parts.len c.up.new.parts c.states.inside.parts.items (c.up.auto.parts ∙ ap length c.deref_mut.ensures.value) c.states.inside.parts.ok.0)) (seats_stay c.states.inside.parts.items c.up.new.parts c.states.invariant (c.up.ensures.seats ∙ ap (map seat_of) c.deref_mut.ensures.value))

@@ -1,0 +1,6 @@
+pub mod Answers
+pub mod Rows
+pub mod Seats
+pub mod Steps
+pub mod Entries
+pub mod Holding

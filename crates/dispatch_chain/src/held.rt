@@ -1,0 +1,108 @@
+//! The calls that are held on a walk down, for the walk up.
+ghost use Rattle.std.specs.Prelude.{◌≡◌, ◌≤◌, ◌<◌, ◌+◌, ◌++◌, ◌∷◌, [], length, map, take, OnErr, OnOk};
+ghost use Rattle.command_tables.specs.Calls.{call_content};
+ghost use Rattle.object_records.specs.Shape.{HasParams};
+ghost use Rattle.dispatch_chain.specs.Holding.{AllShaped};
+
+use command_tables::{CommandId, LayerCall, NoMemory};
+use std::alloc::Global;
+use std::marker::Model;
+
+/// The call as it stood above each part that it came to, from the application down, in buffers that later walks use again.
+#[derive(Drop)]
+pub struct Held {
+    alloc: Global,
+    cmd: CommandId,
+    forms: Vec<LayerCall>,
+    // How many of the forms are held.
+    count: usize,
+}
+
+impl Model for Held {
+    ghost use Rattle.std.specs.Prelude.{map, take};
+    ghost use Rattle.command_tables.specs.Calls.{call_content};
+    ghost use Rattle.dispatch_chain.specs.Holding.{AreHeld, HeldCalls};
+
+    ghost Value = { HeldCalls };
+
+    ghost view = { λ h. record { cmd = h.cmd; forms = map call_content (take h.count h.forms.items) } };
+
+    ghost invariant = { λ h. AreHeld h.cmd h.count h.forms.items };
+}
+
+// There is a form behind so many.
+fn make_room(alloc: Global, forms: &mut Vec<LayerCall>, count: usize) -> Result<(), NoMemory>
+    requires { count ≤ length forms.old.items }
+    ensures within { count ≤ length forms.new.items }
+    ensures room { OnOk result (count < length forms.new.items) }
+    ensures kept { take count forms.new.items ≡ take count forms.old.items }
+{
+    if count == forms.len() {
+        let form = LayerCall::with_room(alloc, 0, 0)?;
+        forms.push(form)?;
+    }
+    Ok(())
+}
+
+// The form behind so many becomes the call.
+#[tactic(auto, using(crate::proofs::Holding::put_behind))]
+fn refill(forms: &mut Vec<LayerCall>, count: usize, call: &LayerCall) -> Result<(), NoMemory>
+    requires { count < length forms.old.items }
+    ensures within { count < length forms.new.items }
+    ensures kept { take count forms.new.items ≡ take count forms.old.items }
+    ensures held { OnOk result (map call_content (take (count + 1) forms.new.items) ≡ map call_content (take count forms.old.items) ++ call_content call.now ∷ []) }
+{
+    forms[count].copy_from(call)?;
+    Ok(())
+}
+
+impl Held {
+    /// No call is held.
+    pub fn new(alloc: Global) -> Held
+        ensures { result.forms ≡ [] }
+    {
+        Held {
+            alloc,
+            cmd: CommandId::CreateInstance,
+            forms: Vec::new(alloc),
+            count: 0,
+        }
+    }
+
+    /// The calls that are held.
+    pub fn forms(&self) -> &[LayerCall]
+        ensures forms { map call_content result.now ≡ self.now.forms }
+        ensures shaped { AllShaped self.now.cmd self.now.forms }
+    {
+        &self.forms[..self.count]
+    }
+
+    // A walk of a command begins.
+    pub(crate) fn begin(&mut self, cmd: CommandId)
+        ensures { self.new ≡ record { cmd = cmd; forms = [] } }
+    {
+        self.cmd = cmd;
+        self.count = 0;
+    }
+
+    pub(crate) fn command(&self) -> CommandId
+        ensures { result ≡ self.now.cmd }
+    {
+        self.cmd
+    }
+
+    // A further call is held.
+    #[tactic(auto, using(crate::proofs::Holding::shaped_more))]
+    pub(crate) fn hold(&mut self, call: &LayerCall) -> Result<(), NoMemory>
+        requires cmd { call.now.cmd ≡ self.old.cmd }
+        requires shape { HasParams call.now }
+        ensures cmd { self.new.cmd ≡ self.old.cmd }
+        ensures forms { OnOk result (self.new.forms ≡ self.old.forms ++ call_content call.now ∷ []) }
+        ensures err { OnErr result (self.new ≡ self.old) }
+    {
+        make_room(self.alloc, &mut self.forms, self.count)?;
+        refill(&mut self.forms, self.count, call)?;
+        self.count += 1;
+        Ok(())
+    }
+}

@@ -1,0 +1,103 @@
+//! A part of a chain: what it keeps, and its two steps.
+ghost use Rattle.std.specs.Prelude.{◌≡◌, ◌++◌, false, OnOk};
+ghost use Rattle.command_tables.specs.Calls.{call_content};
+ghost use Rattle.object_records.specs.Shape.{HasParams};
+ghost use Rattle.lifetime_layer.specs.Reports.{reports_of};
+ghost use Rattle.lifetime_layer.specs.Shape.{HasFewPlaces};
+ghost use Rattle.layer_model.specs.Parts.{unique_enter};
+ghost use Rattle.layer_model.specs.Walks.{new_part};
+ghost use Rattle.dispatch_chain.specs.Seats.{seat_at, seat_of, state_of};
+ghost use Rattle.dispatch_chain.specs.Steps.{MayLeave, entered, left, left_results};
+
+use crate::kit::Kit;
+use command_tables::{LayerCall, NoMemory};
+use lifetime_layer::{LifeState, Verdict};
+use object_model::PartKind;
+use std::alloc::Global;
+use std::marker::Model;
+use thread_layer::UseState;
+use unique_layer::UniqueState;
+
+/// What a part keeps.
+#[derive(Drop)]
+pub enum Part {
+    Threads(UseState),
+    Lifetimes(LifeState),
+    Unique(UniqueState),
+}
+
+// A part that was given nothing yet.
+pub(crate) fn new_part(alloc: Global, kind: PartKind, place: u32) -> Part
+    ensures state { state_of result ≡ new_part kind }
+    ensures seat { seat_of result ≡ seat_at place kind }
+{
+    match kind {
+        PartKind::Threads => Part::Threads(UseState::new(alloc, place)),
+        PartKind::Lifetimes => Part::Lifetimes(LifeState::new(alloc, place)),
+        PartKind::Unique => Part::Unique(UniqueState::new(alloc)),
+    }
+}
+
+// A call comes to a unique part; its shape stays.
+fn enter_unique(kit: &Kit, unique: &UniqueState, call: &mut LayerCall)
+    requires shape { HasParams call.old }
+    requires few { HasFewPlaces call.old }
+    ensures call { call_content call.new ≡ unique_enter unique.now (call_content call.old) }
+    ensures shape { HasParams call.new }
+    ensures few { HasFewPlaces call.new }
+{
+    kit.enter_unique(unique, call);
+}
+
+// A call comes to a part.
+pub(crate) fn enter_part(
+    kit: &Kit,
+    part: &mut Part,
+    place: u32,
+    thread: u32,
+    number: u64,
+    call: &mut LayerCall,
+    verdict: &mut Verdict,
+) -> Result<(), NoMemory>
+    requires shape { HasParams call.old }
+    requires few { HasFewPlaces call.old }
+    requires goes { verdict.old.skip ≡ false }
+    requires seat { seat_of part.old ≡ seat_at place (seat_of part.old).kind }
+    ensures state { OnOk result (state_of part.new ≡ (entered thread number place (state_of part.old) (call_content call.old)).state) }
+    ensures call { OnOk result (call_content call.new ≡ (entered thread number place (state_of part.old) (call_content call.old)).call) }
+    ensures reports { OnOk result (reports_of verdict.new.findings.items ≡ reports_of verdict.old.findings.items ++ (entered thread number place (state_of part.old) (call_content call.old)).reports) }
+    ensures skip { OnOk result (verdict.new.skip ≡ (entered thread number place (state_of part.old) (call_content call.old)).skip) }
+    ensures seat { seat_of part.new ≡ seat_of part.old }
+    ensures shape { HasParams call.new }
+    ensures few { HasFewPlaces call.new }
+{
+    match part {
+        Part::Threads(uses) => kit.enter_use(uses, thread, number, call, verdict),
+        Part::Lifetimes(life) => kit.enter_life(life, call, verdict),
+        Part::Unique(unique) => {
+            enter_unique(kit, unique, call);
+            Ok(())
+        }
+    }
+}
+
+// Results come to a part.
+pub(crate) fn leave_part(
+    kit: &Kit,
+    part: &mut Part,
+    thread: u32,
+    form: &LayerCall,
+    results: &mut [u64],
+) -> Result<(), NoMemory>
+    requires shape { HasParams form.now }
+    requires once { MayLeave (state_of part.old) (call_content form.now) results.old }
+    ensures state { OnOk result (state_of part.new ≡ left thread (state_of part.old) (call_content form.now) results.old) }
+    ensures results { OnOk result (results.new ≡ left_results (state_of part.old) (call_content form.now) results.old) }
+    ensures seat { seat_of part.new ≡ seat_of part.old }
+{
+    match part {
+        Part::Threads(uses) => kit.leave_use(uses, thread, form, results),
+        Part::Lifetimes(life) => kit.leave_life(life, form, results),
+        Part::Unique(unique) => kit.leave_unique(unique, form, results),
+    }
+}

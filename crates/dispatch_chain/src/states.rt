@@ -1,0 +1,54 @@
+//! What the parts of a chain keep.
+ghost use Rattle.std.specs.Prelude.{◌≡◌, IfOk, map};
+ghost use Rattle.layer_model.specs.Walks.{new_part};
+ghost use Rattle.dispatch_chain.specs.Rows.{kinds_placed};
+ghost use Rattle.dispatch_chain.specs.Seats.{seat_of, seats_from, state_of};
+
+use crate::part::{Part, new_part};
+use chain_build::Chain;
+use command_tables::NoMemory;
+use object_model::PartKind;
+use std::alloc::Global;
+use std::marker::Model;
+
+/// What the parts of a chain keep, from the application down. Part k of the chain, from 1, names the place k in its findings.
+#[derive(Drop)]
+pub struct LayerStates {
+    pub(crate) parts: Vec<Part>,
+}
+
+impl Model for LayerStates {
+    ghost use Rattle.std.specs.Prelude.{◌≡◌, List, map};
+    ghost use Rattle.layer_model.specs.Walks.{PartState};
+    ghost use Rattle.dispatch_chain.specs.Seats.{kinds_of, seat_of, seats_from, state_of};
+
+    ghost Value = { List PartState };
+
+    ghost view = { λ s. map state_of s.parts.items };
+
+    ghost invariant = { λ s. map seat_of s.parts.items ≡ seats_from 1 (kinds_of (map state_of s.parts.items)) };
+}
+
+// Parts of these kinds, from place 1 on, that were given nothing yet.
+fn new_parts(alloc: Global, placed: &[(PartKind, u32)]) -> Result<Vec<Part>, NoMemory>
+    ensures states { IfOk result (λ parts. map state_of parts.items ≡ map new_part (kinds_placed placed.now)) }
+    ensures seats { IfOk result (λ parts. map seat_of parts.items ≡ seats_from 1 (kinds_placed placed.now)) }
+{
+    let mut parts = Vec::new(alloc);
+    let mut place = 0u32;
+    for part in placed {
+        place = place.checked_add(1).ok_or(NoMemory)?;
+        parts.push(new_part(alloc, part.0, place))?;
+    }
+    Ok(parts)
+}
+
+impl LayerStates {
+    /// Each part of a chain has been given nothing yet.
+    pub fn new(alloc: Global, chain: &Chain) -> Result<LayerStates, NoMemory>
+        ensures { IfOk result (λ states. states ≡ map new_part (kinds_placed chain.now.parts.items)) }
+    {
+        let parts = new_parts(alloc, &chain.parts)?;
+        Ok(LayerStates { parts })
+    }
+}
