@@ -189,9 +189,9 @@ fn is_child_at(table: &RecordTable, place: usize, object: Object) -> bool
     is_owner(table, kept.owner, object)
 }
 
-// How many created objects live and are owned by this one.
+// How many created objects live and are owned by this one, counted from record to record.
 #[tactic(auto, using(crate::proofs::Born::children_more, crate::proofs::Kept::births_all))]
-pub(crate) fn count_children(table: &RecordTable, object: Object) -> usize
+fn count_all_children(table: &RecordTable, object: Object) -> usize
     ensures { result ≡ length (children_in (births_kept table.now.records) (is_in (living_kept table.now.records)) object) }
 {
     let mut count: usize = 0;
@@ -201,6 +201,20 @@ pub(crate) fn count_children(table: &RecordTable, object: Object) -> usize
         }
     }
     count
+}
+
+// How many created objects live and are owned by this one. Its record counts them; only owners that weren't born count at no record.
+#[tactic(auto, using(crate::proofs::Owned::children_counted, crate::proofs::Owned::no_children, crate::proofs::Kept::place_within))]
+pub(crate) fn count_children(table: &RecordTable, object: Object) -> usize
+    ensures { result ≡ length (children_in (births_kept table.now.records) (is_in (living_kept table.now.records)) object) }
+{
+    if table.has_strays() {
+        return count_all_children(table, object);
+    }
+    match table.place_of(object) {
+        None => 0,
+        Some(place) => table.count_children(place),
+    }
 }
 
 // The object of the record at a place is noted where it has this type and owner.
