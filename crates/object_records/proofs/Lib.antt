@@ -8,3 +8,4 @@ pub mod Added
 pub mod Owned
 pub mod Swept
 pub mod Once
+pub mod Walked

@@ -41,7 +41,7 @@ owner_low w place links is low = omega (arith, low, ap before_owned is)
 
 -- ---- a further record
 
-last_snoc : (k found place : ℕ) (rs : List ObjectRecord) (r : ObjectRecord) → last_from k found place (rs ++ r ∷ []) ≡ cond (is_owner_at place r.owner) (suc (k + length rs)) (last_from k found place rs)
+pub last_snoc : (k found place : ℕ) (rs : List ObjectRecord) (r : ObjectRecord) → last_from k found place (rs ++ r ∷ []) ≡ cond (is_owner_at place r.owner) (suc (k + length rs)) (last_from k found place rs)
 last_snoc k found place [] r = ap (λ n. cond (is_owner_at place r.owner) (suc n) found) (omega arith)
 last_snoc k found place (x ∷ rs) r =
     last_snoc (suc k) (cond (is_owner_at place x.owner) (suc k) found) place rs r
@@ -96,7 +96,7 @@ get_last [] x (suc n) at = absurd (omega (arith, at))
 get_last (y ∷ xs) x zero at = absurd (omega (arith, at))
 get_last (y ∷ xs) x (suc n) at = get_last xs x n (omega (arith, at))
 
-get_low : {X : Type 0} (xs : List X) (x : X) (n : ℕ) → slice_get xs n ≡ Some x → n < length xs
+pub get_low : {X : Type 0} (xs : List X) (x : X) (n : ℕ) → slice_get xs n ≡ Some x → n < length xs
 get_low [] x n e = cc e
 get_low (y ∷ xs) x zero e = omega arith
 get_low (y ∷ xs) x (suc n) e = omega (arith, get_low xs x n e)
@@ -106,7 +106,7 @@ take_front rs r zero low = refl
 take_front [] r (suc n) low = absurd (omega (arith, low))
 take_front (x ∷ rs) r (suc n) low = ap (λ xs. x ∷ xs) (take_front rs r n (omega (arith, low)))
 
-take_all : (rs : List ObjectRecord) (n : ℕ) → n ≡ length rs → take n rs ≡ rs
+pub take_all : (rs : List ObjectRecord) (n : ℕ) → n ≡ length rs → take n rs ≡ rs
 take_all [] zero at = refl
 take_all [] (suc n) at = refl
 take_all (x ∷ rs) zero at = absurd (omega (arith, at))

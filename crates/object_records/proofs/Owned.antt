@@ -85,7 +85,7 @@ past (x ∷ xs) zero low e = cc e
 past (x ∷ xs) (suc n) low e = past xs n (omega (arith, low)) e
 
 -- an owner that was born is an object just where it stands at the object's place
-owner_same : (rs : List ObjectRecord) (o : Object) (w : KeptOwner) → AreOwnersBefore 0 rs → AreOnce (objects_kept rs) → before_owned w ≤ length rs → is_unborn w ≡ false
+pub owner_same : (rs : List ObjectRecord) (o : Object) (w : KeptOwner) → AreOwnersBefore 0 rs → AreOnce (objects_kept rs) → before_owned w ≤ length rs → is_unborn w ≡ false
     → are_same (slice_get (line_kept (births_kept rs) w) 0) (Some o) ≡ option_map_or (λ place. is_owner_at place w) (place_in rs o) false
 owner_same rs o Nobody all once low born = none (place_in rs o)
   where
@@ -100,7 +100,7 @@ owner_same rs o (At q) all once low born = go (slice_get rs q) refl
     go (Some r) e = ap (λ x. are_same x (Some o)) (first_here rs q r all e) ∙ at_place rs o q r once e
 
 -- no owner of a record is unborn
-born_owner : (rs : List ObjectRecord) (n : ℕ) (r : ObjectRecord) → has_strays_in rs ≡ false → slice_get rs n ≡ Some r → is_unborn r.owner ≡ false
+pub born_owner : (rs : List ObjectRecord) (n : ℕ) (r : ObjectRecord) → has_strays_in rs ≡ false → slice_get rs n ≡ Some r → is_unborn r.owner ≡ false
 born_owner [] n r none e = cc e
 born_owner (x ∷ rs) zero r none e = ap (λ (y : ObjectRecord). is_unborn y.owner) (sym (same_Some x r e)) ∙ (or_false (is_unborn x.owner) _ none).0
 born_owner (x ∷ rs) (suc n) r none e = born_owner rs n r (or_false (is_unborn x.owner) _ none).1 e
@@ -108,7 +108,7 @@ born_owner (x ∷ rs) (suc n) r none e = born_owner rs n r (or_false (is_unborn 
 -- ---- births and records
 
 -- the objects of births that pass a test are those of the records that pass one
-objects_same : (all : List Birth) (f : Birth → Bool) (g : ObjectRecord → Bool) (bs : List Birth) (rs : List ObjectRecord) → length bs ≡ length rs
+pub objects_same : (all : List Birth) (f : Birth → Bool) (g : ObjectRecord → Bool) (bs : List Birth) (rs : List ObjectRecord) → length bs ≡ length rs
     → ((n : ℕ) (r : ObjectRecord) → slice_get rs n ≡ Some r → (slice_get bs n ≡ Some (birth_after all r)) × (f (birth_after all r) ≡ g r))
     → map (λ (b : Birth). b.object) (filter f bs) ≡ map (λ (r : ObjectRecord). r.object) (filter g rs)
 objects_same all f g [] [] count h = refl
@@ -170,7 +170,7 @@ no_children rs o all once none e =
 
 -- ---- an object that owns nothing
 
-last_some : (k found place : ℕ) (rs : List ObjectRecord) → last_from k (suc found) place rs ≡ 0 → ⊥
+pub last_some : (k found place : ℕ) (rs : List ObjectRecord) → last_from k (suc found) place rs ≡ 0 → ⊥
 last_some k found place [] e = omega (arith, e)
 last_some k found place (r ∷ rs) e = go (is_owner_at place r.owner) e (λ f. last_some (suc k) k place rs f) (λ f. last_some (suc k) found place rs f)
   where

@@ -1,7 +1,10 @@
 -- How what an object owns is found from its record: the links between records, and the count of children. Source: this project.
-use Rattle.std.specs.Prelude.{◌≡◌, ◌≤◌, ◌<◌, ℕ, zero, suc, ◌+◌, ◌-◌, ◌==◌, Bool, true, false, ◌&&◌, if◌then◌else◌, Some, List, [], ◌∷◌, length, filter, take, slice_get, slice_index_or}
+use Rattle.std.specs.Prelude.{◌≡◌, ◌≤◌, ◌<◌, ℕ, zero, suc, ◌+◌, ◌-◌, ◌==◌, Bool, true, false, ◌&&◌, if◌then◌else◌, Some, List, [], ◌∷◌, length, filter, map, take, slice_get, slice_index_or}
 use Rattle.std.specs.List.{list_any}
 use Rattle.std.specs.Option.{option_map_or}
+use Rattle.command_tables.specs.declared.types.ObjectType.{ObjectType}
+use Rattle.command_tables.specs.Tests.{same_type}
+use Rattle.object_model.specs.declared.Object.{Object}
 use Rattle.object_records.specs.declared.kept_owner.KeptOwner.{KeptOwner}
 use Rattle.object_records.specs.declared.kept_owner.KeptOwner.TheVariants.{Nobody, At, Unborn}
 use Rattle.object_records.specs.declared.links.Links.{Links}
@@ -49,6 +52,18 @@ is_child_of place r = r.is_created && r.lives && is_owner_at place r.owner
 -- how many there are
 abbrev pub child_count : List ObjectRecord → ℕ → ℕ
 child_count rs place = length (filter (is_child_of place) rs)
+
+-- the object alone, where it has this type
+abbrev pub alone_if : ObjectType → Object → List Object
+alone_if t o = if same_type o.ty t then o ∷ [] else []
+
+-- a record of an object of this type that has its owner at a place
+abbrev pub is_owned_there : ObjectType → ℕ → ObjectRecord → Bool
+is_owned_there t place r = same_type r.object.ty t && is_owner_at place r.owner
+
+-- the objects of a type that have their owner at a place, in order of birth
+abbrev pub owned_of_type : List ObjectRecord → ObjectType → ℕ → List Object
+owned_of_type rs t place = map (λ r. r.object) (filter (is_owned_there t place) rs)
 
 -- what is kept at the record at a place fits the records
 pub record IsLinked (rs : List ObjectRecord) (place : ℕ) (l : Links) : Type 0 where
