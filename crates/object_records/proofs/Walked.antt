@@ -1,5 +1,5 @@
 -- What an object owns, walked from record to record.
-use Rattle.std.proofs.Common.{◌≡◌, ◌≤◌, ◌<◌, ◌∙◌, ◌&&◌, ◌+◌, ◌-◌, ℕ, zero, suc, cond, Bool, true, false, Option, Some, None, List, [], ◌∷◌, ◌++◌, length, map, take, drop, reverse, refl, sym, ap, arith, append_assoc, append-nil}
+use Rattle.std.proofs.Common.{◌≡◌, ◌≤◌, ◌<◌, ◌∙◌, ◌&&◌, ◌+◌, ℕ, zero, suc, cond, Bool, true, false, Option, Some, None, List, [], ◌∷◌, ◌++◌, length, map, take, reverse, refl, sym, ap, arith, append_assoc, append-nil}
 use Rattle.std.specs.Prelude.{filter, slice_get}
 use Rattle.std.specs.Option.{option_map_or}
 use Rattle.std.proofs.lemmas.Bool.{eqb-true}
@@ -8,14 +8,13 @@ use Rattle.std.proofs.lemmas.Option.{same_Some}
 use Rattle.command_tables.specs.declared.types.ObjectType.{ObjectType}
 use Rattle.command_tables.specs.Tests.{same_type}
 use Rattle.object_model.specs.declared.Object.{Object}
-use Rattle.object_model.specs.Objects.{are_same}
 use Rattle.object_model.specs.History.{Birth, is_owned_by}
 use Rattle.object_model.specs.Uses.{owned_in}
 use Rattle.object_records.specs.declared.kept_owner.KeptOwner.{KeptOwner}
 use Rattle.object_records.specs.declared.kept_owner.KeptOwner.TheVariants.{Nobody, At, Unborn}
 use Rattle.object_records.specs.declared.record.ObjectRecord.{ObjectRecord}
 use Rattle.object_records.specs.Links.{IsPrevious, alone_if, has_strays_in, is_owned_there, is_owner_at, last_from, last_link, link_by, owned_of_type}
-use Rattle.object_records.specs.Records.{births_kept, line_kept}
+use Rattle.object_records.specs.Records.{births_kept}
 use Rattle.object_records.specs.Table.{AreOnce, AreOwnersBefore, objects_kept, place_in}
 use Rattle.object_records.proofs.Kept.{birth_at, births_counted, owner_low}
 use Rattle.object_records.proofs.Linking.{get_low, last_snoc, take_all}

@@ -1,6 +1,6 @@
-use Rattle.std.proofs.Common.{◌∙◌, length, sym, ap}
+use Rattle.std.proofs.Common.{◌∙◌, sym, ap}
 use Rattle.object_records.specs.Links.{last_of, linked}
-use Rattle.object_records.proofs.Linking.{linked_length, owner_low, read_last, written_linked}
+use Rattle.object_records.proofs.Linking.{owner_low, read_last, written_linked}
 use Rattle.object_records.proofs.links.link_owner.Goals as goal
 
 pub returns-in-At-clause-links : goal.returns-in-At-clause-links

@@ -1,4 +1,4 @@
-use Rattle.std.proofs.Common.{◌≡◌, ◌<◌, ◌≤◌, ◌-◌, ℕ, suc, length, arith}
+use Rattle.std.proofs.Common.{◌≡◌, ◌≤◌, ◌-◌, suc, arith}
 use Rattle.object_records.proofs.Walked.{walk_back, walk_begins, walk_ends, walk_goes, walk_within}
 use Rattle.object_records.proofs.look_ups.add_linked.Goals as goal
 

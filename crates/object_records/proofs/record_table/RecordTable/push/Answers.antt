@@ -1,10 +1,7 @@
-use Rattle.std.proofs.Common.{◌≡◌, ◌≤◌, ◌∙◌, ◌&&◌, ◌||◌, ◌+◌, ◌++◌, None, [], ◌∷◌, suc, List, length, sym, subst, ap, arith}
-use Rattle.handle_map.specs.Pairs.{MapEntry}
-use Rattle.object_records.specs.Links.{is_unborn}
-use Rattle.object_records.specs.declared.links.Links.{Links}
+use Rattle.std.proofs.Common.{◌≡◌, ◌≤◌, ◌+◌, None, length, sym, subst, arith}
 use Rattle.object_records.specs.Table.{TableState, before_owned, place_in}
 use Rattle.object_records.proofs.Linking.{few_children}
-use Rattle.object_records.proofs.Tables.{Adds, added_table}
+use Rattle.object_records.proofs.Tables.{added_table}
 use Rattle.object_records.proofs.record_table.RecordTable.push.Goals as goal
 
 pub link_owner-previous-requires-clause-few : goal.link_owner-previous-requires-clause-few
