@@ -1,8 +1,11 @@
+pub mod Linking
 pub mod Places
 pub mod Loops
 pub mod Tables
 pub mod Kept
 pub mod Born
 pub mod Added
+pub mod Owned
 pub mod Swept
 pub mod Once
+pub mod Walked

@@ -65,7 +65,8 @@ pub all_live_on : (q : Object → Bool) (os : List Object) → ((o : Object) →
 all_live_on q [] none = refl
 all_live_on q (o ∷ os) none = ap (λ u. cond (not u) (o ∷ filter (λ x. not (q x)) os) (filter (λ x. not (q x)) os)) (none o) ∙ ap (λ xs. o ∷ xs) (all_live_on q os none)
 
-one_less : (rs : List ObjectRecord) (n : ℕ) (r : ObjectRecord) → slice_get rs n ≡ Some r → r.lives ≡ true → length (living_kept (ended_at rs n)) + 1 ≡ length (living_kept rs)
+-- one that lived lives no longer
+pub one_less : (rs : List ObjectRecord) (n : ℕ) (r : ObjectRecord) → slice_get rs n ≡ Some r → r.lives ≡ true → length (living_kept (ended_at rs n)) + 1 ≡ length (living_kept rs)
 one_less [] n r e lives = cc e
 one_less (x ∷ rs) zero r e lives = go x.lives (ap (λ (y : ObjectRecord). y.lives) (same_Some x r e) ∙ lives)
   where

@@ -1,3 +1,4 @@
 pub mod Shape
+pub mod Links
 pub mod Table
 pub mod Records

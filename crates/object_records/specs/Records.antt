@@ -1,5 +1,5 @@
 -- The births and the living objects of the records. Source: this project.
-use Rattle.std.specs.Prelude.{◌≡◌, ℕ, zero, suc, Bool, true, false, not, ◌&&◌, if◌then◌else◌, Some, List, [], ◌∷◌, ◌++◌, map, filter, slice_get}
+use Rattle.std.specs.Prelude.{◌≡◌, ◌<◌, ◌==◌, ℕ, zero, suc, Bool, true, false, not, ◌&&◌, if◌then◌else◌, length, Some, List, [], ◌∷◌, ◌++◌, map, filter, slice_get}
 use Rattle.std.specs.Option.{option_map_or}
 use Rattle.command_tables.specs.declared.types.ObjectType.TheVariants as ty
 use Rattle.command_tables.specs.declared.types.ObjectType.{ObjectType}
@@ -69,3 +69,7 @@ DoesNotEnd effect = (births : List Birth) (args : List (List Argument)) (o : Obj
 -- the object of the record at a place lives, and passes the test
 abbrev pub EndsThere : List ObjectRecord → ℕ → (Object → Bool) → Bool → Type 0
 EndsThere rs place ends answer = (r : ObjectRecord) → slice_get rs place ≡ Some r → answer ≡ (r.lives && ends r.object)
+
+-- of the objects of the records only that at this place passes the test
+abbrev pub PassesOnly : List ObjectRecord → ℕ → (Object → Bool) → Type 0
+PassesOnly rs place ends = (place < length rs) × ((n : ℕ) (r : ObjectRecord) → slice_get rs n ≡ Some r → ends r.object ≡ (n == place))

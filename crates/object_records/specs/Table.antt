@@ -1,12 +1,15 @@
 -- Records in order of birth, found by the type and the handle of their object. Source: this project.
-use Rattle.std.specs.Prelude.{◌≡◌, ◌≤◌, ℕ, zero, suc, false, if◌then◌else◌, Option, Some, None, List, [], ◌∷◌, map, find}
+use Rattle.std.specs.Prelude.{◌≡◌, ◌≤◌, ℕ, zero, suc, Bool, true, false, if◌then◌else◌, Option, Some, None, List, [], ◌∷◌, map, find, slice_get}
 use Rattle.std.specs.List.{list_any}
+use Rattle.std.specs.Option.{option_map_or}
 use Rattle.handle_map.specs.Pairs.{MapEntry}
 use Rattle.object_model.specs.declared.Object.{Object}
 use Rattle.object_model.specs.Objects.{same}
 use Rattle.object_records.specs.declared.kept_owner.KeptOwner.{KeptOwner}
 use Rattle.object_records.specs.declared.kept_owner.KeptOwner.TheVariants.{Nobody, At, Unborn}
+use Rattle.object_records.specs.declared.links.Links.{Links}
 use Rattle.object_records.specs.declared.record.ObjectRecord.{ObjectRecord}
+use Rattle.object_records.specs.Links.{AreLinked, has_strays_in}
 
 -- all records, the oldest first, and how many further ones can be held with no further memory
 pub record TableState : Type 0 where
@@ -29,10 +32,16 @@ abbrev pub AreOwnersBefore : ℕ → List ObjectRecord → Type 0
 AreOwnersBefore k [] = Unit {0}
 AreOwnersBefore k (r ∷ rs) = (before_owned r.owner ≤ k) × AreOwnersBefore (suc k) rs
 
--- the index fits the records, and their owners stand before them
-pub record IsTable (records : List ObjectRecord) (entries : List (MapEntry (List ℕ))) : Type 0 where
+-- the index, the links and the note of unborn owners fit the records, and their owners stand before them
+pub record IsTable (records : List ObjectRecord) (entries : List (MapEntry (List ℕ))) (links : List Links) (strays : Bool) : Type 0 where
   pub indexed : entries ≡ entries_from 0 records
   pub owners : AreOwnersBefore 0 records
+  pub linked : AreLinked records links
+  pub stray : strays ≡ has_strays_in records
+
+-- the object of the record at a place lives
+abbrev pub LivesAt : List ObjectRecord → ℕ → Type 0
+LivesAt records place = option_map_or (λ r. r.lives) (slice_get records place) false ≡ true
 
 -- the objects of the records
 abbrev pub objects_kept : List ObjectRecord → List Object

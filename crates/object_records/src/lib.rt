@@ -6,6 +6,7 @@
 mod births;
 mod ends;
 mod kept_owner;
+mod links;
 mod look_ups;
 mod reading;
 mod record;

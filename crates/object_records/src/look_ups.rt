@@ -1,10 +1,11 @@
 // Looking into the records of what was born.
-ghost use Rattle.std.specs.Prelude.{◌≡◌, ◌≤◌, ◌<◌, ◌++◌, Some, false, find, length, map, slice_get, OnOk};
+ghost use Rattle.std.specs.Prelude.{◌≡◌, ◌≤◌, ◌<◌, ◌++◌, Some, false, drop, find, length, map, reverse, slice_get, take, OnOk};
 ghost use Rattle.std.specs.Option.{option_map_or};
 ghost use Rattle.object_model.specs.Objects.{are_same, is_in, same};
 ghost use Rattle.object_model.specs.History.{born_in, children_in, created_in, device_in, owner_in, owners_in};
 ghost use Rattle.object_model.specs.Uses.{owned_in};
 ghost use Rattle.command_tables.specs.Tests.{same_type};
+ghost use Rattle.object_records.specs.Links.{alone_if, owned_of_type};
 ghost use Rattle.object_records.specs.Records.{births_kept, is_child, is_device, line_kept, living_kept, owned_at};
 ghost use Rattle.object_records.specs.Table.{AreOnce, AreOwnersBefore, before_owned, objects_kept, record_in};
 
@@ -189,9 +190,9 @@ fn is_child_at(table: &RecordTable, place: usize, object: Object) -> bool
     is_owner(table, kept.owner, object)
 }
 
-// How many created objects live and are owned by this one.
+// How many created objects live and are owned by this one, counted from record to record.
 #[tactic(auto, using(crate::proofs::Born::children_more, crate::proofs::Kept::births_all))]
-pub(crate) fn count_children(table: &RecordTable, object: Object) -> usize
+fn count_all_children(table: &RecordTable, object: Object) -> usize
     ensures { result ≡ length (children_in (births_kept table.now.records) (is_in (living_kept table.now.records)) object) }
 {
     let mut count: usize = 0;
@@ -201,6 +202,20 @@ pub(crate) fn count_children(table: &RecordTable, object: Object) -> usize
         }
     }
     count
+}
+
+// How many created objects live and are owned by this one. Its record counts them; only owners that weren't born count at no record.
+#[tactic(auto, using(crate::proofs::Owned::children_counted, crate::proofs::Owned::no_children, crate::proofs::Kept::place_within))]
+pub(crate) fn count_children(table: &RecordTable, object: Object) -> usize
+    ensures { result ≡ length (children_in (births_kept table.now.records) (is_in (living_kept table.now.records)) object) }
+{
+    if table.has_strays() {
+        return count_all_children(table, object);
+    }
+    match table.place_of(object) {
+        None => 0,
+        Some(place) => table.count_children(place),
+    }
 }
 
 // The object of the record at a place is noted where it has this type and owner.
@@ -225,9 +240,9 @@ fn note_owned(
     Ok(out.push(kept.object)?)
 }
 
-// The objects of a type whose owner is this object are added.
+// The objects of a type whose owner is this object are added, looked for from record to record.
 #[tactic(auto, using(crate::proofs::Born::owned_more, crate::proofs::Kept::births_all))]
-pub(crate) fn list_owned(
+fn list_among_all(
     table: &RecordTable,
     ty: ObjectType,
     owner: Object,
@@ -239,4 +254,78 @@ pub(crate) fn list_owned(
         note_owned(table, i, ty, owner, out)?;
     }
     Ok(())
+}
+
+// An object is noted where it has this type.
+fn note_of_type(object: Object, ty: ObjectType, out: &mut Vec<Object>) -> Result<(), NoMemory>
+    ensures { OnOk result (out.new.items ≡ out.old.items ++ alone_if ty object) }
+{
+    if is_type(object.ty, ty) {
+        out.push(object)?;
+    }
+    Ok(())
+}
+
+// The objects of a type whose owner stands at a place are added, the latest first.
+fn add_linked(
+    table: &RecordTable,
+    ty: ObjectType,
+    place: usize,
+    out: &mut Vec<Object>,
+) -> Result<(), NoMemory>
+    requires { place < length table.now.records }
+    ensures { OnOk result (out.new.items ≡ out.old.items ++ reverse (owned_of_type table.now.records ty place)) }
+{
+    let mut link = table.last_owned(place);
+    while link > 0 {
+        let at = link - 1;
+        note_of_type(table.record(at).object, ty, out)?;
+        link = table.previous(at);
+    }
+    Ok(())
+}
+
+// What stands from here on is turned round.
+fn reverse_from(objects: &mut [Object], start: usize)
+    requires { start ≤ length objects.old }
+    ensures before { take start objects.new ≡ take start objects.old }
+    ensures reversed { drop start objects.new ≡ reverse (drop start objects.old) }
+{
+    let end = objects.len();
+    objects[start..end].reverse();
+}
+
+// The objects of a type whose owner stands at a place are added, in order of birth.
+fn list_linked(
+    table: &RecordTable,
+    ty: ObjectType,
+    place: usize,
+    out: &mut Vec<Object>,
+) -> Result<(), NoMemory>
+    requires { place < length table.now.records }
+    ensures { OnOk result (out.new.items ≡ out.old.items ++ owned_of_type table.now.records ty place) }
+{
+    let start = out.len();
+    add_linked(table, ty, place, out)?;
+    reverse_from(out.as_mut_slice(), start);
+    Ok(())
+}
+
+// The objects of a type whose owner is this object are added, in order of birth. Only owners that weren't born have no links.
+#[tactic(auto, using(crate::proofs::Walked::owned_linked, crate::proofs::Kept::place_within))]
+pub(crate) fn list_owned(
+    table: &RecordTable,
+    ty: ObjectType,
+    owner: Object,
+    out: &mut Vec<Object>,
+) -> Result<(), NoMemory>
+    ensures { OnOk result (out.new.items ≡ out.old.items ++ owned_in (births_kept table.now.records) ty owner) }
+{
+    if table.has_strays() {
+        return list_among_all(table, ty, owner, out);
+    }
+    match table.place_of(owner) {
+        None => Ok(()),
+        Some(place) => list_linked(table, ty, place, out),
+    }
 }

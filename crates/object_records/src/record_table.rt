@@ -1,7 +1,10 @@
 //! Records in order of birth, each found by its object's type and handle.
 ghost use Rattle.std.specs.Prelude.{◌≡◌, ◌≤◌, ◌<◌, ◌+◌, ◌++◌, ◌∷◌, [], length, slice_get, OnOk, Some, None};
-ghost use Rattle.object_records.specs.Table.{AreOnce, AreOwnersBefore, before_owned, ended_at, objects_kept, place_in};
+ghost use Rattle.object_records.specs.Links.{IsPrevious, child_count, has_strays_in, last_link};
+ghost use Rattle.object_records.specs.Table.{LivesAt, AreOnce, AreOwnersBefore, before_owned, ended_at, objects_kept, place_in};
 
+use crate::kept_owner::has_stray;
+use crate::links::{Links, link_owner, may_be_child, unlink};
 use crate::record::ObjectRecord;
 use command_tables::NoMemory;
 use handle_map::HandleMap;
@@ -16,6 +19,9 @@ pub struct RecordTable {
     // The place of each record, by its object's pair. Drivers' own handles come between the dense ids, so that no record need stand
     // at the place of its id; with many chains the way to it stays short.
     index: HandleMap<4096>,
+    links: Vec<Links>,
+    // Whether a record has an owner that wasn't born.
+    has_strays: bool,
 }
 
 impl Model for RecordTable {
@@ -24,9 +30,9 @@ impl Model for RecordTable {
 
     ghost Value = { TableState };
 
-    ghost view = { λ t. record { records = t.records.items; spare = min (vec_capacity t.records - length t.records.items) (min t.index.spare t.index.room) } };
+    ghost view = { λ t. record { records = t.records.items; spare = min (min (vec_capacity t.records - length t.records.items) (vec_capacity t.links - length t.links.items)) (min t.index.spare t.index.room) } };
 
-    ghost invariant = { λ t. IsTable t.records.items t.index.entries };
+    ghost invariant = { λ t. IsTable t.records.items t.index.entries t.links.items t.has_strays };
 }
 
 impl RecordTable {
@@ -36,6 +42,8 @@ impl RecordTable {
         RecordTable {
             records: Vec::new(alloc),
             index: HandleMap::new(alloc),
+            links: Vec::new(alloc),
+            has_strays: false,
         }
     }
 
@@ -78,6 +86,7 @@ impl RecordTable {
         ensures spare { self.old.spare ≤ self.new.spare }
     {
         self.records.reserve(n)?;
+        self.links.reserve(n)?;
         self.index.reserve(n, 1)
     }
 
@@ -94,16 +103,62 @@ impl RecordTable {
         self.index
             .insert(added.object.ty, added.object.number, &[place])
             .unwrap();
+        let link = self.records.len() + 1;
+        let previous = link_owner(&mut self.links, added.owner, link, may_be_child(added));
+        self.links
+            .push(Links {
+                last_owned: 0,
+                previous,
+                children: 0,
+            })
+            .unwrap();
+        self.has_strays = has_stray(self.has_strays, added.owner);
         self.records.push(added).unwrap();
+    }
+
+    /// Whether a record has an owner that wasn't born.
+    pub fn has_strays(&self) -> bool
+        ensures { result ≡ has_strays_in self.now.records }
+    {
+        self.has_strays
+    }
+
+    /// How many created objects live whose owner stands at a place.
+    #[tactic(auto, using(crate::proofs::Linking::children_read))]
+    pub fn count_children(&self, place: usize) -> usize
+        requires { place < length self.now.records }
+        ensures { result ≡ child_count self.now.records place }
+    {
+        self.links[place].children
+    }
+
+    /// One more than the place of the latest record whose owner stands at a place; 0 where there is none.
+    #[tactic(auto, using(crate::proofs::Linking::last_read))]
+    pub fn last_owned(&self, place: usize) -> usize
+        requires { place < length self.now.records }
+        ensures { result ≡ last_link self.now.records place }
+    {
+        self.links[place].last_owned
+    }
+
+    /// One more than the place of the record before one at a place that has the same owner; 0 where there is none.
+    #[tactic(auto, using(crate::proofs::Linking::previous_read))]
+    pub fn previous(&self, place: usize) -> usize
+        requires { place < length self.now.records }
+        ensures { IsPrevious self.now.records place result }
+    {
+        self.links[place].previous
     }
 
     /// The object of the record at a place lives no longer.
     #[tactic(auto, using(crate::proofs::Tables::ended_index, crate::proofs::Tables::written_ended, crate::proofs::Tables::ended_owners))]
     pub fn end_at(&mut self, place: usize)
-        requires { place < length self.old.records }
+        requires { LivesAt self.old.records place }
         ensures records { self.new.records ≡ ended_at self.old.records place }
         ensures spare { self.new.spare ≡ self.old.spare }
     {
+        let kept = self.records[place];
+        unlink(&mut self.links, kept);
         self.records[place].lives = false;
     }
 }

@@ -224,3 +224,49 @@ fn a_call_is_read_by_its_handles(rt: HostRuntime) -> Result<(), Fail> {
     }
     Ok(())
 }
+
+#[test]
+fn what_owns_nothing_ends_alone(rt: HostRuntime) -> Result<(), Fail> {
+    let mut records = with_device(rt.alloc())?;
+    bear(
+        rt.alloc(),
+        &mut records,
+        CommandId::CreateDescriptorPool,
+        &[&[3]],
+        4,
+    )?;
+    assert_eq!(rt; records.count_children(DEVICE), 1);
+    end(
+        rt.alloc(),
+        &mut records,
+        CommandId::DestroyDescriptorPool,
+        &[&[3], &[4]],
+    )?;
+    assert!(rt; !records.is_alive(POOL) && records.is_alive(DEVICE));
+    assert_eq!(rt; records.count_children(DEVICE), 0);
+    assert_eq!(rt; records.live_count(), 3);
+    Ok(())
+}
+
+#[test]
+fn a_later_birth_of_an_owner_ends_what_names_it(rt: HostRuntime) -> Result<(), Fail> {
+    let mut records = ObjectRecords::new(rt.alloc());
+    bear(
+        rt.alloc(),
+        &mut records,
+        CommandId::CreateDescriptorPool,
+        &[&[3]],
+        4,
+    )?;
+    bear(
+        rt.alloc(),
+        &mut records,
+        CommandId::CreateDevice,
+        &[&[2]],
+        3,
+    )?;
+    assert_eq!(rt; records.count_children(DEVICE), 1);
+    end(rt.alloc(), &mut records, CommandId::DestroyDevice, &[&[3]])?;
+    assert_eq!(rt; records.live_count(), 0);
+    Ok(())
+}

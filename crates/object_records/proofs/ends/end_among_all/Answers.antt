@@ -6,8 +6,8 @@ use Rattle.object_records.specs.declared.record.ObjectRecord.{ObjectRecord}
 use Rattle.object_records.specs.Records.{births_kept}
 use Rattle.object_records.specs.Shape.{arguments_of}
 use Rattle.object_records.proofs.Swept.{births_swept, count_less, count_same, swept_length, swept_more}
-use Rattle.object_records.proofs.ends.end_objects.Goals as goal
-use Rattle.object_records.proofs.ends.end_objects.Goals.{then-end_one, else-end_one}
+use Rattle.object_records.proofs.ends.end_among_all.Goals as goal
+use Rattle.object_records.proofs.ends.end_among_all.Goals.{then-end_one, else-end_one}
 
 pub end_one-requires-clause-place : goal.end_one-requires-clause-place
 end_one-requires-clause-place c =

@@ -2,7 +2,7 @@ use Rattle.std.proofs.Common.{◌≡◌, ◌≤◌, length, take}
 use Rattle.object_model.specs.Objects.{is_in}
 use Rattle.object_model.specs.History.{children_in}
 use Rattle.object_records.specs.Records.{births_kept, living_kept}
-use Rattle.object_records.proofs.look_ups.count_children.Given as goal
+use Rattle.object_records.proofs.look_ups.count_all_children.Given as goal
 
 abbrev pub invariant-loop-i : goal.invariant-loop-i
 invariant-loop-i l = record {

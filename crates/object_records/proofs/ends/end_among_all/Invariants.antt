@@ -2,7 +2,7 @@ use Rattle.std.proofs.Common.{◌≡◌, ◌≤◌, ◌+◌, length}
 use Rattle.object_model.specs.History.{ends_by}
 use Rattle.object_records.specs.Records.{births_kept, living_kept, swept}
 use Rattle.object_records.specs.Shape.{arguments_of}
-use Rattle.object_records.proofs.ends.end_objects.Given as goal
+use Rattle.object_records.proofs.ends.end_among_all.Given as goal
 
 abbrev pub invariant-loop-i : goal.invariant-loop-i
 invariant-loop-i l = record {

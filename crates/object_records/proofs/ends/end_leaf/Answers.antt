@@ -1,0 +1,16 @@
+use Rattle.std.proofs.Common.{◌≡◌, ◌∙◌, cond, true, false, sym, ap, rules}
+use Rattle.object_records.specs.Table.{ended_at}
+use Rattle.object_records.proofs.Owned.{one_swept}
+use Rattle.object_records.proofs.ends.end_leaf.Goals as goal
+
+pub returns-then-not-kept-clause-records : goal.returns-then-not-kept-clause-records
+returns-then-not-kept-clause-records c =
+    let rs = c.args.table.now.records in
+    let dead : c.record-kept.result.lives ≡ false = search rules in
+    λ ends only. sym (one_swept ends rs c.args.place c.record-kept.result only c.record-kept.ensures.found ∙ ap (λ u. cond u (ended_at rs c.args.place) rs) dead)
+
+pub returns-clause-records : goal.returns-clause-records
+returns-clause-records c =
+    let rs = c.args.table.now.records in
+    let lived : c.record-kept.result.lives ≡ true = search rules in
+    λ ends only. c.end_at.ensures.records ∙ sym (one_swept ends rs c.args.place c.record-kept.result only c.record-kept.ensures.found ∙ ap (λ u. cond u (ended_at rs c.args.place) rs) lived)

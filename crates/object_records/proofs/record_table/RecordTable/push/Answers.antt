@@ -1,0 +1,30 @@
+use Rattle.std.proofs.Common.{◌≡◌, ◌≤◌, ◌+◌, None, length, sym, subst, arith}
+use Rattle.object_records.specs.Table.{TableState, before_owned, place_in}
+use Rattle.object_records.proofs.Linking.{few_children}
+use Rattle.object_records.proofs.Tables.{added_table}
+use Rattle.object_records.proofs.record_table.RecordTable.push.Goals as goal
+
+pub link_owner-previous-requires-clause-few : goal.link_owner-previous-requires-clause-few
+link_owner-previous-requires-clause-few c = few_children c.self.inside.records.items c.self.inside.links.items c.self.invariant.linked
+
+pub invariant_of-self : goal.invariant_of-self
+invariant_of-self c =
+    let rs = c.self.inside.records.items in
+    let new : place_in rs c.args.added.object ≡ None = subst (λ (s : TableState). place_in s.records c.args.added.object ≡ None) (sym c.self.view_is) c.requires.new in
+    let low : before_owned c.args.added.owner ≤ length rs = subst (λ (s : TableState). before_owned c.args.added.owner ≤ length s.records) (sym c.self.view_is) c.requires.owner in
+    added_table rs c.push-2.new.self.items c.self.inside.index.entries c.insert.new.self.entries c.self.inside.links.items c.push.new.self.items c.self.inside.has_strays c.has_stray-self-inside.result c.args.added c.self.invariant new low (record {
+      records_are = rw c.unwrap-3.ensures at c.push-2.ensures.items;
+      place = c.len-place.result;
+      place_is = omega (arith, c.len-place.ensures);
+      entries_are = rw c.unwrap.ensures at c.insert.ensures.ok;
+      linked = c.link_owner-previous.new.links.items;
+      link = c.len-link.result + 1;
+      link_is = omega (arith, c.len-link.ensures);
+      child = c.may_be_child.result;
+      child_is = c.may_be_child.ensures;
+      linked_are = c.link_owner-previous.ensures.links;
+      previous = c.link_owner-previous.result;
+      previous_is = c.link_owner-previous.ensures.previous;
+      links_are = rw c.unwrap-2.ensures at c.push.ensures.items;
+      stray_is = c.has_stray-self-inside.ensures;
+    })

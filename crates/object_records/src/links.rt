@@ -1,0 +1,87 @@
+// How what an object owns is found.
+ghost use Rattle.std.specs.Prelude.{◌≡◌, ◌≤◌, true, ◌&&◌, length, if◌then◌else◌, vec_capacity};
+ghost use Rattle.object_records.specs.Links.{AreFew, HasChild, last_of, linked, unlinked};
+ghost use Rattle.object_records.specs.Table.{before_owned};
+
+use crate::kept_owner::KeptOwner;
+use crate::record::ObjectRecord;
+
+/// What is kept at an object of those that it owns, and the way on to the others of its own owner.
+#[derive(Clone, Copy)]
+pub struct Links {
+    /// One more than the place of the latest record that has this one as its owner; 0 where there is none.
+    pub last_owned: usize,
+    /// One more than the place of the record before this one that has the same owner; 0 where there is none.
+    pub previous: usize,
+    /// How many created objects live and have this one as their owner.
+    pub children: usize,
+}
+
+fn one_if(is_child: bool) -> usize
+    ensures { result ≡ (if is_child then 1 else 0) }
+{
+    if is_child { 1 } else { 0 }
+}
+
+/// Whether a record is of a created object that lives.
+pub fn may_be_child(kept: ObjectRecord) -> bool
+    ensures { result ≡ (kept.is_created && kept.lives) }
+{
+    kept.is_created && kept.lives
+}
+
+/// The owner of a further record links to it, and counts it where it is a child. Tells to which record it linked before.
+pub fn link_owner(links: &mut Vec<Links>, owner: KeptOwner, link: usize, is_child: bool) -> usize
+    requires within { before_owned owner ≤ length links.old.items }
+    requires few { AreFew links.old.items }
+    ensures links { links.new.items ≡ linked links.old.items owner link is_child }
+    ensures count { length links.new.items ≡ length links.old.items }
+    ensures room { vec_capacity links.new ≡ vec_capacity links.old }
+    ensures previous { result ≡ last_of links.old.items owner }
+{
+    match owner {
+        KeptOwner::Nobody | KeptOwner::Unborn(_) => 0,
+        KeptOwner::At(place) => {
+            let above = links[place];
+            links[place] = Links {
+                last_owned: link,
+                children: above.children + one_if(is_child),
+                ..above
+            };
+            above.last_owned
+        }
+    }
+}
+
+// A child of an owner lives no longer.
+fn unlink_child(links: &mut Vec<Links>, owner: KeptOwner)
+    requires within { before_owned owner ≤ length links.old.items }
+    requires child { HasChild links.old.items owner }
+    ensures links { links.new.items ≡ unlinked links.old.items owner }
+    ensures count { length links.new.items ≡ length links.old.items }
+    ensures room { vec_capacity links.new ≡ vec_capacity links.old }
+{
+    match owner {
+        KeptOwner::Nobody | KeptOwner::Unborn(_) => {}
+        KeptOwner::At(place) => {
+            let above = links[place];
+            links[place] = Links {
+                children: above.children - 1,
+                ..above
+            };
+        }
+    }
+}
+
+/// The object of a record lives no longer: its owner counts it no more, where it was a child.
+pub fn unlink(links: &mut Vec<Links>, ended: ObjectRecord)
+    requires within { before_owned ended.owner ≤ length links.old.items }
+    requires child { ended.is_created ≡ true → HasChild links.old.items ended.owner }
+    ensures links { links.new.items ≡ (if ended.is_created then unlinked links.old.items ended.owner else links.old.items) }
+    ensures count { length links.new.items ≡ length links.old.items }
+    ensures room { vec_capacity links.new ≡ vec_capacity links.old }
+{
+    if ended.is_created {
+        unlink_child(links, ended.owner);
+    }
+}
