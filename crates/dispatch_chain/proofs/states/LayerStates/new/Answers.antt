@@ -5,4 +5,4 @@ use Rattle.dispatch_chain.proofs.Seats.{kinds_new}
 use Rattle.dispatch_chain.proofs.states.LayerStates.new.Goals as goal
 
 pub invariant_of-result : goal.invariant_of-result
-invariant_of-result c = c.in_ok-parts.ensures.seats ∙ ap (seats_from 1) (sym (ap kinds_of c.in_ok-parts.ensures.states ∙ kinds_new (kinds_placed c.args.chain.now.parts.items)))
+invariant_of-result c = c.in_ok-parts.ensures.seats ∙ ap (seats_from 1) (sym (ap kinds_of c.in_ok-parts.ensures.states ∙ kinds_new (kinds_placed c.deref.result.now)))
