@@ -6,3 +6,7 @@ pub mod Whole
 pub mod Upwards
 pub mod Walked
 pub mod Holding
+pub mod Kept
+pub mod Issuing
+pub mod Lasting
+pub mod Lost

@@ -1,5 +1,5 @@
 -- What the walks over the parts of a chain leave.
-use Rattle.std.proofs.Common.{◌≡◌, ℕ, suc, false, List, [], ◌∷◌, ◌++◌, length, map, ap, sym, ◌∙◌, refl, subst, append_assoc, append-nil, if◌then◌else◌}
+use Rattle.std.proofs.Common.{◌≡◌, ℕ, suc, Bool, true, false, List, [], ◌∷◌, ◌++◌, length, map, ap, sym, ◌∙◌, refl, subst, append_assoc, append-nil, if◌then◌else◌}
 use Rattle.command_tables.specs.declared.types.CommandId.{CommandId}
 use Rattle.command_tables.specs.declared.call.LayerCall.{LayerCall}
 use Rattle.command_tables.specs.Calls.{CallContent, call_content}
@@ -48,3 +48,26 @@ walked thread number cmd states ps slice qs es c c' v v' kinds fs fs' hw he hk h
 -- what is held is what stands above the parts of the row
 pub held_of : (held : HeldCalls) (cmd : CommandId) (kinds : List PartKind) (forms : List CallContent) → held.cmd ≡ cmd → held.forms ≡ picked cmd kinds forms → AllOf cmd forms → IsHeldOf held kinds forms
 held_of held cmd kinds forms e h a = record { picked = h ∙ ap (λ c. picked c kinds forms) (sym e); one = subst (λ c. AllOf c forms) (sym e) a }
+
+-- a walk that is not stopped holds a form for each entry
+entered_all : (thread number : ℕ) (es : List Entry) (d : Down) → (enter_entries thread number es d).down.skip ≡ false → length (enter_entries thread number es d).forms ≡ length es
+entered_all thread number [] d h = refl
+entered_all thread number (e ∷ es) d h = go (entered_all thread number es (step_down thread number e d)) d.skip refl h
+  where
+    ended : Entered
+    ended = record { down = d; forms = [] }
+
+    below : Entered
+    below = enter_entries thread number es (step_down thread number e d)
+
+    go : (below.down.skip ≡ false → length below.forms ≡ length es) → (b : Bool) → d.skip ≡ b → (if b then ended else with_form d.call below).down.skip ≡ false → length (if b then ended else with_form d.call below).forms ≡ suc (length es)
+    go ih true k s = let x : d.skip ≡ false = s in cc
+    go ih false k s = ap suc (ih s)
+
+-- the same by the program's values
+pub all_held : (thread number : ℕ) (cmd cmd' : CommandId) (kinds ks : List PartKind) (es : List Entry) (d x : Down) (fs old : List CallContent) → record { down = x; forms = fs } ≡ with_front old (enter_entries thread number es d) → old ≡ [] → es ≡ entries_of cmd kinds → kinds ≡ ks → cmd' ≡ cmd → x.skip ≡ false → length fs ≡ length (entries_of cmd' ks)
+all_held thread number cmd cmd' kinds ks es d x fs old h ho he hk hc s =
+    ap (λ (y : Entered). length y.forms) h
+    ∙ ap (λ xs. length (xs ++ (enter_entries thread number es d).forms)) ho
+    ∙ entered_all thread number es d (sym (ap (λ (y : Entered). y.down.skip) h) ∙ s)
+    ∙ ap length he ∙ ap (λ k. length (entries_of cmd k)) hk ∙ ap (λ q. length (entries_of q ks)) (sym hc)

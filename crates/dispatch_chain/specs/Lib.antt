@@ -4,3 +4,4 @@ pub mod Seats
 pub mod Steps
 pub mod Entries
 pub mod Holding
+pub mod Kept

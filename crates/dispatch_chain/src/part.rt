@@ -4,8 +4,9 @@ ghost use Rattle.command_tables.specs.Calls.{call_content};
 ghost use Rattle.object_records.specs.Shape.{HasParams};
 ghost use Rattle.lifetime_layer.specs.Reports.{reports_of};
 ghost use Rattle.lifetime_layer.specs.Shape.{HasFewPlaces};
-ghost use Rattle.layer_model.specs.Parts.{unique_enter};
+ghost use Rattle.layer_model.specs.Parts.{unique_enter, unique_leave};
 ghost use Rattle.layer_model.specs.Walks.{new_part};
+ghost use Rattle.dispatch_chain.specs.Kept.{IsKept, IsRising};
 ghost use Rattle.dispatch_chain.specs.Seats.{seat_at, seat_of, state_of};
 ghost use Rattle.dispatch_chain.specs.Steps.{MayLeave, entered, left, left_results};
 
@@ -68,6 +69,7 @@ pub(crate) fn enter_part(
     ensures reports { OnOk result (reports_of verdict.new.findings.items ≡ reports_of verdict.old.findings.items ++ (entered thread number place (state_of part.old) (call_content call.old)).reports) }
     ensures skip { OnOk result (verdict.new.skip ≡ (entered thread number place (state_of part.old) (call_content call.old)).skip) }
     ensures seat { seat_of part.new ≡ seat_of part.old }
+    ensures kept { IsKept (state_of part.old) → IsKept (state_of part.new) }
     ensures shape { HasParams call.new }
     ensures few { HasFewPlaces call.new }
 {
@@ -81,8 +83,27 @@ pub(crate) fn enter_part(
     }
 }
 
+// Results come to a unique part. Where there was no memory, it begins anew, since nothing is said of what it keeps then.
+fn leave_unique(
+    alloc: Global,
+    kit: &Kit,
+    unique: &mut UniqueState,
+    form: &LayerCall,
+    results: &mut [u64],
+) -> Result<(), NoMemory>
+    ensures left { OnOk result (record { results = results.new; ids = unique.new } ≡ unique_leave unique.old (call_content form.now) results.old) }
+    ensures kept { IsRising unique.old → IsRising unique.new }
+{
+    if let Err(error) = kit.leave_unique(unique, form, results) {
+        *unique = UniqueState::new(alloc);
+        return Err(error);
+    }
+    Ok(())
+}
+
 // Results come to a part.
 pub(crate) fn leave_part(
+    alloc: Global,
     kit: &Kit,
     part: &mut Part,
     thread: u32,
@@ -94,10 +115,11 @@ pub(crate) fn leave_part(
     ensures state { OnOk result (state_of part.new ≡ left thread (state_of part.old) (call_content form.now) results.old) }
     ensures results { OnOk result (results.new ≡ left_results (state_of part.old) (call_content form.now) results.old) }
     ensures seat { seat_of part.new ≡ seat_of part.old }
+    ensures kept { IsKept (state_of part.old) → IsKept (state_of part.new) }
 {
     match part {
         Part::Threads(uses) => kit.leave_use(uses, thread, form, results),
         Part::Lifetimes(life) => kit.leave_life(life, form, results),
-        Part::Unique(unique) => kit.leave_unique(unique, form, results),
+        Part::Unique(unique) => leave_unique(alloc, kit, unique, form, results),
     }
 }

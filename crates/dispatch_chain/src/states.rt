@@ -14,19 +14,21 @@ use std::marker::Model;
 /// What the parts of a chain keep, from the application down. Part k of the chain, from 1, names the place k in its findings.
 #[derive(Drop)]
 pub struct LayerStates {
+    pub(crate) alloc: Global,
     pub(crate) parts: Vec<Part>,
 }
 
 impl Model for LayerStates {
-    ghost use Rattle.std.specs.Prelude.{◌≡◌, List, map};
+    ghost use Rattle.std.specs.Prelude.{List, map};
     ghost use Rattle.layer_model.specs.Walks.{PartState};
-    ghost use Rattle.dispatch_chain.specs.Seats.{kinds_of, seat_of, seats_from, state_of};
+    ghost use Rattle.dispatch_chain.specs.Kept.{AreInOrder};
+    ghost use Rattle.dispatch_chain.specs.Seats.{state_of};
 
     ghost Value = { List PartState };
 
     ghost view = { λ s. map state_of s.parts.items };
 
-    ghost invariant = { λ s. map seat_of s.parts.items ≡ seats_from 1 (kinds_of (map state_of s.parts.items)) };
+    ghost invariant = { λ s. AreInOrder s.parts.items };
 }
 
 // Parts of these kinds, from place 1 on, that were given nothing yet.
@@ -49,6 +51,6 @@ impl LayerStates {
         ensures { IfOk result (λ states. states ≡ map new_part (kinds_placed chain.now.parts.items)) }
     {
         let parts = new_parts(alloc, &chain.parts)?;
-        Ok(LayerStates { parts })
+        Ok(LayerStates { alloc, parts })
     }
 }

@@ -1,13 +1,14 @@
 //! The walk of a call down the parts of a chain, and of its results up.
-ghost use Rattle.std.specs.Prelude.{◌≡◌, ◌<◌, ◌≤◌, ◌-◌, ◌++◌, ◌⊎◌, ℕ, false, get_or, is_some, length, map, slice_get, List, OnOk};
+ghost use Rattle.std.specs.Prelude.{◌≡◌, ◌<◌, ◌≤◌, ◌-◌, ◌++◌, ◌⊎◌, ℕ, false, get_or, is_some, length, map, slice_get, true, List, OnOk};
 ghost use Rattle.command_tables.specs.Calls.{CallContent, call_content};
 ghost use Rattle.command_tables.specs.declared.call.LayerCall.{LayerCall};
 ghost use Rattle.object_records.specs.Shape.{HasParams};
 ghost use Rattle.lifetime_layer.specs.Reports.{reports_of};
 ghost use Rattle.lifetime_layer.specs.Shape.{HasFewPlaces};
-ghost use Rattle.layer_model.specs.Walks.{enter_parts, leave_parts};
+ghost use Rattle.layer_model.specs.Walks.{are_parts_guarded, enter_parts, leave_parts};
 ghost use Rattle.dispatch_chain.specs.Entries.{AllWithin, CanLeave, MayLeaveAt, down_of, enter_entries, leave_entries, step_down, step_up, with_front};
 ghost use Rattle.dispatch_chain.specs.Holding.{AllShaped, IsHeldOf};
+ghost use Rattle.dispatch_chain.specs.Kept.{AllBareOnce, AllKept, AllLost};
 ghost use Rattle.dispatch_chain.specs.Rows.{entries_of};
 ghost use Rattle.dispatch_chain.specs.Seats.{kinds_of, seat_of, seats_from, state_of};
 
@@ -19,6 +20,7 @@ use crate::states::LayerStates;
 use crate::table::DispatchTable;
 use command_tables::{LayerCall, NoMemory};
 use lifetime_layer::Verdict;
+use std::alloc::Global;
 
 // The part of an entry takes a call in.
 fn enter_at(
@@ -36,8 +38,10 @@ fn enter_at(
     requires shape { HasParams call.old }
     requires few { HasFewPlaces call.old }
     requires goes { verdict.old.skip ≡ false }
+    requires kept { AllKept (map state_of parts.old) }
     ensures down { OnOk result (down_of (map state_of parts.new) call.new verdict.new ≡ step_down thread number entry (down_of (map state_of parts.old) call.old verdict.old)) }
     ensures seats { map seat_of parts.new ≡ map seat_of parts.old }
+    ensures kept { AllKept (map state_of parts.new) }
     ensures shape { HasParams call.new }
     ensures few { HasFewPlaces call.new }
     ensures cmd { OnOk result (call.new.cmd ≡ call.old.cmd) }
@@ -70,8 +74,10 @@ fn down(
     requires shape { HasParams call.old }
     requires few { HasFewPlaces call.old }
     requires cmd { call.old.cmd ≡ held.old.cmd }
+    requires kept { AllKept (map state_of parts.old) }
     ensures walk { OnOk result (record { down = down_of (map state_of parts.new) call.new verdict.new; forms = held.new.forms } ≡ with_front held.old.forms (enter_entries thread number entries.now (down_of (map state_of parts.old) call.old verdict.old))) }
     ensures seats { map seat_of parts.new ≡ map seat_of parts.old }
+    ensures kept { AllKept (map state_of parts.new) }
     ensures shape { HasParams call.new }
     ensures few { HasFewPlaces call.new }
     ensures cmd { held.new.cmd ≡ held.old.cmd }
@@ -107,6 +113,8 @@ pub fn walk_enter(
     ensures found { OnOk result (reports_of verdict.new.findings.items ≡ reports_of verdict.old.findings.items ++ (enter_parts thread number 1 states.old (call_content call.old)).found.reports) }
     ensures skip { OnOk result (verdict.new.skip ≡ is_some (enter_parts thread number 1 states.old (call_content call.old)).found.stop) }
     ensures held { OnOk result (IsHeldOf held.new (kinds_of states.old) (enter_parts thread number 1 states.old (call_content call.old)).forms) }
+    ensures whole { OnOk result (verdict.new.skip ≡ false → length held.new.forms ≡ length (entries_of held.new.cmd (kinds_of states.old))) }
+    ensures cmd { held.new.cmd ≡ call.old.cmd }
     ensures kinds { kinds_of states.new ≡ kinds_of states.old }
     ensures shape { HasParams call.new }
     ensures few { HasFewPlaces call.new }
@@ -127,6 +135,7 @@ pub fn walk_enter(
 
 // The part of an entry takes results in.
 fn leave_at(
+    alloc: Global,
     kit: &Kit,
     parts: &mut [Part],
     entry: Entry,
@@ -138,11 +147,13 @@ fn leave_at(
     requires to { entry.place - 1 < length parts.old }
     requires shape { HasParams form.now }
     requires once { MayLeaveAt (call_content form.now) results.old (slice_get (map state_of parts.old) (entry.place - 1)) }
+    requires kept { AllKept (map state_of parts.old) }
     ensures left { OnOk result (record { states = map state_of parts.new; results = results.new } ≡ step_up thread entry (call_content form.now) (record { states = map state_of parts.old; results = results.old })) }
     ensures seats { map seat_of parts.new ≡ map seat_of parts.old }
+    ensures kept { AllKept (map state_of parts.new) }
 {
     let index = entry.place as usize - 1;
-    leave_part(kit, &mut parts[index], thread, form, results)
+    leave_part(alloc, kit, &mut parts[index], thread, form, results)
 }
 
 fn lesser(a: usize, b: usize) -> usize
@@ -155,6 +166,7 @@ fn lesser(a: usize, b: usize) -> usize
 
 // The parts of a row that a call came to take its results in, the last one first.
 fn up(
+    alloc: Global,
     kit: &Kit,
     entries: &[Entry],
     parts: &mut [Part],
@@ -165,20 +177,23 @@ fn up(
     requires within { AllWithin (length parts.old) entries.now }
     requires shaped { (i : ℕ) (d : LayerCall) → i < length forms.now → HasParams (get_or forms.now i d) }
     requires can { CanLeave thread entries.now (map call_content forms.now) (record { states = map state_of parts.old; results = results.old }) }
+    requires kept { AllKept (map state_of parts.old) }
     ensures left { OnOk result (record { states = map state_of parts.new; results = results.new } ≡ leave_entries thread entries.now (map call_content forms.now) (record { states = map state_of parts.old; results = results.old })) }
     ensures seats { map seat_of parts.new ≡ map seat_of parts.old }
+    ensures kept { AllKept (map state_of parts.new) }
 {
     let mut i = lesser(entries.len(), forms.len());
     while i > 0 {
         i -= 1;
-        leave_at(kit, parts, entries[i], thread, &forms[i], results)?;
+        leave_at(alloc, kit, parts, entries[i], thread, &forms[i], results)?;
     }
     Ok(())
 }
 
 /// The results of a call come up a chain: each part that it had come to takes them in, the last one first. What parts keep and the
-/// results above the first are those of the walk through all parts that the call had reached, of whose forms some are held. After
-/// `NoMemory` states and results are for dropping alone.
+/// results above the first are those of the walk through all parts that the call had reached, of whose forms some are held. Each
+/// checking part has a unique part below it, so that results for which unique parts issue ids are new once to it; others must be, and
+/// those of a call that was stopped are lost. After `NoMemory` states and results are for dropping alone.
 pub fn walk_leave(
     table: &DispatchTable,
     states: &mut LayerStates,
@@ -187,13 +202,16 @@ pub fn walk_leave(
     results: &mut [u64],
 ) -> Result<(), NoMemory>
     requires table { table.now.rows ≡ kinds_of states.old }
-    requires once { CanLeave thread (entries_of held.now.cmd (kinds_of states.old)) held.now.forms (record { states = states.old; results = results.old }) }
+    requires guarded { are_parts_guarded (kinds_of states.old) ≡ true }
+    requires once { AllBareOnce held.now.cmd results.old states.old }
+    requires lost { length held.now.forms < length (entries_of held.now.cmd (kinds_of states.old)) → AllLost results.old }
     ensures states { OnOk result ((forms : List CallContent) → IsHeldOf held.now (kinds_of states.old) forms → states.new ≡ (leave_parts thread states.old forms results.old).states) }
     ensures results { OnOk result ((forms : List CallContent) → IsHeldOf held.now (kinds_of states.old) forms → results.new ≡ (leave_parts thread states.old forms results.old).results) }
     ensures kinds { kinds_of states.new ≡ kinds_of states.old }
 {
     let entries = table.at(held.command());
     up(
+        states.alloc,
         &table.kit,
         entries,
         &mut states.parts,

@@ -2,6 +2,7 @@ use Rattle.std.proofs.Common.{◌≡◌, map, drop, length}
 use Rattle.object_records.specs.Shape.{HasParams}
 use Rattle.lifetime_layer.specs.Shape.{HasFewPlaces}
 use Rattle.dispatch_chain.specs.Entries.{AllWithin, enter_entries, with_front, down_of}
+use Rattle.dispatch_chain.specs.Kept.{AllKept}
 use Rattle.dispatch_chain.specs.Seats.{seat_of, state_of}
 use Rattle.dispatch_chain.proofs.walks.down.Given as goal
 
@@ -11,6 +12,7 @@ invariant-loop-entry g l = record {
       ≡ with_front l.fn.held.forms (enter_entries l.thread l.number l.entries (down_of (map state_of l.fn.parts) l.fn.call l.fn.verdict));
   within : AllWithin (length l.parts) (drop l.entry-index l.entries);
   seats : map seat_of l.parts ≡ map seat_of l.fn.parts;
+  kept : AllKept (map state_of l.parts);
   shape : HasParams l.call;
   few : HasFewPlaces l.call;
   cmd : l.call.cmd ≡ l.held.cmd;

@@ -1,6 +1,7 @@
 use Rattle.std.proofs.Common.{◌-◌, subst}
 use Rattle.command_tables.specs.Calls.{call_content}
 use Rattle.dispatch_chain.specs.Entries.{MayLeaveAt}
+use Rattle.dispatch_chain.proofs.Kept.{kept_set}
 use Rattle.dispatch_chain.proofs.Seats.{seat_set}
 use Rattle.dispatch_chain.proofs.Stepping.{on_both, left_at, state_there}
 use Rattle.dispatch_chain.proofs.walks.leave_at.Goals as goal
@@ -15,3 +16,6 @@ returns-clause-left g c =
 
 pub returns-clause-seats : goal.returns-clause-seats
 returns-clause-seats g c = seat_set c.args.parts.now (c.args.entry.place - 1) c.leave_part.new.part c.index-parts-index.result c.requires.to c.leave_part.ensures.seat
+
+pub returns-clause-kept : goal.returns-clause-kept
+returns-clause-kept g c = kept_set c.args.parts.now (c.args.entry.place - 1) c.leave_part.new.part c.index-parts-index.result c.requires.to c.leave_part.ensures.kept c.requires.kept

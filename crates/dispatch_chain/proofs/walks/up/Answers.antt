@@ -11,6 +11,7 @@ loop-i-init g c = record {
   entries = c.lesser-i.ensures.first;
   forms = c.lesser-i.ensures.second;
   seats = refl;
+  kept = c.requires.kept;
 }
 
 pub leave_at-requires-clause-from : goal.leave_at-requires-clause-from
@@ -38,4 +39,5 @@ loop-i-preserved g c = record {
   entries = omega arith;
   forms = omega arith;
   seats = c.in_ok-leave_at.ensures.seats ∙ c.loop-i.invariant.seats;
+  kept = c.in_ok-leave_at.ensures.kept;
 }

@@ -1,6 +1,7 @@
 use Rattle.std.proofs.Common.{◌≡◌, ◌≤◌, map, drop, length}
 use Rattle.command_tables.specs.Calls.{call_content}
 use Rattle.dispatch_chain.specs.Entries.{leave_entries}
+use Rattle.dispatch_chain.specs.Kept.{AllKept}
 use Rattle.dispatch_chain.specs.Seats.{seat_of, state_of}
 use Rattle.dispatch_chain.proofs.walks.up.Given as goal
 
@@ -10,6 +11,7 @@ invariant-loop-i g l = record {
   entries : l.i ≤ length l.entries;
   forms : l.i ≤ length l.forms;
   seats : map seat_of l.parts ≡ map seat_of l.fn.parts;
+  kept : AllKept (map state_of l.parts);
 }
 
 abbrev pub decreases-loop-i : goal.decreases-loop-i

@@ -1,7 +1,10 @@
-use Rattle.std.proofs.Common.{◌≡◌, map, length, ◌∙◌, ap, sym, subst}
+use Rattle.std.proofs.Common.{map, length, ◌∙◌, ap, refl, sym, subst}
 use Rattle.dispatch_chain.specs.Holding.{AllShaped}
+use Rattle.dispatch_chain.specs.Kept.{AllKept, AreInOrder}
 use Rattle.dispatch_chain.specs.Rows.{entries_of}
 use Rattle.dispatch_chain.specs.Seats.{kinds_of, seat_of, seats_from, state_of}
+use Rattle.dispatch_chain.proofs.Kept.{shaped_all}
+use Rattle.dispatch_chain.proofs.Lasting.{row_can}
 use Rattle.dispatch_chain.proofs.Seats.{kinds_stay, seats_stay}
 use Rattle.dispatch_chain.proofs.Stepping.{on_ok}
 use Rattle.dispatch_chain.proofs.Upwards.{left_up, can_up}
@@ -17,7 +20,7 @@ pub up-requires-clause-shaped : goal.up-requires-clause-shaped
 up-requires-clause-shaped g c = λ i d h. shaped_at c.args.held.now.cmd c.forms.result.now i d (subst (AllShaped c.args.held.now.cmd) (sym c.forms.ensures.forms) c.forms.ensures.shaped) h
 
 pub up-requires-clause-can : goal.up-requires-clause-can
-up-requires-clause-can g c = can_up c.args.thread c.args.held.now c.args.states.now c.states.inside.parts.items _ c.at-entries.result.now _ c.args.results.now c.states.view_is (c.at-entries.ensures ∙ ap (λ x. entries_of x c.args.table.now.rows) c.command.ensures ∙ ap (entries_of c.args.held.now.cmd) c.requires.table) c.deref_mut.ensures.value c.forms.ensures.forms c.requires.once
+up-requires-clause-can g c = can_up c.args.thread c.args.held.now c.args.states.now c.states.inside.parts.items _ c.at-entries.result.now _ c.args.results.now c.states.view_is (c.at-entries.ensures ∙ ap (λ x. entries_of x c.args.table.now.rows) c.command.ensures ∙ ap (entries_of c.args.held.now.cmd) c.requires.table) c.deref_mut.ensures.value c.forms.ensures.forms (row_can c.args.thread c.args.held.now.cmd c.args.states.now _ c.args.held.now.forms c.args.results.now refl (shaped_all c.args.held.now.cmd c.args.held.now.forms c.forms.ensures.shaped) (subst AllKept c.states.view_is c.states.invariant.kept) c.requires.guarded c.requires.once c.requires.lost)
 
 pub returns-clause-states : goal.returns-clause-states
 returns-clause-states g c = on_ok c.up.result (λ h forms k. ap (map state_of) (all_of_it c.states.inside.parts.len c.up.new.parts c.states.inside.parts.items (c.up.auto.parts ∙ ap length c.deref_mut.ensures.value) c.states.inside.parts.ok.0) ∙ ap (λ w. w.states) (h ∙ left_up c.args.thread c.args.held.now c.args.states.now c.states.inside.parts.items _ c.at-entries.result.now _ forms c.args.results.now c.states.view_is (c.at-entries.ensures ∙ ap (λ x. entries_of x c.args.table.now.rows) c.command.ensures ∙ ap (entries_of c.args.held.now.cmd) c.requires.table) c.deref_mut.ensures.value c.forms.ensures.forms k)) c.up.ensures.left
@@ -28,5 +31,9 @@ returns-clause-results g c = on_ok c.up.result (λ h forms k. ap (λ w. w.result
 pub returns-clause-kinds : goal.returns-clause-kinds
 returns-clause-kinds g c = ap (λ xs. kinds_of (map state_of xs)) (all_of_it c.states.inside.parts.len c.up.new.parts c.states.inside.parts.items (c.up.auto.parts ∙ ap length c.deref_mut.ensures.value) c.states.inside.parts.ok.0) ∙ kinds_stay c.states.inside.parts.items c.up.new.parts (c.up.ensures.seats ∙ ap (map seat_of) c.deref_mut.ensures.value) ∙ ap kinds_of c.states.view_is
 
+pub up-requires-clause-kept : goal.up-requires-clause-kept
+up-requires-clause-kept g c = subst (λ xs. AllKept (map state_of xs)) (sym c.deref_mut.ensures.value) c.states.invariant.kept
+
 pub invariant_of-states : goal.invariant_of-states
-invariant_of-states g c = subst (λ xs. map seat_of xs ≡ seats_from 1 (kinds_of (map state_of xs))) (sym (all_of_it c.states.inside.parts.len c.up.new.parts c.states.inside.parts.items (c.up.auto.parts ∙ ap length c.deref_mut.ensures.value) c.states.inside.parts.ok.0)) (seats_stay c.states.inside.parts.items c.up.new.parts c.states.invariant (c.up.ensures.seats ∙ ap (map seat_of) c.deref_mut.ensures.value))
+invariant_of-states g c = subst AreInOrder (sym (all_of_it c.states.inside.parts.len c.up.new.parts c.states.inside.parts.items (c.up.auto.parts ∙ ap length c.deref_mut.ensures.value) c.states.inside.parts.ok.0))
+    (record { seats = seats_stay c.states.inside.parts.items c.up.new.parts c.states.invariant.seats (c.up.ensures.seats ∙ ap (map seat_of) c.deref_mut.ensures.value); kept = c.up.ensures.kept })
