@@ -92,7 +92,7 @@ none_same f (r ∷ rs) o e = go (same r.object o) e (λ k. none_same f rs o k)
     go false e rest = rest e
 
 -- a test of an object is that of its record, where no object stands twice
-once_found : (f : ObjectRecord → Bool) (rs : List ObjectRecord) (o : Object) → AreOnce (objects_kept rs) → list_any (λ (r : ObjectRecord). same r.object o && f r) rs ≡ option_map_or f (record_in rs o) false
+pub once_found : (f : ObjectRecord → Bool) (rs : List ObjectRecord) (o : Object) → AreOnce (objects_kept rs) → list_any (λ (r : ObjectRecord). same r.object o && f r) rs ≡ option_map_or f (record_in rs o) false
 once_found f [] o once = refl
 once_found f (r ∷ rs) o once = go (same r.object o) refl (once_found f rs o once.1)
   where

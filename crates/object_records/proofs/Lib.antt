@@ -9,3 +9,5 @@ pub mod Owned
 pub mod Swept
 pub mod Once
 pub mod Walked
+pub mod Below
+pub mod Sweeping

@@ -1,26 +1,21 @@
 -- What an object owns, by the place of its record.
-use Rattle.std.proofs.Common.{◌≡◌, ◌≤◌, ◌<◌, ◌∙◌, ◌&&◌, ◌||◌, ◌==◌, ◌+◌, ℕ, zero, suc, cond, Bool, true, false, Option, Some, None, List, [], ◌∷◌, length, map, get_or, refl, sym, ap, arith, eq-eqb}
-use Rattle.std.specs.Prelude.{IfSome, filter, slice_get}
+use Rattle.std.proofs.Common.{◌≡◌, ◌≤◌, ◌<◌, ◌∙◌, ◌&&◌, ◌||◌, ◌==◌, ◌+◌, ℕ, zero, suc, cond, Bool, true, false, Option, Some, None, List, [], ◌∷◌, length, map, refl, sym, ap, arith, eq-eqb}
+use Rattle.std.specs.Prelude.{filter, slice_get}
 use Rattle.std.specs.List.{list_any}
 use Rattle.std.specs.Option.{option_map_or}
 use Rattle.std.proofs.lemmas.Bool.{eqb-true}
 use Rattle.std.proofs.lemmas.Option.{same_Some}
 use Rattle.object_model.specs.declared.Object.{Object}
-use Rattle.object_model.specs.declared.Argument.{Argument}
-use Rattle.object_model.specs.declared.Argument.TheVariants.{Null, The}
-use Rattle.object_model.specs.Objects.{are_same, is_in, object_of, objects_in, same}
-use Rattle.object_model.specs.History.{Birth, children_in, created_in, ends_with, owners_in}
-use Rattle.command_tables.specs.Handles.{list_at}
-use Rattle.object_records.specs.Shape.{argument_in}
+use Rattle.object_model.specs.Objects.{are_same, is_in, same}
+use Rattle.object_model.specs.History.{Birth, children_in}
 use Rattle.layer_model.proofs.Same.{same_is, same_self, same_sym}
 use Rattle.object_records.specs.declared.kept_owner.KeptOwner.{KeptOwner}
 use Rattle.object_records.specs.declared.kept_owner.KeptOwner.TheVariants.{Nobody, At, Unborn}
 use Rattle.object_records.specs.declared.record.ObjectRecord.{ObjectRecord}
-use Rattle.object_records.specs.Links.{child_count, has_strays_in, is_child_of, is_owner_at, is_unborn, last_from, last_link}
+use Rattle.object_records.specs.Links.{child_count, has_strays_in, is_child_of, is_owner_at, is_unborn, last_from}
 use Rattle.object_records.specs.Records.{PassesOnly, birth_after, births_kept, is_child, line_kept, living_kept, swept}
 use Rattle.object_records.specs.Table.{AreOnce, AreOwnersBefore, LivesAt, before_owned, ended_at, objects_kept, place_from, place_in, record_in}
-use Rattle.object_records.proofs.Kept.{birth_at, births_counted, first_here, has_here, lives_at, owner_below, owner_low, owners_found, place_within, record_found}
-use Rattle.object_records.proofs.Born.{any_in}
+use Rattle.object_records.proofs.Kept.{birth_at, births_counted, first_here, lives_at, owner_low, record_found}
 use Rattle.object_records.proofs.Linking.{not_same, suc_same}
 
 -- ---- places and objects
@@ -48,7 +43,7 @@ place_once k (x ∷ rs) (suc n) r once e =
     apart (y ∷ xs) (suc m) h f = apart xs m (or_false (same y.object x.object) _ h).1 f
 
 -- the object of the record at a place is this one just where this one's place is it
-at_place : (rs : List ObjectRecord) (o : Object) (n : ℕ) (r : ObjectRecord) → AreOnce (objects_kept rs) → slice_get rs n ≡ Some r → same r.object o ≡ option_map_or (λ place. n == place) (place_in rs o) false
+pub at_place : (rs : List ObjectRecord) (o : Object) (n : ℕ) (r : ObjectRecord) → AreOnce (objects_kept rs) → slice_get rs n ≡ Some r → same r.object o ≡ option_map_or (λ place. n == place) (place_in rs o) false
 at_place rs o n r once e = go (same r.object o) refl
   where
     there : place_in rs r.object ≡ Some n
@@ -79,7 +74,7 @@ at_place rs o n r once e = go (same r.object o) refl
 
 -- ---- owners by their places
 
-past : {X : Type 0} (xs : List X) (n : ℕ) → n < length xs → slice_get xs n ≡ None → ⊥
+pub past : {X : Type 0} (xs : List X) (n : ℕ) → n < length xs → slice_get xs n ≡ None → ⊥
 past [] n low e = absurd (omega (arith, low))
 past (x ∷ xs) zero low e = cc e
 past (x ∷ xs) (suc n) low e = past xs n (omega (arith, low)) e
@@ -168,7 +163,7 @@ no_children rs o all once none e =
     go [] = refl
     go (x ∷ xs) = ap (λ u. length (map (λ (r : ObjectRecord). r.object) (cond u (x ∷ filter (λ (r : ObjectRecord). r.is_created && r.lives && false) xs) (filter (λ (r : ObjectRecord). r.is_created && r.lives && false) xs)))) (and_false x.is_created x.lives) ∙ go xs
 
--- ---- an object that owns nothing
+-- ---- links that lead somewhere
 
 pub last_some : (k found place : ℕ) (rs : List ObjectRecord) → last_from k (suc found) place rs ≡ 0 → ⊥
 last_some k found place [] e = omega (arith, e)
@@ -178,85 +173,10 @@ last_some k found place (r ∷ rs) e = go (is_owner_at place r.owner) e (λ f. l
     go true f here behind = here f
     go false f here behind = behind f
 
-none_owned : (k place : ℕ) (rs : List ObjectRecord) (n : ℕ) (r : ObjectRecord) → last_from k 0 place rs ≡ 0 → slice_get rs n ≡ Some r → is_owner_at place r.owner ≡ false
-none_owned k place [] n r e f = cc f
-none_owned k place (x ∷ rs) n r e f = go (is_owner_at place x.owner) refl e n f (λ g m h. none_owned (suc k) place rs m r g h)
-  where
-    go : (u : Bool) → is_owner_at place x.owner ≡ u → last_from (suc k) (cond u (suc k) 0) place rs ≡ 0 → (m : ℕ) → slice_get (x ∷ rs) m ≡ Some r
-        → (last_from (suc k) 0 place rs ≡ 0 → (j : ℕ) → slice_get rs j ≡ Some r → is_owner_at place r.owner ≡ false) → is_owner_at place r.owner ≡ false
-    go true is g m h behind = absurd (last_some (suc k) k place rs g)
-    go false is g zero h behind = ap (λ (y : ObjectRecord). is_owner_at place y.owner) (sym (same_Some x r h)) ∙ is
-    go false is g (suc m) h behind = behind g m h
-
--- it is the owner of no owner
-not_above : (fuel : ℕ) (rs : List ObjectRecord) (o : Object) (place : ℕ) (w : KeptOwner) → AreOwnersBefore 0 rs → AreOnce (objects_kept rs) → has_strays_in rs ≡ false → place_in rs o ≡ Some place → last_link rs place ≡ 0
-    → before_owned w ≤ length rs → before_owned w ≤ fuel → is_unborn w ≡ false → is_owner_at place w ≡ false → is_in (line_kept (births_kept rs) w) o ≡ false
-not_above fuel rs o place Nobody all once none e leaf low few born not = refl
-not_above fuel rs o place (Unborn x) all once none e leaf low few born not = cc born
-not_above zero rs o place (At q) all once none e leaf low few born not = absurd (omega (arith, few))
-not_above (suc fuel) rs o place (At q) all once none e leaf low few born not = go (slice_get rs q) refl (λ w l m b n. not_above fuel rs o place w all once none e leaf l m b n)
-  where
-    go : (x : Option ObjectRecord) → slice_get rs q ≡ x → ((w : KeptOwner) → before_owned w ≤ length rs → before_owned w ≤ fuel → is_unborn w ≡ false → is_owner_at place w ≡ false → is_in (line_kept (births_kept rs) w) o ≡ false)
-        → is_in (line_kept (births_kept rs) (At q)) o ≡ false
-    go None f above = absurd (past rs q (omega (arith, low)) f)
-    go (Some r) f above =
-        let below : before_owned r.owner ≤ q = owner_below rs q r all f in
-        has_here rs q r o all f
-        ∙ (ap (λ u. u || is_in (line_kept (births_kept rs) r.owner) o) (at_place rs o q r once f ∙ (ap (λ p. option_map_or (λ m. q == m) p false) e ∙ not))
-        ∙ above r.owner (omega (arith, low, below)) (omega (arith, few, below)) (born_owner rs q r none f) (none_owned 0 place rs q r leaf f))
-
--- a created object that owns nothing goes alone
-pub leaf_alone : (rs : List ObjectRecord) (o : Object) (place : ℕ) → AreOwnersBefore 0 rs → AreOnce (objects_kept rs) → has_strays_in rs ≡ false → created_in (births_kept rs) o ≡ true → place_in rs o ≡ Some place → last_link rs place ≡ 0
-    → PassesOnly rs place (λ x. ends_with (births_kept rs) x o)
-leaf_alone rs o place all once none made e leaf = (place_within rs o place e, λ n r f. one n r f)
-  where
-    low : (xs : List ObjectRecord) (n : ℕ) (r : ObjectRecord) → slice_get xs n ≡ Some r → n < length xs
-    low [] n r f = cc f
-    low (x ∷ xs) zero r f = omega arith
-    low (x ∷ xs) (suc n) r f = omega (arith, low xs n r f)
-
-    or_none : (a : Bool) → (a || false) ≡ a
-    or_none true = refl
-    or_none false = refl
-
-    one : (n : ℕ) (r : ObjectRecord) → slice_get rs n ≡ Some r → ends_with (births_kept rs) r.object o ≡ (n == place)
-    one n r f =
-        let there : place_in rs r.object ≡ Some n = place_once 0 rs n r once f ∙ ap (λ (m : ℕ). Some m) (omega arith) in
-        let found : record_in rs r.object ≡ Some r = record_found rs r.object n there ∙ f in
-        let owners : owners_in (births_kept rs) r.object ≡ line_kept (births_kept rs) r.owner = owners_found rs r.object all ∙ ap (λ x. option_map_or (λ (y : ObjectRecord). line_kept (births_kept rs) y.owner) x []) found in
-        let within : before_owned r.owner ≤ length rs = owner_low rs n r all f (low rs n r f) in
-        let free : is_in (owners_in (births_kept rs) r.object) o ≡ false
-        = ap (λ (os : List Object). is_in os o) owners ∙ not_above (length rs) rs o place r.owner all once none e leaf within within (born_owner rs n r none f) (none_owned 0 place rs n r leaf f) in
-        ap (λ u. u && (same r.object o || is_in (owners_in (births_kept rs) r.object) o)) made
-        ∙ (ap (λ u. same r.object o || u) free ∙ (or_none (same r.object o) ∙ (at_place rs o n r once f ∙ ap (λ p. option_map_or (λ m. n == m) p false) e)))
-
--- the one argument of a parameter
-pub sole_argument : (q : Object → Bool) (args : List (List Argument)) (p : ℕ) (o : Object) → length (list_at args p) ≡ 1 → argument_in args p 0 ≡ The o → list_any q (objects_in args p) ≡ q o
-sole_argument q args p o one is = any_in q args p ∙ go (list_at args p) one is
-  where
-    or_none : (a : Bool) → (a || false) ≡ a
-    or_none true = refl
-    or_none false = refl
-
-    go : (xs : List Argument) → length xs ≡ 1 → get_or xs 0 Null ≡ The o → list_any (λ a. option_map_or q (object_of a) false) xs ≡ q o
-    go [] l e = absurd (omega (arith, l))
-    go (a ∷ []) l e = ap (λ x. option_map_or q (object_of x) false || false) e ∙ or_none (q o)
-    go (a ∷ b ∷ xs) l e = absurd (omega (arith, l))
-
--- a destroy or free of it alone ends it alone
-only_named : (rs : List ObjectRecord) (args : List (List Argument)) (p : ℕ) (o : Object) (place : ℕ) → length (list_at args p) ≡ 1 → argument_in args p 0 ≡ The o → PassesOnly rs place (λ x. ends_with (births_kept rs) x o)
-    → PassesOnly rs place (λ x. list_any (ends_with (births_kept rs) x) (objects_in args p))
-only_named rs args p o place one is only = (only.0, λ n r e. sole_argument (ends_with (births_kept rs) r.object) args p o one is ∙ only.1 n r e)
-
--- the same where there may be none
-pub leaf_named : (rs : List ObjectRecord) (args : List (List Argument)) (p : ℕ) (o : Object) (found : Option ℕ) → length (list_at args p) ≡ 1 → argument_in args p 0 ≡ The o
-    → IfSome found (λ place. PassesOnly rs place (λ x. ends_with (births_kept rs) x o)) → IfSome found (λ place. PassesOnly rs place (λ x. list_any (ends_with (births_kept rs) x) (objects_in args p)))
-leaf_named rs args p o None one is h = h
-leaf_named rs args p o (Some place) one is h = only_named rs args p o place one is h
-
 -- ---- an end of one
 
-none_swept : (q : Object → Bool) (rs : List ObjectRecord) → ((n : ℕ) (r : ObjectRecord) → slice_get rs n ≡ Some r → q r.object ≡ false) → swept q (length rs) rs ≡ rs
+-- where none passes the test, all is as it was
+pub none_swept : (q : Object → Bool) (rs : List ObjectRecord) → ((n : ℕ) (r : ObjectRecord) → slice_get rs n ≡ Some r → q r.object ≡ false) → swept q (length rs) rs ≡ rs
 none_swept q [] h = refl
 none_swept q (r ∷ rs) h =
     ap (λ u. cond u (record r { lives = false }) r ∷ swept q (length rs) rs) (ap (λ u. r.lives && u) (h 0 r refl) ∙ none r.lives) ∙ ap (λ (xs : List ObjectRecord). r ∷ xs) (none_swept q rs (λ n x e. h (suc n) x e))

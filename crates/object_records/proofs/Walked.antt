@@ -78,13 +78,13 @@ is_at place (Unborn o) e = cc e
 is_at place (At q) e = ap (λ (n : ℕ). At n) (eqb-true q place e)
 
 -- the latest of the first n records with its owner at a place stands at j
-record IsLatest (rs : List ObjectRecord) (t : ObjectType) (place n j : ℕ) : Type 0 where
-  kept : ObjectRecord
-  here : slice_get rs j ≡ Some kept
-  owner : kept.owner ≡ At place
-  owned : owned_of_type (take n rs) t place ≡ owned_of_type (take j rs) t place ++ alone_if t kept.object
+pub record IsLatest (rs : List ObjectRecord) (t : ObjectType) (place n j : ℕ) : Type 0 where
+  pub kept : ObjectRecord
+  pub here : slice_get rs j ≡ Some kept
+  pub owner : kept.owner ≡ At place
+  pub owned : owned_of_type (take n rs) t place ≡ owned_of_type (take j rs) t place ++ alone_if t kept.object
 
-latest : (rs : List ObjectRecord) (t : ObjectType) (place n j : ℕ) → last_link (take n rs) place ≡ suc j → IsLatest rs t place n j
+pub latest : (rs : List ObjectRecord) (t : ObjectType) (place n j : ℕ) → last_link (take n rs) place ≡ suc j → IsLatest rs t place n j
 latest rs t place zero j e = absurd (omega (arith, e))
 latest rs t place (suc n) j e = split (slice_get rs n) refl (λ f. latest rs t place n j f)
   where

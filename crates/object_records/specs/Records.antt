@@ -7,7 +7,8 @@ use Rattle.command_tables.specs.Tests.{same_type}
 use Rattle.command_tables.specs.declared.types.Effect.{Effect}
 use Rattle.object_model.specs.declared.Argument.{Argument}
 use Rattle.object_model.specs.declared.Object.{Object}
-use Rattle.object_model.specs.History.{Birth, born_in, ends_by, is_owned_by}
+use Rattle.object_model.specs.Objects.{is_in}
+use Rattle.object_model.specs.History.{Birth, born_in, ends_by, is_owned_by, owners_in}
 use Rattle.layer_model.specs.Reading.{read_results}
 use Rattle.object_records.specs.declared.kept_owner.KeptOwner.{KeptOwner}
 use Rattle.object_records.specs.declared.kept_owner.KeptOwner.TheVariants.{Nobody, At, Unborn}
@@ -73,3 +74,7 @@ EndsThere rs place ends answer = (r : ObjectRecord) → slice_get rs place ≡ S
 -- of the objects of the records only that at this place passes the test
 abbrev pub PassesOnly : List ObjectRecord → ℕ → (Object → Bool) → Type 0
 PassesOnly rs place ends = (place < length rs) × ((n : ℕ) (r : ObjectRecord) → slice_get rs n ≡ Some r → ends r.object ≡ (n == place))
+
+-- what the object of the record at a place owns at any depth lives no longer
+abbrev pub IsEndedBelow : List ObjectRecord → ℕ → List ObjectRecord → Type 0
+IsEndedBelow rs place next = (r : ObjectRecord) → slice_get rs place ≡ Some r → next ≡ swept (λ o. is_in (owners_in (births_kept rs) o) r.object) (length rs) rs

@@ -1,16 +1,17 @@
 // Which objects a call ends.
-ghost use Rattle.std.specs.Prelude.{◌≡◌, ◌<◌, ◌+◌, false, length, if◌then◌else◌, slice_get, IfSome, Some, ◌&&◌, Bool};
+ghost use Rattle.std.specs.Prelude.{◌≡◌, ◌<◌, ◌+◌, false, length, if◌then◌else◌, Bool};
 ghost use Rattle.std.specs.List.{list_any};
 ghost use Rattle.std.specs.Option.{option_map_or};
 ghost use Rattle.command_tables.specs.Handles.{list_at};
 ghost use Rattle.object_model.specs.Objects.{is_in, object_of, objects_in};
 ghost use Rattle.object_model.specs.History.{ends_by, ends_with, owners_in};
-ghost use Rattle.object_records.specs.Records.{births_kept, living_kept, swept, DoesNotEnd, EndsThere, PassesOnly};
+ghost use Rattle.object_records.specs.Links.{has_strays_in};
+ghost use Rattle.object_records.specs.Records.{births_kept, living_kept, swept, DoesNotEnd, EndsThere, IsEndedBelow, PassesOnly};
 ghost use Rattle.object_records.specs.Shape.{HasParams, arguments_of};
 ghost use Rattle.object_records.specs.Table.{ended_at};
 
 use crate::look_ups::{is_created, is_owned, is_same};
-use crate::reading::{argument_at, count_places};
+use crate::reading::{argument_at, count_places, object_of};
 use crate::record_table::RecordTable;
 use command_tables::{Effect, LayerCall};
 use object_model::{Argument, Object};
@@ -139,56 +140,9 @@ fn end_among_all(table: &mut RecordTable, effect: Effect, call: &LayerCall) -> u
     ended
 }
 
-// The place of a created object that owns nothing.
-fn leaf(table: &RecordTable, named: Object) -> Option<usize>
-    ensures { IfSome result (λ place. PassesOnly table.now.records place (λ o. ends_with (births_kept table.now.records) o named)) }
-{
-    if table.has_strays() {
-        return None;
-    }
-    if !is_created(table, named) {
-        return None;
-    }
-    match table.place_of(named) {
-        None => None,
-        Some(place) => {
-            if table.last_owned(place) != 0 {
-                return None;
-            }
-            Some(place)
-        }
-    }
-}
-
-// The place of the one object that a parameter names, where that is created and owns nothing.
-fn named_leaf(table: &RecordTable, call: &LayerCall, p: usize) -> Option<usize>
-    requires { HasParams call.now }
-    ensures { IfSome result (λ place. PassesOnly table.now.records place (λ o. list_any (ends_with (births_kept table.now.records) o) (objects_in (arguments_of call.now) p))) }
-{
-    if count_places(call, p) != 1 {
-        return None;
-    }
-    match argument_at(call, p, 0) {
-        Argument::Null | Argument::Unborn => None,
-        Argument::The(named) => leaf(table, named),
-    }
-}
-
-// The place of the one object that a call of this effect ends, where that is seen at once.
-fn ended_leaf(table: &RecordTable, effect: Effect, call: &LayerCall) -> Option<usize>
-    requires { HasParams call.now }
-    ensures { IfSome result (λ place. PassesOnly table.now.records place (ends_by (births_kept table.now.records) (arguments_of call.now) effect)) }
-{
-    match effect {
-        Effect::Destroy(p) => named_leaf(table, call, p as usize),
-        Effect::Free(p) => named_leaf(table, call, p as usize),
-        Effect::None | Effect::Reset(_) | Effect::Create { .. } | Effect::Retrieve { .. } => None,
-    }
-}
-
 // The object of the record at a place lives no longer. Tells whether it lived until then, by 1 or 0.
 #[tactic(auto, using(crate::proofs::Owned::lives_there, crate::proofs::Swept::one_less))]
-fn end_leaf(table: &mut RecordTable, place: usize) -> usize
+fn end_record(table: &mut RecordTable, place: usize) -> usize
     requires { place < length table.old.records }
     ensures records { (ends : Object → Bool) → PassesOnly table.old.records place ends → table.new.records ≡ swept ends (length table.old.records) table.old.records }
     ensures count { result + length (living_kept table.new.records) ≡ length (living_kept table.old.records) }
@@ -201,14 +155,123 @@ fn end_leaf(table: &mut RecordTable, place: usize) -> usize
     1
 }
 
+// What the object of the record at a place owns, at any depth, lives no longer. Tells how many objects that are.
+// Calls itself as deep as objects own one another.
+fn end_below(table: &mut RecordTable, place: usize) -> usize
+    requires place { place < length table.old.records }
+    requires born { has_strays_in table.old.records ≡ false }
+    ensures records { IsEndedBelow table.old.records place table.new.records }
+    ensures count { result + length (living_kept table.new.records) ≡ length (living_kept table.old.records) }
+{
+    let _count = table.len();
+    let mut ended: usize = 0;
+    let mut link = table.last_owned(place);
+    while link > 0 {
+        let at = link - 1;
+        link = table.previous(at);
+        ended += end_below(table, at);
+        ended += end_record(table, at);
+    }
+    ended
+}
+
+// What an object owns, at any depth, lives no longer. Tells how many objects that are.
+fn end_owned(table: &mut RecordTable, owner: Object) -> usize
+    requires { has_strays_in table.old.records ≡ false }
+    ensures records { table.new.records ≡ swept (λ o. is_in (owners_in (births_kept table.old.records) o) owner) (length table.old.records) table.old.records }
+    ensures count { result + length (living_kept table.new.records) ≡ length (living_kept table.old.records) }
+{
+    match table.place_of(owner) {
+        None => 0,
+        Some(place) => end_below(table, place),
+    }
+}
+
+// A created object lives no longer, nor does what it owns. Tells how many objects that are.
+fn end_named(table: &mut RecordTable, named: Object) -> usize
+    requires { has_strays_in table.old.records ≡ false }
+    ensures records { table.new.records ≡ swept (λ o. ends_with (births_kept table.old.records) o named) (length table.old.records) table.old.records }
+    ensures count { result + length (living_kept table.new.records) ≡ length (living_kept table.old.records) }
+{
+    let _count = table.len();
+    if !is_created(table, named) {
+        return 0;
+    }
+    match table.place_of(named) {
+        None => 0,
+        Some(place) => {
+            let owned = end_below(table, place);
+            owned + end_record(table, place)
+        }
+    }
+}
+
+fn end_owned_by_argument(table: &mut RecordTable, a: Argument) -> usize
+    requires { has_strays_in table.old.records ≡ false }
+    ensures records { table.new.records ≡ swept (λ o. option_map_or (is_in (owners_in (births_kept table.old.records) o)) (object_of a) false) (length table.old.records) table.old.records }
+    ensures count { result + length (living_kept table.new.records) ≡ length (living_kept table.old.records) }
+{
+    match object_of(a) {
+        None => 0,
+        Some(owner) => end_owned(table, owner),
+    }
+}
+
+fn end_argument(table: &mut RecordTable, a: Argument) -> usize
+    requires { has_strays_in table.old.records ≡ false }
+    ensures records { table.new.records ≡ swept (λ o. option_map_or (ends_with (births_kept table.old.records) o) (object_of a) false) (length table.old.records) table.old.records }
+    ensures count { result + length (living_kept table.new.records) ≡ length (living_kept table.old.records) }
+{
+    match object_of(a) {
+        None => 0,
+        Some(named) => end_named(table, named),
+    }
+}
+
+// What the objects own that a parameter names lives no longer. Tells how many objects that are.
+fn end_all_owned(table: &mut RecordTable, call: &LayerCall, p: usize) -> usize
+    requires shape { HasParams call.now }
+    requires born { has_strays_in table.old.records ≡ false }
+    ensures records { table.new.records ≡ swept (λ o. list_any (is_in (owners_in (births_kept table.old.records) o)) (objects_in (arguments_of call.now) p)) (length table.old.records) table.old.records }
+    ensures count { result + length (living_kept table.new.records) ≡ length (living_kept table.old.records) }
+{
+    let _count = table.len();
+    let mut ended: usize = 0;
+    for k in 0..count_places(call, p) {
+        ended += end_owned_by_argument(table, argument_at(call, p, k));
+    }
+    ended
+}
+
+// The created objects that a parameter names live no longer, nor does what they own. Tells how many objects that are.
+fn end_all_named(table: &mut RecordTable, call: &LayerCall, p: usize) -> usize
+    requires shape { HasParams call.now }
+    requires born { has_strays_in table.old.records ≡ false }
+    ensures records { table.new.records ≡ swept (λ o. list_any (ends_with (births_kept table.old.records) o) (objects_in (arguments_of call.now) p)) (length table.old.records) table.old.records }
+    ensures count { result + length (living_kept table.new.records) ≡ length (living_kept table.old.records) }
+{
+    let _count = table.len();
+    let mut ended: usize = 0;
+    for k in 0..count_places(call, p) {
+        ended += end_argument(table, argument_at(call, p, k));
+    }
+    ended
+}
+
 // What a call of this effect ends lives no longer. Tells how many objects that are.
+// Only owners that weren't born have no links.
 pub(crate) fn end_objects(table: &mut RecordTable, effect: Effect, call: &LayerCall) -> usize
     requires { HasParams call.now }
     ensures records { table.new.records ≡ swept (ends_by (births_kept table.old.records) (arguments_of call.now) effect) (length table.old.records) table.old.records }
     ensures count { result + length (living_kept table.new.records) ≡ length (living_kept table.old.records) }
 {
-    match ended_leaf(table, effect, call) {
-        Some(place) => end_leaf(table, place),
-        None => end_among_all(table, effect, call),
+    if table.has_strays() {
+        return end_among_all(table, effect, call);
+    }
+    match effect {
+        Effect::Destroy(p) => end_all_named(table, call, p as usize),
+        Effect::Free(p) => end_all_named(table, call, p as usize),
+        Effect::Reset(p) => end_all_owned(table, call, p as usize),
+        Effect::None | Effect::Create { .. } | Effect::Retrieve { .. } => 0,
     }
 }

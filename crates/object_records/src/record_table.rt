@@ -133,11 +133,14 @@ impl RecordTable {
     }
 
     /// One more than the place of the latest record whose owner stands at a place; 0 where there is none.
-    #[tactic(auto, using(crate::proofs::Linking::last_read))]
+    #[tactic(auto, using(crate::proofs::Linking::last_read, crate::proofs::Tables::once_indexed))]
     pub fn last_owned(&self, place: usize) -> usize
         requires { place < length self.now.records }
-        ensures { result ≡ last_link self.now.records place }
+        ensures link { result ≡ last_link self.now.records place }
+        ensures owners { AreOwnersBefore 0 self.now.records }
+        ensures once { AreOnce (objects_kept self.now.records) }
     {
+        let _count = self.index.len();
         self.links[place].last_owned
     }
 

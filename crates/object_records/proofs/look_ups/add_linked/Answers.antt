@@ -3,7 +3,7 @@ use Rattle.object_records.proofs.Walked.{walk_back, walk_begins, walk_ends, walk
 use Rattle.object_records.proofs.look_ups.add_linked.Goals as goal
 
 pub loop-link-init : goal.loop-link-init
-loop-link-init c = walk_begins c.args.table.now.records c.args.ty c.args.place c.args.out.now.items c.last_owned-link.result c.last_owned-link.ensures
+loop-link-init c = walk_begins c.args.table.now.records c.args.ty c.args.place c.args.out.now.items c.last_owned-link.result c.last_owned-link.ensures.link
 
 pub record-requires : goal.record-requires
 record-requires c =

@@ -1,7 +1,7 @@
 use Rattle.std.proofs.Common.{◌≡◌, ◌∙◌, cond, true, false, sym, ap, rules}
 use Rattle.object_records.specs.Table.{ended_at}
 use Rattle.object_records.proofs.Owned.{one_swept}
-use Rattle.object_records.proofs.ends.end_leaf.Goals as goal
+use Rattle.object_records.proofs.ends.end_record.Goals as goal
 
 pub returns-then-not-kept-clause-records : goal.returns-then-not-kept-clause-records
 returns-then-not-kept-clause-records c =

@@ -1,0 +1,14 @@
+use Rattle.std.proofs.Common.{◌≡◌, ◌+◌, length}
+use Rattle.command_tables.specs.Handles.{list_at}
+use Rattle.object_model.specs.Objects.{is_in}
+use Rattle.object_model.specs.History.{owners_in}
+use Rattle.object_records.specs.Records.{living_kept}
+use Rattle.object_records.specs.Shape.{arguments_of}
+use Rattle.object_records.proofs.Sweeping.{IsEnding}
+use Rattle.object_records.proofs.ends.end_all_owned.Given as goal
+
+abbrev pub invariant-loop-k : goal.invariant-loop-k
+invariant-loop-k l = record {
+  ended : IsEnding (λ births o. is_in (owners_in births o)) l.fn.table.records l.table.records (list_at (arguments_of l.call) l.p) l.k;
+  count : l.ended + length (living_kept l.table.records) ≡ length (living_kept l.fn.table.records);
+}
