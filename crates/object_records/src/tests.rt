@@ -270,3 +270,114 @@ fn a_later_birth_of_an_owner_ends_what_names_it(rt: HostRuntime) -> Result<(), F
     assert_eq!(rt; records.live_count(), 0);
     Ok(())
 }
+
+const OTHER_DEVICE: Object = Object {
+    ty: ObjectType::Device,
+    number: 7,
+};
+
+const OTHER_POOL: Object = Object {
+    ty: ObjectType::DescriptorPool,
+    number: 8,
+};
+
+const OTHER_SET: Object = Object {
+    ty: ObjectType::DescriptorSet,
+    number: 9,
+};
+
+// Besides, a second device of the same physical device, with a pool and one set.
+fn two_devices(alloc: Global) -> Result<ObjectRecords, Fail> {
+    let mut records = small_history(alloc)?;
+    bear(alloc, &mut records, CommandId::CreateDevice, &[&[2]], 7)?;
+    bear(
+        alloc,
+        &mut records,
+        CommandId::CreateDescriptorPool,
+        &[&[7]],
+        8,
+    )?;
+    bear(
+        alloc,
+        &mut records,
+        CommandId::AllocateDescriptorSets,
+        &[&[7], &[8], &[6]],
+        9,
+    )?;
+    Ok(records)
+}
+
+#[test]
+fn a_device_takes_what_it_owns_and_nothing_else(rt: HostRuntime) -> Result<(), Fail> {
+    let mut records = two_devices(rt.alloc())?;
+    end(rt.alloc(), &mut records, CommandId::DestroyDevice, &[&[3]])?;
+    assert!(rt; !records.is_alive(DEVICE) && !records.is_alive(POOL));
+    assert!(rt; !records.is_alive(FIRST_SET) && !records.is_alive(SECOND_SET));
+    assert!(rt; records.is_alive(OTHER_DEVICE) && records.is_alive(OTHER_POOL));
+    assert!(rt; records.is_alive(OTHER_SET) && records.is_alive(INSTANCE));
+    assert_eq!(rt; records.live_count(), 5);
+    assert_eq!(rt; records.count_children(INSTANCE), 1);
+    Ok(())
+}
+
+#[test]
+fn a_free_passes_over_nulls_and_repeats(rt: HostRuntime) -> Result<(), Fail> {
+    let mut records = two_devices(rt.alloc())?;
+    end(
+        rt.alloc(),
+        &mut records,
+        CommandId::FreeDescriptorSets,
+        &[&[3], &[4], &[5, 0, 6, 5]],
+    )?;
+    assert!(rt; !records.is_alive(FIRST_SET) && !records.is_alive(SECOND_SET));
+    assert!(rt; records.is_alive(POOL) && records.is_alive(OTHER_SET));
+    assert_eq!(rt; records.live_count(), 7);
+    Ok(())
+}
+
+#[test]
+fn each_reset_ends_the_sets_born_since_the_last(rt: HostRuntime) -> Result<(), Fail> {
+    let mut records = small_history(rt.alloc())?;
+    for handle in 10..13u64 {
+        end(
+            rt.alloc(),
+            &mut records,
+            CommandId::ResetDescriptorPool,
+            &[&[3], &[4]],
+        )?;
+        assert_eq!(rt; records.live_count(), 4);
+        bear(
+            rt.alloc(),
+            &mut records,
+            CommandId::AllocateDescriptorSets,
+            &[&[3], &[4], &[7]],
+            handle,
+        )?;
+        assert_eq!(rt; records.live_count(), 5);
+        assert_eq!(rt; records.count_children(POOL), 1);
+    }
+    Ok(())
+}
+
+#[test]
+fn what_is_born_below_a_dead_pool_ends_with_the_device(rt: HostRuntime) -> Result<(), Fail> {
+    let mut records = small_history(rt.alloc())?;
+    end(
+        rt.alloc(),
+        &mut records,
+        CommandId::DestroyDescriptorPool,
+        &[&[3], &[4]],
+    )?;
+    bear(
+        rt.alloc(),
+        &mut records,
+        CommandId::AllocateDescriptorSets,
+        &[&[3], &[4], &[7]],
+        9,
+    )?;
+    assert!(rt; !records.is_alive(POOL) && records.is_alive(OTHER_SET));
+    end(rt.alloc(), &mut records, CommandId::DestroyDevice, &[&[3]])?;
+    assert!(rt; !records.is_alive(OTHER_SET));
+    assert_eq!(rt; records.live_count(), 2);
+    Ok(())
+}
