@@ -3,15 +3,17 @@ use Rattle.std.proofs.Common.{◌≡◌, ◌≤◌, ◌<◌, ◌∙◌, ◌&&◌
 use Rattle.std.specs.Prelude.{slice_get}
 use Rattle.std.specs.List.{list_any}
 use Rattle.std.specs.Option.{option_map_or}
+use Rattle.std.proofs.lemmas.Bool.{eqb-true}
 use Rattle.std.proofs.lemmas.Option.{same_Some}
 use Rattle.object_model.specs.declared.Object.{Object}
 use Rattle.object_model.specs.Objects.{is_in, same}
 use Rattle.object_model.specs.History.{owners_in}
-use Rattle.layer_model.proofs.Same.{same_sym}
+use Rattle.layer_model.proofs.Same.{same_self, same_sym}
 use Rattle.object_records.specs.declared.kept_owner.KeptOwner.{KeptOwner}
 use Rattle.object_records.specs.declared.kept_owner.KeptOwner.TheVariants.{Nobody, At, Unborn}
 use Rattle.object_records.specs.declared.record.ObjectRecord.{ObjectRecord}
 use Rattle.object_records.specs.Links.{has_strays_in, is_owner_at, is_unborn, last_from, last_link}
+use Rattle.object_records.specs.Passed.{IsPassed}
 use Rattle.object_records.specs.Records.{births_kept, line_kept}
 use Rattle.object_records.specs.Table.{AreOnce, AreOwnersBefore, before_owned, objects_kept, place_in, record_in}
 use Rattle.object_records.proofs.Kept.{has_here, line_at, once_found, owner_below, owner_low, owners_found, record_found}
@@ -37,7 +39,7 @@ drop_all [] (suc m) high = refl
 drop_all (x ∷ rs) zero high = absurd (omega (arith, high))
 drop_all (x ∷ rs) (suc m) high = drop_all rs m (omega (arith, high))
 
-take_get : (rs : List ObjectRecord) (n m : ℕ) (r : ObjectRecord) → m < n → slice_get rs m ≡ Some r → slice_get (take n rs) m ≡ Some r
+pub take_get : (rs : List ObjectRecord) (n m : ℕ) (r : ObjectRecord) → m < n → slice_get rs m ≡ Some r → slice_get (take n rs) m ≡ Some r
 take_get rs zero m r low e = absurd (omega (arith, low))
 take_get [] (suc n) m r low e = cc e
 take_get (x ∷ rs) (suc n) zero r low e = e
@@ -81,7 +83,7 @@ last_reaches k found place (x ∷ rs) (suc m) r low e is =
     behind false a b = omega (arith, b)
 
 -- behind the latest record with its owner at a place none has it
-past_last : (rs : List ObjectRecord) (place m : ℕ) (r : ObjectRecord) → last_link rs place ≤ m → slice_get rs m ≡ Some r → is_owner_at place r.owner ≡ false
+pub past_last : (rs : List ObjectRecord) (place m : ℕ) (r : ObjectRecord) → last_link rs place ≤ m → slice_get rs m ≡ Some r → is_owner_at place r.owner ≡ false
 past_last rs place m r high e = go (is_owner_at place r.owner) refl
   where
     go : (u : Bool) → is_owner_at place r.owner ≡ u → u ≡ false
@@ -178,6 +180,69 @@ all_walked rs place p n r all once none e f =
     ap (λ u. u || list_any (is_walked rs place 0) (owners_in (births_kept rs) r.object)) (owner_walked rs place n r once f)
     ∙ (ap (λ (os : List Object). is_owner_at place r.owner || list_any (is_walked rs place 0) os) owners
     ∙ (owners_walked (length rs) rs place p r.owner all once none e within within (born_owner rs n r none f) ∙ ap (λ (os : List Object). is_in os p.object) (sym owners)))
+
+-- ---- what a walk passes over
+
+-- past a link nothing that has its owner at the place is this record
+walked_kept : (rs : List ObjectRecord) (place link n : ℕ) (r : ObjectRecord) → AreOnce (objects_kept rs) → slice_get rs n ≡ Some r → (n < link → is_owner_at place r.owner ≡ true → ⊥) → is_walked rs place link r.object ≡ is_walked rs place 0 r.object
+walked_kept rs place link n r once e apart =
+    let from_none : link ≡ 0 + link = omega arith in
+    ap (λ m. is_walked rs place m r.object) from_none
+    ∙ any_skip (λ (x : ObjectRecord). same x.object r.object && is_owner_at place x.owner) rs link 0 (λ m x low less f. go m x (omega (arith, less)) f (same x.object r.object) refl (is_owner_at place x.owner) refl)
+  where
+    there : place_in rs r.object ≡ Some n
+    there = let same_place : 0 + n ≡ n = omega arith in place_once 0 rs n r once e ∙ ap (λ (m : ℕ). Some m) same_place
+
+    go : (m : ℕ) (x : ObjectRecord) → m < link → slice_get rs m ≡ Some x → (u : Bool) → same x.object r.object ≡ u → (v : Bool) → is_owner_at place x.owner ≡ v → (u && v) ≡ false
+    go m x less f false is v owner = refl
+    go m x less f true is false owner = refl
+    go m x less f true is true owner =
+        let at : m ≡ n = eqb-true m n (sym (at_place rs r.object m x once f ∙ ap (λ p. option_map_or (λ q. m == q) p false) there) ∙ is) in
+        let same_record : x ≡ r = same_Some x r (sym f ∙ (ap (λ q. slice_get rs q) at ∙ e)) in
+        absurd (apart (omega (arith, less, at)) (sym (ap (λ (y : ObjectRecord). is_owner_at place y.owner) same_record) ∙ owner))
+
+-- nor any of the owners of a record
+owners_kept : (fuel : ℕ) (rs : List ObjectRecord) (place link before n : ℕ) (x : ObjectRecord) (w : KeptOwner) → AreOwnersBefore 0 rs → AreOnce (objects_kept rs) → has_strays_in rs ≡ false → IsPassed rs place before → link ≤ before
+    → slice_get rs n ≡ Some x → x.owner ≡ w → before_owned w ≤ length rs → before_owned w ≤ fuel → list_any (is_walked rs place link) (line_kept (births_kept rs) w) ≡ list_any (is_walked rs place 0) (line_kept (births_kept rs) w)
+owners_kept fuel rs place link before n x Nobody all once none passed high e is low few = refl
+owners_kept fuel rs place link before n x (Unborn o) all once none passed high e is low few = cc (sym (born_owner rs n x none e) ∙ ap (λ (w : KeptOwner). is_unborn w) is)
+owners_kept zero rs place link before n x (At q) all once none passed high e is low few = absurd (omega (arith, few))
+owners_kept (suc fuel) rs place link before n x (At q) all once none passed high e is low few =
+    go (slice_get rs q) refl (λ r w f g l m. owners_kept fuel rs place link before q r w all once none passed high f g l m)
+  where
+    owned : last_link rs q ≡ 0 → ⊥
+    owned leaf = cc (sym (self q) ∙ (sym (ap (λ (w : KeptOwner). is_owner_at q w) is) ∙ past_last rs q n x (omega (arith, leaf)) e))
+      where
+        self : (m : ℕ) → (m == m) ≡ true
+        self m = eq-eqb m m refl
+
+    go : (y : Option ObjectRecord) → slice_get rs q ≡ y
+        → ((r : ObjectRecord) (w : KeptOwner) → slice_get rs q ≡ Some r → r.owner ≡ w → before_owned w ≤ length rs → before_owned w ≤ fuel → list_any (is_walked rs place link) (line_kept (births_kept rs) w) ≡ list_any (is_walked rs place 0) (line_kept (births_kept rs) w))
+        → list_any (is_walked rs place link) (line_kept (births_kept rs) (At q)) ≡ list_any (is_walked rs place 0) (line_kept (births_kept rs) (At q))
+    go None f above = absurd (past rs q (omega (arith, low)) f)
+    go (Some r) f above =
+        let below : before_owned r.owner ≤ q = owner_below rs q r all f in
+        ap (λ (os : List Object). list_any (is_walked rs place link) os) (line_at rs q r all f)
+        ∙ (ap (λ u. u || list_any (is_walked rs place link) (line_kept (births_kept rs) r.owner)) (walked_kept rs place link q r once f (λ less there. owned (passed.leaf q r (omega (arith, less, high)) f there)))
+        ∙ (ap (λ u. is_walked rs place 0 r.object || u) (above r r.owner f refl (omega (arith, low, below)) (omega (arith, few, below))) ∙ sym (ap (λ (os : List Object). list_any (is_walked rs place 0) os) (line_at rs q r all f))))
+
+-- of what lives nothing is owned by what a walk passes over
+pub all_kept : (rs : List ObjectRecord) (place link before n : ℕ) (r : ObjectRecord) → AreOwnersBefore 0 rs → AreOnce (objects_kept rs) → has_strays_in rs ≡ false → IsPassed rs place before → link ≤ before → slice_get rs n ≡ Some r → r.lives ≡ true
+    → list_any (is_walked rs place link) (r.object ∷ owners_in (births_kept rs) r.object) ≡ list_any (is_walked rs place 0) (r.object ∷ owners_in (births_kept rs) r.object)
+all_kept rs place link before n r all once none passed high e lives =
+    let owners = owners_at rs n r all once e in
+    let within : before_owned r.owner ≤ length rs = owner_low rs n r all e (get_low rs r n e) in
+    ap (λ (os : List Object). list_any (is_walked rs place link) (r.object ∷ os)) owners
+    ∙ (ap (λ u. u || list_any (is_walked rs place link) (line_kept (births_kept rs) r.owner)) (walked_kept rs place link n r once e (λ less there. cc (sym lives ∙ passed.dead n r (omega (arith, less, high)) e there)))
+    ∙ (ap (λ u. is_walked rs place 0 r.object || u) (owners_kept (length rs) rs place link before n r r.owner all once none passed high e refl within within)
+    ∙ sym (ap (λ (os : List Object). list_any (is_walked rs place 0) (r.object ∷ os)) owners)))
+
+-- what has its owner at a place is owned by the object there
+pub owned_there : (rs : List ObjectRecord) (place : ℕ) (p : ObjectRecord) (n : ℕ) (r : ObjectRecord) → AreOwnersBefore 0 rs → AreOnce (objects_kept rs) → slice_get rs place ≡ Some p → slice_get rs n ≡ Some r → r.owner ≡ At place
+    → is_in (owners_in (births_kept rs) r.object) p.object ≡ true
+owned_there rs place p n r all once e f is =
+    ap (λ (os : List Object). is_in os p.object) (owners_at rs n r all once f ∙ ap (λ (w : KeptOwner). line_kept (births_kept rs) w) is)
+    ∙ (has_here rs place p p.object all e ∙ ap (λ u. u || is_in (line_kept (births_kept rs) p.owner) p.object) (same_self p.object))
 
 -- what isn't born is above nothing
 none_above : (fuel : ℕ) (rs : List ObjectRecord) (o : Object) (w : KeptOwner) → AreOwnersBefore 0 rs → AreOnce (objects_kept rs) → has_strays_in rs ≡ false → place_in rs o ≡ None

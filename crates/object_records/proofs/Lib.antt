@@ -1,4 +1,5 @@
 pub mod Linking
+pub mod Passing
 pub mod Places
 pub mod Loops
 pub mod Tables

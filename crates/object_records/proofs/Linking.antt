@@ -85,12 +85,12 @@ count_none k place (r ∷ rs) all high =
     ap (λ u. length (cond (r.is_created && r.lives && u) (r ∷ filter (is_child_of place) rs) (filter (is_child_of place) rs))) (not_owner r.owner place (omega (arith, all.0, high)))
     ∙ (ap (λ u. length (cond u (r ∷ filter (is_child_of place) rs) (filter (is_child_of place) rs))) (and_none r.is_created r.lives) ∙ count_none (suc k) place rs all.1 (omega (arith, high)))
 
-get_front : {X : Type 0} (xs : List X) (x : X) (n : ℕ) → n < length xs → slice_get (xs ++ x ∷ []) n ≡ slice_get xs n
+pub get_front : {X : Type 0} (xs : List X) (x : X) (n : ℕ) → n < length xs → slice_get (xs ++ x ∷ []) n ≡ slice_get xs n
 get_front [] x n low = absurd (omega (arith, low))
 get_front (y ∷ xs) x zero low = refl
 get_front (y ∷ xs) x (suc n) low = get_front xs x n (omega (arith, low))
 
-get_last : {X : Type 0} (xs : List X) (x : X) (n : ℕ) → n ≡ length xs → slice_get (xs ++ x ∷ []) n ≡ Some x
+pub get_last : {X : Type 0} (xs : List X) (x : X) (n : ℕ) → n ≡ length xs → slice_get (xs ++ x ∷ []) n ≡ Some x
 get_last [] x zero at = refl
 get_last [] x (suc n) at = absurd (omega (arith, at))
 get_last (y ∷ xs) x zero at = absurd (omega (arith, at))
@@ -163,7 +163,7 @@ suc_same a b = go (a == b) refl
         both : true ≡ false → ⊥
         both f = cc f
 
-self_same : (a : ℕ) → (a == a) ≡ true
+pub self_same : (a : ℕ) → (a == a) ≡ true
 self_same a = eq-eqb a a refl
 
 was_linked : (links : List Links) (w : KeptOwner) (link : ℕ) (child : Bool) (place : ℕ) (l : Links) → slice_get (linked links w link child) place ≡ Some l → WasLinked links w link child place l
@@ -295,7 +295,7 @@ count_less (x ∷ rs) (suc at) place r e lives = go (is_child_of place x) (count
     go true ih = omega (arith, ih)
     go false ih = ih
 
-last_ended : (k found place at : ℕ) (rs : List ObjectRecord) → last_from k found place (ended_at rs at) ≡ last_from k found place rs
+pub last_ended : (k found place at : ℕ) (rs : List ObjectRecord) → last_from k found place (ended_at rs at) ≡ last_from k found place rs
 last_ended k found place at [] = refl
 last_ended k found place zero (r ∷ rs) = refl
 last_ended k found place (suc at) (r ∷ rs) = last_ended (suc k) (cond (is_owner_at place r.owner) (suc k) found) place at rs
@@ -312,12 +312,12 @@ link_taken rs at n (Unborn o) = refl
 link_taken rs at n (At place) = last_taken 0 0 place at n rs
 
 -- the record at a place had the same owner before an end
-record WasRecord (rs : List ObjectRecord) (place : ℕ) (r : ObjectRecord) : Type 0 where
-  old : ObjectRecord
-  here : slice_get rs place ≡ Some old
-  owner : old.owner ≡ r.owner
+pub record WasRecord (rs : List ObjectRecord) (place : ℕ) (r : ObjectRecord) : Type 0 where
+  pub old : ObjectRecord
+  pub here : slice_get rs place ≡ Some old
+  pub owner : old.owner ≡ r.owner
 
-was_record : (rs : List ObjectRecord) (at place : ℕ) (r : ObjectRecord) → slice_get (ended_at rs at) place ≡ Some r → WasRecord rs place r
+pub was_record : (rs : List ObjectRecord) (at place : ℕ) (r : ObjectRecord) → slice_get (ended_at rs at) place ≡ Some r → WasRecord rs place r
 was_record [] at place r e = cc e
 was_record (x ∷ rs) zero zero r e = record { old = x; here = refl; owner = ap (λ (y : ObjectRecord). y.owner) (same_Some (record x { lives = false }) r e) }
 was_record (x ∷ rs) zero (suc place) r e = record { old = r; here = e; owner = refl }
@@ -325,7 +325,7 @@ was_record (x ∷ rs) (suc at) zero r e = record { old = r; here = e; owner = re
 was_record (x ∷ rs) (suc at) (suc place) r e =
     let rest = was_record rs at place r e in record { old = rest.old; here = rest.here; owner = rest.owner }
 
-ended_length : (rs : List ObjectRecord) (at : ℕ) → length (ended_at rs at) ≡ length rs
+pub ended_length : (rs : List ObjectRecord) (at : ℕ) → length (ended_at rs at) ≡ length rs
 ended_length [] at = refl
 ended_length (r ∷ rs) zero = refl
 ended_length (r ∷ rs) (suc at) = ap suc (ended_length rs at)

@@ -1,9 +1,10 @@
 -- Ends of what an object owns, one after the other.
-use Rattle.std.proofs.Common.{◌≡◌, ◌≤◌, ◌<◌, ◌∙◌, ◌&&◌, ◌||◌, ◌==◌, ◌+◌, ℕ, zero, suc, cond, Bool, true, false, Option, Some, None, List, [], ◌∷◌, length, map, take, get_or, refl, sym, ap, subst, arith}
-use Rattle.std.specs.Prelude.{filter, slice_get}
+use Rattle.std.proofs.Common.{◌≡◌, ◌≢◌, ◌≤◌, ◌<◌, ◌∙◌, ◌&&◌, ◌||◌, ◌==◌, ◌+◌, ℕ, zero, suc, cond, Bool, true, false, Option, Some, None, List, [], ◌∷◌, length, map, take, get_or, refl, sym, ap, subst, arith, eq-eqb}
+use Rattle.std.specs.Prelude.{filter, nat_lt, slice_get}
 use Rattle.std.specs.List.{list_any}
 use Rattle.std.specs.Option.{option_map_or}
 use Rattle.std.proofs.lemmas.List.Folds.{list_any_more}
+use Rattle.std.proofs.lemmas.Bool.{eqb-true, ltb-true}
 use Rattle.std.proofs.lemmas.Option.{same_Some}
 use Rattle.command_tables.specs.Handles.{list_at}
 use Rattle.command_tables.specs.declared.types.ObjectType.TheVariants as ty
@@ -18,15 +19,16 @@ use Rattle.object_records.specs.declared.kept_owner.KeptOwner.{KeptOwner}
 use Rattle.object_records.specs.declared.kept_owner.KeptOwner.TheVariants.{Nobody, At, Unborn}
 use Rattle.object_records.specs.declared.record.ObjectRecord.{ObjectRecord}
 use Rattle.object_records.specs.Links.{IsPrevious, has_strays_in, is_owner_at, is_unborn, last_from, last_link, link_by}
+use Rattle.object_records.specs.Passed.{IsPassed}
 use Rattle.object_records.specs.Records.{DoesNotEnd, IsEndedBelow, PassesOnly, births_kept, living_kept, swept}
 use Rattle.object_records.specs.Table.{AreOnce, AreOwnersBefore, before_owned, objects_kept, place_from, place_in, record_in}
-use Rattle.object_records.proofs.Below.{all_walked, is_walked, none_walked, nothing_owned, one_walked}
+use Rattle.object_records.proofs.Below.{all_kept, all_walked, is_walked, none_walked, nothing_owned, one_walked, owned_there, past_last, take_get}
 use Rattle.object_records.proofs.Born.{any_in}
 use Rattle.object_records.proofs.Kept.{created_found, no_record, owner_below, place_within, record_found}
 use Rattle.object_records.proofs.Linking.{get_low, take_all}
 use Rattle.object_records.proofs.Owned.{at_place, none_swept, past, place_once}
 use Rattle.object_records.proofs.Swept.{births_swept, swept_length}
-use Rattle.object_records.proofs.Walked.{IsLatest, latest, walk_back}
+use Rattle.object_records.proofs.Walked.{IsLatest, is_at, latest, walk_back}
 
 -- ---- what an end leaves as it was
 
@@ -229,11 +231,108 @@ sweep_goes rs now mid next place link at before once w is previous below ended =
         (λ y. one_walked rs place at before step.kept y (walk_back rs at before step.kept step.here previous_is) latest_is step.here step.owner ∙ ap (λ m. is_walked rs place m y || same y step.kept.object) (sym is))
         ∙ (any_or (is_walked rs place link) (λ y. same y step.kept.object) (o ∷ owners_in births o) ∙ turned (p o) (same o step.kept.object) (is_in (owners_in births o) step.kept.object))
 
-pub sweep_ends : (rs now : List ObjectRecord) (place link : ℕ) → AreOwnersBefore 0 rs → AreOnce (objects_kept rs) → has_strays_in rs ≡ false → IsSweeping rs now place link → link ≡ 0 → IsEndedBelow rs place now
-sweep_ends rs now place link all once none w is =
+-- tests that pass the same records that live
+swept_alike : (p q : Object → Bool) (rs : List ObjectRecord) → ((n : ℕ) (r : ObjectRecord) → slice_get rs n ≡ Some r → r.lives ≡ true → p r.object ≡ q r.object) → swept p (length rs) rs ≡ swept q (length rs) rs
+swept_alike p q [] h = refl
+swept_alike p q (r ∷ rs) h =
+    ap (λ u. cond u (record r { lives = false }) r ∷ swept p (length rs) rs) (go r.lives refl)
+    ∙ ap (λ (xs : List ObjectRecord). cond (r.lives && q r.object) (record r { lives = false }) r ∷ xs) (swept_alike p q rs (λ n x e. h (suc n) x e))
+  where
+    go : (u : Bool) → r.lives ≡ u → (u && p r.object) ≡ (u && q r.object)
+    go true lives = h 0 r refl lives
+    go false lives = refl
+
+-- past what is passed over all was walked
+pub sweep_ends : (rs now : List ObjectRecord) (place link before : ℕ) → AreOwnersBefore 0 rs → AreOnce (objects_kept rs) → has_strays_in rs ≡ false → IsSweeping rs now place link → IsPassed rs place before → link ≤ before → IsEndedBelow rs place now
+sweep_ends rs now place link before all once none w passed high =
     λ p e. w.records
-    ∙ (ap (λ m. swept (λ o. list_any (is_walked rs place m) (o ∷ owners_in (births_kept rs) o)) (length rs) rs) is
+    ∙ (swept_alike (λ o. list_any (is_walked rs place link) (o ∷ owners_in (births_kept rs) o)) (λ o. list_any (is_walked rs place 0) (o ∷ owners_in (births_kept rs) o)) rs (λ n r f lives. all_kept rs place link before n r all once none passed high f lives)
     ∙ swept_same (λ o. list_any (is_walked rs place 0) (o ∷ owners_in (births_kept rs) o)) (λ o. is_in (owners_in (births_kept rs) o) p.object) rs (λ n r f. all_walked rs place p n r all once none e f))
+
+-- what was walked owns nothing
+abbrev pub AreLeaves : List ObjectRecord → ℕ → ℕ → Type 0
+AreLeaves rs place link = (n : ℕ) (r : ObjectRecord) → link ≤ n → slice_get rs n ≡ Some r → is_owner_at place r.owner ≡ true → last_link rs n ≡ 0
+
+pub leaves_begin : (rs : List ObjectRecord) (place link : ℕ) → link ≡ last_link rs place → AreLeaves rs place link
+leaves_begin rs place link is = λ n r low e there. cc (sym there ∙ past_last rs place n r (omega (arith, low, is)) e)
+
+same_last : (q : Object → Bool) (rs now : List ObjectRecord) (n : ℕ) → now ≡ swept q (length rs) rs → last_link now n ≡ last_link rs n
+same_last q rs now n is =
+    ap (λ (xs : List ObjectRecord). last_link xs n) is
+    ∙ (ap (λ (xs : List ObjectRecord). last_link xs n) (sym (take_all (swept q (length rs) rs) (length rs) (sym (swept_length q (length rs) rs))))
+    ∙ (swept_last 0 0 n (length rs) q (length rs) rs ∙ ap (λ (xs : List ObjectRecord). last_link xs n) (take_all rs (length rs) refl)))
+
+pub leaves_go : (rs now : List ObjectRecord) (place link at before : ℕ) → IsSweeping rs now place link → link ≡ suc at → IsPrevious now at before → AreLeaves rs place link → last_link now at ≡ 0 → AreLeaves rs place before
+leaves_go rs now place link at before w is previous leaves leaf = λ n r low e there. split n r low e there (nat_lt n at) refl (n == at) refl
+  where
+    p : Object → Bool
+    p o = list_any (is_walked rs place link) (o ∷ owners_in (births_kept rs) o)
+
+    step : IsLatest rs ty.Device place w.left at
+    step = latest rs ty.Device place w.left at (sym w.next ∙ is)
+
+    latest_is : before ≡ last_link (take at rs) place
+    latest_is = swept_previous p (length rs) rs now at before w.records previous step.kept step.here ∙ ap (λ (k : KeptOwner). link_by (take at rs) k) step.owner
+
+    split : (n : ℕ) (r : ObjectRecord) → before ≤ n → slice_get rs n ≡ Some r → is_owner_at place r.owner ≡ true → (u : Bool) → nat_lt n at ≡ u → (v : Bool) → (n == at) ≡ v → last_link rs n ≡ 0
+    split n r low e there true less v here =
+        let under : n < at = ltb-true n at less in cc (sym there ∙ past_last (take at rs) place n r (omega (arith, low, latest_is)) (take_get rs at n r under e))
+    split n r low e there false less true here =
+        let same_place : n ≡ at = eqb-true n at here in ap (λ m. last_link rs m) same_place ∙ (sym (same_last p rs now at w.records) ∙ leaf)
+    split n r low e there false less false here =
+        let least : at ≤ n = grind (arith, less) in
+        leaves n r (omega (arith, least, is, apart n here)) e there
+      where
+        apart : (m : ℕ) → (m == at) ≡ false → m ≢ at
+        apart m f = λ g. cc (sym f ∙ eq-eqb m at g)
+
+-- the record at a place before an end
+record WasThere (q : Object → Bool) (rs : List ObjectRecord) (n : ℕ) (r : ObjectRecord) : Type 0 where
+  old : ObjectRecord
+  here : slice_get rs n ≡ Some old
+  owner : old.owner ≡ r.owner
+  dead : q old.object ≡ true → r.lives ≡ false
+
+swept_was : (q : Object → Bool) (rs : List ObjectRecord) (n : ℕ) (r : ObjectRecord) → slice_get (swept q (length rs) rs) n ≡ Some r → WasThere q rs n r
+swept_was q [] n r e = cc e
+swept_was q (x ∷ rs) zero r e =
+    let is : cond (x.lives && q x.object) (record x { lives = false }) x ≡ r = same_Some (cond (x.lives && q x.object) (record x { lives = false }) x) r e in record {
+      old = x;
+      here = refl;
+      owner = owner (x.lives && q x.object) ∙ ap (λ (y : ObjectRecord). y.owner) is;
+      dead = λ pass. sym (ap (λ (y : ObjectRecord). y.lives) is) ∙ (ap (λ u. (cond (x.lives && u) (record x { lives = false }) x).lives) pass ∙ dead x.lives refl);
+    }
+  where
+    owner : (u : Bool) → x.owner ≡ (cond u (record x { lives = false }) x).owner
+    owner true = refl
+    owner false = refl
+
+    dead : (u : Bool) → x.lives ≡ u → (cond (u && true) (record x { lives = false }) x).lives ≡ false
+    dead true is = refl
+    dead false is = is
+swept_was q (x ∷ rs) (suc n) r e = let rest = swept_was q rs n r e in record { old = rest.old; here = rest.here; owner = rest.owner; dead = rest.dead }
+
+-- after a walk over leaves all that is owned there can be passed over
+pub leaves_end : (rs now : List ObjectRecord) (place link before : ℕ) → AreOwnersBefore 0 rs → AreOnce (objects_kept rs) → place < length rs → IsEndedBelow rs place now → IsPassed rs place before → link ≤ before → AreLeaves rs place link → IsPassed now place (length now)
+leaves_end rs now place link before all once low ended passed high leaves = go (slice_get rs place) refl
+  where
+    leaf : (n : ℕ) (r : ObjectRecord) → slice_get rs n ≡ Some r → is_owner_at place r.owner ≡ true → (u : Bool) → nat_lt n link ≡ u → last_link rs n ≡ 0
+    leaf n r e there true less = let under : n < link = ltb-true n link less in passed.leaf n r (omega (arith, under, high)) e there
+    leaf n r e there false less = let least : link ≤ n = grind (arith, less) in leaves n r least e there
+
+    go : (x : Option ObjectRecord) → slice_get rs place ≡ x → IsPassed now place (length now)
+    go None e = absurd (past rs place low e)
+    go (Some p) e =
+        let q : Object → Bool = λ o. is_in (owners_in (births_kept rs) o) p.object in
+        let is : now ≡ swept q (length rs) rs = ended p e in record {
+          within = omega arith;
+          dead = λ n r less f there.
+              let was = swept_was q rs n r (ap (λ (xs : List ObjectRecord). slice_get xs n) (sym is) ∙ f) in
+              was.dead (owned_there rs place p n was.old all once e was.here (is_at place was.old.owner (ap (λ (w : KeptOwner). is_owner_at place w) was.owner ∙ there)));
+          leaf = λ n r less f there.
+              let was = swept_was q rs n r (ap (λ (xs : List ObjectRecord). slice_get xs n) (sym is) ∙ f) in
+              same_last q rs now n is ∙ leaf n was.old was.here (ap (λ (w : KeptOwner). is_owner_at place w) was.owner ∙ there) (nat_lt n link) refl;
+        }
 
 -- what a walk so far leaves as it was
 pub sweep_strays : (rs now : List ObjectRecord) (place link : ℕ) → IsSweeping rs now place link → has_strays_in now ≡ has_strays_in rs

@@ -72,7 +72,8 @@ none_there t k place (x ∷ rs) e = go (is_owner_at place x.owner) e (λ f. none
 
 -- ---- a step
 
-is_at : (place : ℕ) (w : KeptOwner) → is_owner_at place w ≡ true → w ≡ At place
+-- the owner whose place it is
+pub is_at : (place : ℕ) (w : KeptOwner) → is_owner_at place w ≡ true → w ≡ At place
 is_at place Nobody e = cc e
 is_at place (Unborn o) e = cc e
 is_at place (At q) e = ap (λ (n : ℕ). At n) (eqb-true q place e)

@@ -1,4 +1,5 @@
 pub mod Shape
 pub mod Links
+pub mod Passed
 pub mod Table
 pub mod Records

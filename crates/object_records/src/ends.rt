@@ -1,11 +1,12 @@
 // Which objects a call ends.
-ghost use Rattle.std.specs.Prelude.{◌≡◌, ◌<◌, ◌+◌, false, length, if◌then◌else◌, Bool};
+ghost use Rattle.std.specs.Prelude.{◌≡◌, ◌<◌, ◌+◌, false, true, length, if◌then◌else◌, Bool};
 ghost use Rattle.std.specs.List.{list_any};
 ghost use Rattle.std.specs.Option.{option_map_or};
 ghost use Rattle.command_tables.specs.Handles.{list_at};
 ghost use Rattle.object_model.specs.Objects.{is_in, object_of, objects_in};
 ghost use Rattle.object_model.specs.History.{ends_by, ends_with, owners_in};
-ghost use Rattle.object_records.specs.Links.{has_strays_in};
+ghost use Rattle.object_records.specs.Links.{has_strays_in, last_link};
+ghost use Rattle.object_records.specs.Passed.{IsPassed};
 ghost use Rattle.object_records.specs.Records.{births_kept, living_kept, swept, DoesNotEnd, EndsThere, IsEndedBelow, PassesOnly};
 ghost use Rattle.object_records.specs.Shape.{HasParams, arguments_of};
 ghost use Rattle.object_records.specs.Table.{ended_at};
@@ -155,6 +156,25 @@ fn end_record(table: &mut RecordTable, place: usize) -> usize
     1
 }
 
+// Whether all so far, and the object of the record at a place, own nothing.
+fn are_leaves_with(table: &RecordTable, are_leaves: bool, place: usize) -> bool
+    requires { place < length table.now.records }
+    ensures { result ≡ true → (are_leaves ≡ true) × (last_link table.now.records place ≡ 0) }
+{
+    are_leaves && table.last_owned(place) == 0
+}
+
+// Further walks pass over what the object of the record at a place owns, if that was seen to own nothing.
+fn pass_leaves(table: &mut RecordTable, are_leaves: bool, place: usize)
+    requires place { place < length table.old.records }
+    requires passed { are_leaves ≡ true → IsPassed table.old.records place (length table.old.records) }
+    ensures { table.new.records ≡ table.old.records }
+{
+    if are_leaves {
+        table.pass_over(place);
+    }
+}
+
 // What the object of the record at a place owns, at any depth, lives no longer. Tells how many objects that are.
 // Calls itself as deep as objects own one another.
 fn end_below(table: &mut RecordTable, place: usize) -> usize
@@ -164,14 +184,18 @@ fn end_below(table: &mut RecordTable, place: usize) -> usize
     ensures count { result + length (living_kept table.new.records) ≡ length (living_kept table.old.records) }
 {
     let _count = table.len();
+    let passed = table.passed(place);
     let mut ended: usize = 0;
+    let mut are_leaves = true;
     let mut link = table.last_owned(place);
-    while link > 0 {
+    while link > passed {
         let at = link - 1;
         link = table.previous(at);
+        are_leaves = are_leaves_with(table, are_leaves, at);
         ended += end_below(table, at);
         ended += end_record(table, at);
     }
+    pass_leaves(table, are_leaves, place);
     ended
 }
 

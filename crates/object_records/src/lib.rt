@@ -8,6 +8,7 @@ mod ends;
 mod kept_owner;
 mod links;
 mod look_ups;
+mod passed;
 mod reading;
 mod record;
 mod record_table;

@@ -1,10 +1,12 @@
 //! Records in order of birth, each found by its object's type and handle.
 ghost use Rattle.std.specs.Prelude.{◌≡◌, ◌≤◌, ◌<◌, ◌+◌, ◌++◌, ◌∷◌, [], length, slice_get, OnOk, Some, None};
 ghost use Rattle.object_records.specs.Links.{IsPrevious, child_count, has_strays_in, last_link};
+ghost use Rattle.object_records.specs.Passed.{IsPassed};
 ghost use Rattle.object_records.specs.Table.{LivesAt, AreOnce, AreOwnersBefore, before_owned, ended_at, objects_kept, place_in};
 
 use crate::kept_owner::has_stray;
 use crate::links::{Links, link_owner, may_be_child, unlink};
+use crate::passed::reopen;
 use crate::record::ObjectRecord;
 use command_tables::NoMemory;
 use handle_map::HandleMap;
@@ -20,6 +22,8 @@ pub struct RecordTable {
     // at the place of its id; with many chains the way to it stays short.
     index: HandleMap<4096>,
     links: Vec<Links>,
+    // At each record, before which place what it owns neither lives nor owns anything.
+    passed: Vec<usize>,
     // Whether a record has an owner that wasn't born.
     has_strays: bool,
 }
@@ -30,9 +34,9 @@ impl Model for RecordTable {
 
     ghost Value = { TableState };
 
-    ghost view = { λ t. record { records = t.records.items; spare = min (min (vec_capacity t.records - length t.records.items) (vec_capacity t.links - length t.links.items)) (min t.index.spare t.index.room) } };
+    ghost view = { λ t. record { records = t.records.items; spare = min (min (min (vec_capacity t.records - length t.records.items) (vec_capacity t.links - length t.links.items)) (vec_capacity t.passed - length t.passed.items)) (min t.index.spare t.index.room) } };
 
-    ghost invariant = { λ t. IsTable t.records.items t.index.entries t.links.items t.has_strays };
+    ghost invariant = { λ t. IsTable t.records.items t.index.entries t.links.items t.passed.items t.has_strays };
 }
 
 impl RecordTable {
@@ -43,6 +47,7 @@ impl RecordTable {
             records: Vec::new(alloc),
             index: HandleMap::new(alloc),
             links: Vec::new(alloc),
+            passed: Vec::new(alloc),
             has_strays: false,
         }
     }
@@ -87,6 +92,7 @@ impl RecordTable {
     {
         self.records.reserve(n)?;
         self.links.reserve(n)?;
+        self.passed.reserve(n)?;
         self.index.reserve(n, 1)
     }
 
@@ -112,6 +118,8 @@ impl RecordTable {
                 children: 0,
             })
             .unwrap();
+        reopen(&mut self.passed, self.records.as_slice(), added.owner);
+        self.passed.push(0).unwrap();
         self.has_strays = has_stray(self.has_strays, added.owner);
         self.records.push(added).unwrap();
     }
@@ -163,5 +171,24 @@ impl RecordTable {
         let kept = self.records[place];
         unlink(&mut self.links, kept);
         self.records[place].lives = false;
+    }
+
+    /// Before which place nothing that the object of the record at a place owns lives, or owns anything itself.
+    #[tactic(auto, using(crate::proofs::Passing::passed_read))]
+    pub fn passed(&self, place: usize) -> usize
+        requires { place < length self.now.records }
+        ensures { IsPassed self.now.records place result }
+    {
+        self.passed[place]
+    }
+
+    /// Nothing that the object of the record at a place owns lives, or owns anything itself.
+    pub fn pass_over(&mut self, place: usize)
+        requires place { place < length self.old.records }
+        requires passed { IsPassed self.old.records place (length self.old.records) }
+        ensures records { self.new.records ≡ self.old.records }
+        ensures spare { self.new.spare ≡ self.old.spare }
+    {
+        self.passed[place] = self.records.len();
     }
 }

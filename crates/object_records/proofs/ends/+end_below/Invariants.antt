@@ -1,11 +1,12 @@
-use Rattle.std.proofs.Common.{◌≡◌, ◌+◌, ◌-◌, length}
+use Rattle.std.proofs.Common.{◌≡◌, ◌+◌, ◌-◌, true, length}
 use Rattle.object_records.specs.Records.{living_kept}
-use Rattle.object_records.proofs.Sweeping.{IsSweeping}
+use Rattle.object_records.proofs.Sweeping.{AreLeaves, IsSweeping}
 use Rattle.object_records.proofs.ends.+end_below.Given as goal
 
 abbrev pub invariant-loop-link : goal.invariant-loop-link
 invariant-loop-link l = record {
   walked : IsSweeping l.fn.table.records l.table.records l.place l.link;
+  leaves : l.are_leaves ≡ true → AreLeaves l.fn.table.records l.place l.link;
   count : l.ended + length (living_kept l.table.records) ≡ length (living_kept l.fn.table.records);
 }
 

@@ -1,0 +1,36 @@
+-- Which of what an object owns a walk need not look at. Source: this project.
+use Rattle.std.specs.Prelude.{◌≡◌, ◌≤◌, ◌<◌, ℕ, zero, suc, true, false, if◌then◌else◌, nat_lt, Some, List, [], ◌∷◌, length, slice_get}
+use Rattle.std.specs.Option.{option_map_or}
+use Rattle.object_records.specs.declared.kept_owner.KeptOwner.{KeptOwner}
+use Rattle.object_records.specs.declared.kept_owner.KeptOwner.TheVariants.{Nobody, At, Unborn}
+use Rattle.object_records.specs.declared.record.ObjectRecord.{ObjectRecord}
+use Rattle.object_records.specs.Links.{is_owner_at, last_link}
+
+-- of the records before a number, none that has its owner at a place lives, nor owns another
+pub record IsPassed (rs : List ObjectRecord) (place before : ℕ) : Type 0 where
+  pub within : before ≤ length rs
+  pub dead : (n : ℕ) (r : ObjectRecord) → n < before → slice_get rs n ≡ Some r → is_owner_at place r.owner ≡ true → r.lives ≡ false
+  pub leaf : (n : ℕ) (r : ObjectRecord) → n < before → slice_get rs n ≡ Some r → is_owner_at place r.owner ≡ true → last_link rs n ≡ 0
+
+-- what is kept at each record fits the records
+pub record ArePassed (rs : List ObjectRecord) (passed : List ℕ) : Type 0 where
+  pub count : length passed ≡ length rs
+  pub each : (place before : ℕ) → slice_get passed place ≡ Some before → IsPassed rs place before
+
+-- no more than a number is passed over at a place
+abbrev pub limited_at : List ℕ → ℕ → ℕ → List ℕ
+limited_at [] place most = []
+limited_at (n ∷ ns) zero most = (if nat_lt most n then most else n) ∷ ns
+limited_at (n ∷ ns) (suc place) most = n ∷ limited_at ns place most
+
+-- the same by the owner
+abbrev pub limited : List ℕ → KeptOwner → ℕ → List ℕ
+limited passed Nobody most = passed
+limited passed (At place) most = limited_at passed place most
+limited passed (Unborn o) most = passed
+
+-- the record of an owner is passed over no longer
+abbrev pub reopened : List ObjectRecord → List ℕ → KeptOwner → List ℕ
+reopened rs passed Nobody = passed
+reopened rs passed (At place) = option_map_or (λ r. limited passed r.owner place) (slice_get rs place) passed
+reopened rs passed (Unborn o) = passed
