@@ -1,5 +1,5 @@
 -- What unique parts keep of retrieved objects: each id that is kept was issued, and no two are the same. Source: this project.
-use Rattle.std.specs.Prelude.{◌≡◌, ℕ, ◌<◌, ◌≤◌, Bool, false, List, [], ◌∷◌, map}
+use Rattle.std.specs.Prelude.{◌≡◌, ℕ, ◌<◌, ◌≤◌, Bool, true, false, List, [], ◌∷◌, map}
 use Rattle.std.specs.Option.{option_map_or}
 use Rattle.command_tables.specs.declared.types.CommandId.{CommandId}
 use Rattle.command_tables.specs.Effects.{type_made}
@@ -65,3 +65,7 @@ LostAreOnce = (cmd : CommandId) (hs : List ℕ) (states : List PartState) → Al
 -- a single result is
 abbrev pub OneIsOnce : Type 0
 OneIsOnce = (cmd : CommandId) (h : ℕ) (states : List PartState) → AllBareOnce cmd (h ∷ []) states
+
+-- results for which unique parts issue ids are
+abbrev pub WrappedAreOnce : Type 0
+WrappedAreOnce = (cmd : CommandId) (hs : List ℕ) (states : List PartState) → makes_wrapped cmd ≡ true → AllBareOnce cmd hs states

@@ -13,6 +13,10 @@ mod states;
 mod table;
 #[cfg(test)]
 mod tests;
+#[cfg(test)]
+mod walk_machine;
+#[cfg(test)]
+mod walk_tests;
 mod walks;
 
 pub use entry::Entry;

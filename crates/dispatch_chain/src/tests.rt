@@ -36,7 +36,7 @@ static BARE: [CommandId; 10] = [
 ];
 
 // A chain of parts of these kinds, all of one layer.
-fn chain_of(alloc: Global, kinds: &[PartKind]) -> Result<Chain, AllocError> {
+pub(crate) fn chain_of(alloc: Global, kinds: &[PartKind]) -> Result<Chain, AllocError> {
     let mut parts = Vec::new(alloc);
     for kind in kinds {
         parts.push((*kind, 1))?;

@@ -404,3 +404,158 @@ fn lost_results_and_other_types(rt: HostRuntime) -> Result<(), Fail> {
     let steps = [buffers, fence, lost, free];
     play(&rt, alloc, &steps)
 }
+
+#[test]
+fn a_value_that_a_driver_never_answered_is_null(rt: HostRuntime) -> Result<(), Fail> {
+    let surface = Step {
+        cmd: CommandId::CreateXcbSurfaceKHR,
+        args: &[&[1]],
+        payload: b"",
+        told: &[
+            Told {
+                driver: 0,
+                asked: 1,
+                args: &[&[500]],
+            },
+            Told {
+                driver: 1,
+                asked: 1,
+                args: &[&[600]],
+            },
+        ],
+        replies: &[&[81], &[]],
+        flags: &[1],
+        above: &[6],
+    };
+    let support = CommandId::GetPhysicalDeviceSurfaceSupportKHR;
+    let first = to_one(
+        support,
+        &[&[2], &[6]],
+        &[Told {
+            driver: 0,
+            asked: 0,
+            args: &[&[51], &[81]],
+        }],
+    );
+    let second = to_one(
+        support,
+        &[&[3], &[6]],
+        &[Told {
+            driver: 1,
+            asked: 0,
+            args: &[&[61], &[0]],
+        }],
+    );
+    play(&rt, rt.alloc(), &[surface, first, second])
+}
+
+// Of three drivers the second's physical device is lost.
+fn three_drivers() -> [Step; 4] {
+    [
+        Step {
+            cmd: CommandId::CreateInstance,
+            args: &[],
+            payload: b"",
+            told: &[
+                Told {
+                    driver: 0,
+                    asked: 1,
+                    args: &[],
+                },
+                Told {
+                    driver: 1,
+                    asked: 1,
+                    args: &[],
+                },
+                Told {
+                    driver: 2,
+                    asked: 1,
+                    args: &[],
+                },
+            ],
+            replies: &[&[500], &[600], &[700]],
+            flags: &[1],
+            above: &[1],
+        },
+        Step {
+            cmd: CommandId::EnumeratePhysicalDevices,
+            args: &[&[1]],
+            payload: b"",
+            told: &[
+                Told {
+                    driver: 0,
+                    asked: 1,
+                    args: &[&[500]],
+                },
+                Told {
+                    driver: 1,
+                    asked: 1,
+                    args: &[&[600]],
+                },
+                Told {
+                    driver: 2,
+                    asked: 1,
+                    args: &[&[700]],
+                },
+            ],
+            replies: &[&[51], &[61], &[71]],
+            flags: &[1, 0, 1],
+            above: &[2, 0, 3],
+        },
+        Step {
+            cmd: CommandId::CreateDevice,
+            args: &[&[3]],
+            payload: b"",
+            told: &[Told {
+                driver: 2,
+                asked: 1,
+                args: &[&[71]],
+            }],
+            replies: &[&[72]],
+            flags: &[1],
+            above: &[4],
+        },
+        to_one(
+            CommandId::DestroyDevice,
+            &[&[4]],
+            &[Told {
+                driver: 2,
+                asked: 0,
+                args: &[&[72]],
+            }],
+        ),
+    ]
+}
+
+// An instance of no driver, which nobody is told of.
+fn no_driver() -> [Step; 2] {
+    let create = Step {
+        cmd: CommandId::CreateInstance,
+        args: &[],
+        payload: b"",
+        told: &[],
+        replies: &[],
+        flags: &[1],
+        above: &[1],
+    };
+    let destroy = Step {
+        cmd: CommandId::DestroyInstance,
+        args: &[&[1]],
+        flags: &[],
+        above: &[],
+        ..create
+    };
+    [create, destroy]
+}
+
+fn play_on(rt: &impl Abort, alloc: Global, drivers: u32, steps: &[Step]) -> Result<(), Fail> {
+    let mut part = Terminator::new(alloc, drivers);
+    let mut out = Vec::new(alloc);
+    play_all(rt, alloc, &mut part, &mut out, steps)
+}
+
+#[test]
+fn there_may_be_any_number_of_drivers(rt: HostRuntime) -> Result<(), Fail> {
+    play_on(&rt, rt.alloc(), 0, &no_driver())?;
+    play_on(&rt, rt.alloc(), 3, &three_drivers())
+}
