@@ -1,7 +1,7 @@
 //! What the drivers answer, call by call.
 use crate::{AdverseDriver, Driver, DriverCall, DriverReply, ModelDriver, Policy, RecordingDriver};
-use command_tables::{Code, CommandId, HandleArgs, LayerCall};
-use std::alloc::Global;
+use command_tables::{Code, CommandId, HandleArgs, LayerCall, NoMemory};
+use std::alloc::{AllocError, Global};
 use std::process::Abort;
 use std::test::Fail;
 
@@ -38,13 +38,19 @@ const fn destroy(driver: u32, args: &'static [&'static [u64]]) -> Step {
     }
 }
 
+// One parameter more.
+fn add(args: &mut HandleArgs<6>, handles: &[u64]) -> Result<(), Fail> {
+    if args.len() >= 6 {
+        return Err(Fail::from("too many parameters"));
+    }
+    args.push_param(handles)?;
+    Ok(())
+}
+
 fn call_of(alloc: Global, step: &Step) -> Result<DriverCall, Fail> {
     let mut args = HandleArgs::new(alloc);
     for handles in step.args {
-        if args.len() >= 6 {
-            return Err(Fail::from("too many parameters"));
-        }
-        args.push_param(handles).ok().ok_or("memory")?;
+        add(&mut args, handles)?;
     }
     Ok(DriverCall {
         driver: step.driver,
@@ -58,21 +64,45 @@ fn call_of(alloc: Global, step: &Step) -> Result<DriverCall, Fail> {
     })
 }
 
+fn is_that_answer(reply: &DriverReply, step: &Step) -> bool {
+    reply.code == step.code && reply.handles.as_slice() == step.gives
+}
+
+fn is_that_call(call: &DriverCall, step: &Step) -> bool {
+    call.driver == step.driver
+        && call.body.cmd == step.cmd
+        && call.body.asked == step.asked
+        && call.body.args.len() == step.args.len()
+}
+
+fn tell<D: Driver>(driver: &mut D, call: &DriverCall, reply: &mut DriverReply) -> Result<(), Fail> {
+    if !call.has_shape() {
+        return Err(Fail::from("no such call"));
+    }
+    driver.call(call, reply)?;
+    Ok(())
+}
+
+fn tell_step<D: Driver>(
+    alloc: Global,
+    driver: &mut D,
+    step: &Step,
+    reply: &mut DriverReply,
+) -> Result<(), Fail> {
+    let call = call_of(alloc, step)?;
+    tell(driver, &call, reply)
+}
+
 fn play<D: Driver>(
     rt: &impl Abort,
     alloc: Global,
     driver: &mut D,
     steps: &[Step],
 ) -> Result<(), Fail> {
-    let mut reply = DriverReply::with_room(alloc, 8).ok().ok_or("memory")?;
+    let mut reply = reply_with(alloc, 8)?;
     for step in steps {
-        let call = call_of(alloc, step)?;
-        if !call.has_shape() {
-            return Err(Fail::from("no such call"));
-        }
-        driver.call(&call, &mut reply).ok().ok_or("memory")?;
-        assert_eq!(rt; reply.code, step.code);
-        assert_eq!(rt; reply.handles.as_slice(), step.gives);
+        tell_step(alloc, driver, step, &mut reply)?;
+        assert!(rt; is_that_answer(&reply, step), "{:?}", reply.handles);
     }
     Ok(())
 }
@@ -154,50 +184,71 @@ fn values_by_each_policy(rt: HostRuntime) -> Result<(), Fail> {
     play(&rt, alloc, &mut driver, &[create(0, &[4]), create(2, &[3])])
 }
 
+// Makes of an empty call the one for the most handles that a call can ask for.
+fn ask_for_most(call: &mut DriverCall) -> Result<(), Fail> {
+    call.body.cmd = CommandId::AllocateCommandBuffers;
+    call.body.asked = 1024;
+    add(&mut call.body.args, &[9])?;
+    add(&mut call.body.args, &[5])
+}
+
+// Makes of it the one that frees these.
+fn free(call: &mut DriverCall, freed: &[u64]) -> Result<(), Fail> {
+    call.body.cmd = CommandId::FreeCommandBuffers;
+    call.body.asked = 0;
+    add(&mut call.body.args, freed)
+}
+
+fn has_most(reply: &DriverReply) -> bool {
+    reply.handles.len() == 1024
+        && reply.handles.first() == Some(&1)
+        && reply.handles.last() == Some(&1024)
+}
+
+fn each_second(alloc: Global, handles: &[u64]) -> Result<Vec<u64>, AllocError> {
+    handles
+        .iter()
+        .copied()
+        .filter(|v| v % 2 == 0)
+        .collect(alloc)
+}
+
+fn are_given(
+    rt: &impl Abort,
+    alloc: Global,
+    driver: &mut ModelDriver,
+    values: &[u64],
+) -> Result<(), Fail> {
+    for value in values {
+        play_one(rt, alloc, driver, *value)?;
+    }
+    Ok(())
+}
+
 // Of the most handles that one call can ask for, each second one is freed and given again.
 #[test]
 fn many_values(rt: HostRuntime) -> Result<(), Fail> {
     let alloc = rt.alloc();
-    let mut reply = DriverReply::with_room(alloc, 1024).ok().ok_or("memory")?;
-    let mut call = DriverCall::with_room(alloc, 1026, 0).ok().ok_or("memory")?;
     let mut driver = ModelDriver::new(alloc);
     driver.prepare(Policy::Reuse);
-    call.body.cmd = CommandId::AllocateCommandBuffers;
-    call.body.args.push_param(&[9]).ok().ok_or("memory")?;
-    if call.body.args.len() >= 6 {
-        return Err(Fail::from("too many parameters"));
-    }
-    call.body.args.push_param(&[5]).ok().ok_or("memory")?;
-    call.body.asked = 1024;
-    if !call.has_shape() {
-        return Err(Fail::from("no such call"));
-    }
-    driver.call(&call, &mut reply).ok().ok_or("memory")?;
-    assert_eq!(rt; reply.handles.len(), 1024);
-    assert_eq!(rt;
-        (reply.handles.first(), reply.handles.last()),
-        (Some(&1), Some(&1024))
-    );
-    let freed: Vec<u64> = reply
-        .handles
-        .iter()
-        .copied()
-        .filter(|v| v % 2 == 0)
-        .collect(alloc)?;
-    call.body.cmd = CommandId::FreeCommandBuffers;
-    call.body.asked = 0;
-    if call.body.args.len() >= 6 {
-        return Err(Fail::from("too many parameters"));
-    }
-    call.body.args.push_param(&freed).ok().ok_or("memory")?;
-    if !call.has_shape() {
-        return Err(Fail::from("no such call"));
-    }
-    driver.call(&call, &mut reply).ok().ok_or("memory")?;
-    for value in &freed {
-        play_one(&rt, alloc, &mut driver, *value)?;
-    }
+    let mut call = call_with(alloc, 1026)?;
+    ask_for_most(&mut call)?;
+    let mut reply = reply_with(alloc, 1024)?;
+    tell(&mut driver, &call, &mut reply)?;
+    assert!(rt; has_most(&reply));
+    let freed = each_second(alloc, &reply.handles)?;
+    free(&mut call, &freed)?;
+    tell(&mut driver, &call, &mut reply)?;
+    are_given(&rt, alloc, &mut driver, &freed)?;
     play_one(&rt, alloc, &mut driver, 1025)
+}
+
+fn call_with(alloc: Global, handles: usize) -> Result<DriverCall, NoMemory> {
+    DriverCall::with_room(alloc, handles, 0)
+}
+
+fn reply_with(alloc: Global, handles: usize) -> Result<DriverReply, NoMemory> {
+    DriverReply::with_room(alloc, handles)
 }
 
 fn play_one<D: Driver>(
@@ -206,12 +257,8 @@ fn play_one<D: Driver>(
     driver: &mut D,
     value: u64,
 ) -> Result<(), Fail> {
-    let mut reply = DriverReply::with_room(alloc, 0).ok().ok_or("memory")?;
-    let call = call_of(alloc, &create(0, &[]))?;
-    if !call.has_shape() {
-        return Err(Fail::from("no such call"));
-    }
-    driver.call(&call, &mut reply).ok().ok_or("memory")?;
+    let mut reply = reply_with(alloc, 0)?;
+    tell_step(alloc, driver, &create(0, &[]), &mut reply)?;
     assert_eq!(rt; reply.handles.as_slice(), [value].as_slice());
     Ok(())
 }
@@ -230,15 +277,14 @@ fn what_is_recorded(rt: HostRuntime) -> Result<(), Fail> {
         create(0, &[1]),
     ];
     play(&rt, alloc, &mut driver, &steps)?;
-    assert_eq!(rt; driver.log().len(), steps.len());
-    for ((call, reply), step) in driver.log().iter().zip(&steps) {
-        assert_eq!(rt;
-            (call.driver, call.body.cmd, call.body.asked),
-            (step.driver, step.cmd, step.asked)
-        );
-        assert_eq!(rt; call.body.args.len(), step.args.len());
-        assert_eq!(rt; reply.code, step.code);
-        assert_eq!(rt; reply.handles.as_slice(), step.gives);
-    }
+    are_recorded(&rt, driver.log(), &steps);
     Ok(())
+}
+
+fn are_recorded(rt: &impl Abort, log: &[(DriverCall, DriverReply)], steps: &[Step]) {
+    assert_eq!(rt; log.len(), steps.len());
+    for ((call, reply), step) in log.iter().zip(steps) {
+        assert!(rt; is_that_call(call, step));
+        assert!(rt; is_that_answer(reply, step));
+    }
 }
