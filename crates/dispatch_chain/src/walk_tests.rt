@@ -160,18 +160,6 @@ static FIRST: Caller = Caller {
     number: 1,
 };
 
-static NO_PARTS: Shape = (&[], 0, 0);
-
-static ONE_PART: Shape = (&[Unique], 0, 1);
-
-static THREE_PARTS: Shape = (&[Threads, Lifetimes, Unique], 2, 1);
-
-static SIX_PARTS: Shape = (
-    &[Threads, Lifetimes, Unique, Threads, Lifetimes, Unique],
-    4,
-    2,
-);
-
 // The instance 1, its physical device 2 and the device 3.
 static DEVICE: [Row; 3] = [
     (CommandId::CreateInstance, &[], false, &[], &[1], &[1]),
@@ -596,17 +584,42 @@ fn play(rt: &impl Abort, alloc: Global, shape: &Shape, story: &Story) -> Result<
     tell(rt, alloc, &mut machine, shape, story)
 }
 
-#[test]
-fn calls_pass_and_results_come_up(rt: HostRuntime) -> Result<(), Fail> {
-    play(&rt, rt.alloc(), &NO_PARTS, &Story::Passes(&BARE_BUFFER))?;
-    for shape in [ONE_PART, THREE_PARTS, SIX_PARTS] {
-        play(&rt, rt.alloc(), &shape, &Story::Passes(&SURFACE_AND_QUEUE))?;
+fn pass_each(
+    rt: &impl Abort,
+    alloc: Global,
+    shapes: &[Shape],
+    rows: &'static [Row],
+) -> Result<(), Fail> {
+    for shape in shapes {
+        play(rt, alloc, shape, &Story::Passes(rows))?;
     }
     Ok(())
 }
 
-// Chains with a lifetimes part at each place at which one may stand, and the threads parts above the first.
-static STOPS: [(Shape, u32, &[u32]); 9] = [
+static NO_PARTS: [Shape; 1] = [(&[], 0, 0)];
+
+// Chains of 1, 3 and 6 parts.
+static CHAINS: [Shape; 3] = [
+    (&[Unique], 0, 1),
+    (&[Threads, Lifetimes, Unique], 2, 1),
+    (
+        &[Threads, Lifetimes, Unique, Threads, Lifetimes, Unique],
+        4,
+        2,
+    ),
+];
+
+#[test]
+fn calls_pass_and_results_come_up(rt: HostRuntime) -> Result<(), Fail> {
+    pass_each(&rt, rt.alloc(), &NO_PARTS, &BARE_BUFFER)?;
+    pass_each(&rt, rt.alloc(), &CHAINS, &SURFACE_AND_QUEUE)
+}
+
+// A chain, the place of its first lifetimes part, and those of the threads parts above that.
+type StopRow = (Shape, u32, &'static [u32]);
+
+// A lifetimes part at each place at which one may stand.
+static STOPS: [StopRow; 9] = [
     ((&[Lifetimes, Threads, Unique], 2, 1), 1, &[]),
     ((&[Threads, Lifetimes, Unique], 2, 1), 2, &[1]),
     ((&[Unique, Lifetimes, Unique], 1, 2), 2, &[]),
@@ -650,19 +663,44 @@ static STOPS: [(Shape, u32, &[u32]); 9] = [
     ),
 ];
 
+fn stop_each(rt: &impl Abort, alloc: Global, stops: &[StopRow]) -> Result<(), Fail> {
+    for (shape, place, places) in stops {
+        play(rt, alloc, shape, &Story::Stops(*place, places))?;
+    }
+    Ok(())
+}
+
 #[test]
 fn a_call_stops_at_each_place(rt: HostRuntime) -> Result<(), Fail> {
-    for (shape, place, places) in STOPS.iter() {
-        play(&rt, rt.alloc(), shape, &Story::Stops(*place, places))?;
+    stop_each(&rt, rt.alloc(), &STOPS)
+}
+
+// A chain, and the places of its threads parts.
+type OverlapRow = (Shape, &'static [u32]);
+
+static OVERLAPS: [OverlapRow; 3] = [
+    ((&[Unique], 0, 1), &[]),
+    ((&[Threads, Lifetimes, Unique], 2, 1), &[1]),
+    (
+        (
+            &[Threads, Lifetimes, Unique, Threads, Lifetimes, Unique],
+            4,
+            2,
+        ),
+        &[1, 4],
+    ),
+];
+
+fn overlap_each(rt: &impl Abort, alloc: Global, overlaps: &[OverlapRow]) -> Result<(), Fail> {
+    for (shape, places) in overlaps {
+        play(rt, alloc, shape, &Story::Overlaps(places))?;
     }
     Ok(())
 }
 
 #[test]
 fn overlaps_are_found_at_each_threads_part(rt: HostRuntime) -> Result<(), Fail> {
-    play(&rt, rt.alloc(), &ONE_PART, &Story::Overlaps(&[]))?;
-    play(&rt, rt.alloc(), &THREE_PARTS, &Story::Overlaps(&[1]))?;
-    play(&rt, rt.alloc(), &SIX_PARTS, &Story::Overlaps(&[1, 4]))
+    overlap_each(&rt, rt.alloc(), &OVERLAPS)
 }
 
 // Nothing was ever born. A unique part puts 0 in the place of an id that it doesn't know, and 0 is null, which a destroy allows.
@@ -679,8 +717,11 @@ static UNKNOWN: GivenCall = GivenCall {
     stops: false,
 };
 
-// The parts of a chain, of which the last is the first that could stop the call, and which parameters stand for nothing there.
-static BEGINS: [(&[PartKind], Lists, &[u8]); 6] = [
+// The parts of a chain, of which the last is the first that could stop the call; its handles below that one, and which parameters stand
+// for nothing there.
+type BeginRow = (&'static [PartKind], Lists, &'static [u8]);
+
+static BEGINS: [BeginRow; 6] = [
     (&[], &[&[3], &[4]], &[]),
     (&[Unique], &[&[3], &[0]], &[]),
     (&[Lifetimes], &[&[3], &[4]], &[0, 1]),
@@ -693,21 +734,20 @@ static BEGINS: [(&[PartKind], Lists, &[u8]); 6] = [
     ),
 ];
 
-#[test]
-fn each_part_has_the_form_above_it(rt: HostRuntime) -> Result<(), Fail> {
-    for (kinds, below, params) in BEGINS.iter() {
+fn begin_each(rt: &impl Abort, alloc: Global, begins: &[BeginRow]) -> Result<(), Fail> {
+    for (kinds, below, params) in begins {
         let given = GivenCall {
             forms: kinds.len(),
             below,
             stops: !params.is_empty(),
             ..UNKNOWN
         };
-        play(
-            &rt,
-            rt.alloc(),
-            &(*kinds, 0, 0),
-            &Story::Begins(given, params),
-        )?;
+        play(rt, alloc, &(*kinds, 0, 0), &Story::Begins(given, params))?;
     }
     Ok(())
+}
+
+#[test]
+fn each_part_has_the_form_above_it(rt: HostRuntime) -> Result<(), Fail> {
+    begin_each(&rt, rt.alloc(), &BEGINS)
 }
