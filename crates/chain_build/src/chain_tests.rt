@@ -1,7 +1,8 @@
 // The layers of a chain, their order and the notes; the expected answers are written by hand.
-use crate::build;
-use crate::test_setups::{IMPLICIT, layers_of, setup_of, shown, words};
-use std::alloc::Global;
+use crate::Setup;
+use crate::test_setups::{IMPLICIT, built, entry_of, setup_of, words};
+use layer_search::FoundLayer;
+use std::alloc::{AllocError, Global};
 use std::process::Abort;
 use std::test::Fail;
 
@@ -17,13 +18,19 @@ type Row = (
 fn check(rt: &impl Abort, alloc: Global, row: &Row) -> Result<(), Fail> {
     let (explicit, implicit, variables, app, wanted) = *row;
     let setup = setup_of(alloc, explicit, implicit, variables)?;
-    let app = words(alloc, app)?;
-    let text = shown(alloc, &build(alloc, &setup, &app))?;
+    let text = built(alloc, &setup, app)?;
     assert_eq!(rt;
         text.as_str(),
         wanted,
         "{explicit} | {implicit} | {variables}"
     );
+    Ok(())
+}
+
+fn check_all(rt: &impl Abort, alloc: Global, rows: &[Row]) -> Result<(), Fail> {
+    for row in rows {
+        check(rt, alloc, row)?;
+    }
     Ok(())
 }
 
@@ -49,10 +56,7 @@ static ORDER: [Row; 11] = [
 
 #[test]
 fn layers_stand_in_order(rt: HostRuntime) -> Result<(), Fail> {
-    for row in ORDER.iter() {
-        check(&rt, rt.alloc(), row)?;
-    }
-    Ok(())
+    check_all(&rt, rt.alloc(), &ORDER)
 }
 
 static FILTERS: [Row; 12] = [
@@ -138,10 +142,7 @@ static FILTERS: [Row; 12] = [
 
 #[test]
 fn layers_that_are_off_are_left_out(rt: HostRuntime) -> Result<(), Fail> {
-    for row in FILTERS.iter() {
-        check(&rt, rt.alloc(), row)?;
-    }
-    Ok(())
+    check_all(&rt, rt.alloc(), &FILTERS)
 }
 
 static MISSING: [Row; 10] = [
@@ -177,10 +178,7 @@ static MISSING: [Row; 10] = [
 
 #[test]
 fn names_that_no_layer_has(rt: HostRuntime) -> Result<(), Fail> {
-    for row in MISSING.iter() {
-        check(&rt, rt.alloc(), row)?;
-    }
-    Ok(())
+    check_all(&rt, rt.alloc(), &MISSING)
 }
 
 static META: [Row; 10] = [
@@ -210,10 +208,7 @@ static META: [Row; 10] = [
 
 #[test]
 fn meta_layers_are_replaced(rt: HostRuntime) -> Result<(), Fail> {
-    for row in META.iter() {
-        check(&rt, rt.alloc(), row)?;
-    }
-    Ok(())
+    check_all(&rt, rt.alloc(), &META)
 }
 
 static IMPLICIT_META: [Row; 10] = [
@@ -243,10 +238,7 @@ static IMPLICIT_META: [Row; 10] = [
 
 #[test]
 fn implicit_meta_layers_are_replaced(rt: HostRuntime) -> Result<(), Fail> {
-    for row in IMPLICIT_META.iter() {
-        check(&rt, rt.alloc(), row)?;
-    }
-    Ok(())
+    check_all(&rt, rt.alloc(), &IMPLICIT_META)
 }
 
 const NESTED: &str = "M9=M8 M8=M7 M7=M6 M6=M5 M5=M4 M4=M3 M3=M2 M2=M1 M1=A A";
@@ -268,10 +260,7 @@ static DEEP: [Row; 6] = [
 
 #[test]
 fn meta_layers_of_a_chain_nest_8_deep_at_most(rt: HostRuntime) -> Result<(), Fail> {
-    for row in DEEP.iter() {
-        check(&rt, rt.alloc(), row)?;
-    }
-    Ok(())
+    check_all(&rt, rt.alloc(), &DEEP)
 }
 
 // Explicit layers, implicit layers, the blacklist, variables, and the answer to the application's layers `A M`.
@@ -293,24 +282,40 @@ static BLACKLIST: [Row; 9] = [
     ("A M", "", "A", "VK_INSTANCE_LAYERS=A", "M | Off A"),
 ];
 
-#[test]
-fn a_blacklist_turns_explicit_layers_off(rt: HostRuntime) -> Result<(), Fail> {
-    let alloc = rt.alloc();
-    let app = words(alloc, "A M")?;
-    for (explicit, implicit, blacklist, variables, wanted) in BLACKLIST.iter() {
-        let mut setup = setup_of(alloc, explicit, implicit, variables)?;
-        let mut over = layers_of(alloc, "VK_LAYER_LUNARG_override=", IMPLICIT)?;
-        let mut layer = over.list.pop().ok_or("a layer")?;
-        layer.entry.blacklist = words(alloc, blacklist)?;
-        setup.over = Some(layer);
-        let text = shown(alloc, &build(alloc, &setup, &app))?;
+// A setup with an override that has a blacklist.
+fn blacklisting(alloc: Global, row: &Row) -> Result<Setup, AllocError> {
+    let (explicit, implicit, blacklist, variables, _) = *row;
+    let mut setup = setup_of(alloc, explicit, implicit, variables)?;
+    setup.over = Some(over_of(alloc, blacklist)?);
+    Ok(setup)
+}
+
+// An override with a blacklist.
+fn over_of(alloc: Global, blacklist: &str) -> Result<FoundLayer, AllocError> {
+    let path = String::from_str(alloc, IMPLICIT)?;
+    let blacklist = words(alloc, blacklist)?;
+    let mut entry = entry_of(alloc, "VK_LAYER_LUNARG_override", None, Vec::new(alloc))?;
+    entry.blacklist = blacklist;
+    Ok(FoundLayer { path, entry })
+}
+
+fn check_blacklists(rt: &impl Abort, alloc: Global, rows: &[Row]) -> Result<(), Fail> {
+    for row in rows {
+        let (explicit, implicit, blacklist, _, wanted) = *row;
+        let setup = blacklisting(alloc, row)?;
+        let text = built(alloc, &setup, "A M")?;
         assert_eq!(rt;
             text.as_str(),
-            *wanted,
+            wanted,
             "{explicit} | {implicit} | {blacklist}"
         );
     }
     Ok(())
+}
+
+#[test]
+fn a_blacklist_turns_explicit_layers_off(rt: HostRuntime) -> Result<(), Fail> {
+    check_blacklists(&rt, rt.alloc(), &BLACKLIST)
 }
 
 static OVERRIDE: [Row; 6] = [
@@ -348,8 +353,5 @@ static OVERRIDE: [Row; 6] = [
 
 #[test]
 fn the_override_stands_last_of_the_implicit_layers(rt: HostRuntime) -> Result<(), Fail> {
-    for row in OVERRIDE.iter() {
-        check(&rt, rt.alloc(), row)?;
-    }
-    Ok(())
+    check_all(&rt, rt.alloc(), &OVERRIDE)
 }

@@ -1,26 +1,42 @@
 // The plain layers that a name stands for; the expected answers are written by hand.
-use crate::expand;
 use crate::test_setups::setup_of;
-use std::alloc::Global;
+use crate::{Setup, expand};
+use std::alloc::{AllocError, Global};
 use std::process::Abort;
 use std::test::Fail;
 
 // Explicit layers, implicit layers, a name, and what it stands for, each with a blank behind it.
 type Row = (&'static str, &'static str, &'static str, &'static str);
 
+// The names that a name stands for, each with a blank behind it.
+fn expanded(alloc: Global, setup: &Setup, name: &str) -> Result<String, AllocError> {
+    let mut text = String::new(alloc);
+    match expand(alloc, setup, name).ok().ok_or(AllocError)? {
+        Some(names) => add_names(&names, &mut text)?,
+        None => text.push_str("none")?,
+    }
+    Ok(text)
+}
+
+fn add_names(names: &[String], text: &mut String) -> Result<(), AllocError> {
+    for name in names {
+        write!(text, "{} ", name.as_str())?;
+    }
+    Ok(())
+}
+
 fn check(rt: &impl Abort, alloc: Global, row: &Row) -> Result<(), Fail> {
     let (explicit, implicit, name, wanted) = *row;
     let setup = setup_of(alloc, explicit, implicit, "VK_LOADER_LAYERS_DISABLE=~all~")?;
-    let mut text = String::new(alloc);
-    match expand(alloc, &setup, name).ok().ok_or("memory")? {
-        Some(names) => {
-            for plain in &names {
-                write!(text, "{} ", plain.as_str())?;
-            }
-        }
-        None => text.push_str("none")?,
-    }
+    let text = expanded(alloc, &setup, name)?;
     assert_eq!(rt; text.as_str(), wanted, "{explicit} | {implicit} | {name}");
+    Ok(())
+}
+
+fn check_all(rt: &impl Abort, alloc: Global, rows: &[Row]) -> Result<(), Fail> {
+    for row in rows {
+        check(rt, alloc, row)?;
+    }
     Ok(())
 }
 
@@ -37,10 +53,7 @@ static PLAIN: [Row; 8] = [
 
 #[test]
 fn a_plain_layer_stands_for_itself(rt: HostRuntime) -> Result<(), Fail> {
-    for row in PLAIN.iter() {
-        check(&rt, rt.alloc(), row)?;
-    }
-    Ok(())
+    check_all(&rt, rt.alloc(), &PLAIN)
 }
 
 static META: [Row; 16] = [
@@ -64,10 +77,7 @@ static META: [Row; 16] = [
 
 #[test]
 fn a_meta_layer_stands_for_its_components(rt: HostRuntime) -> Result<(), Fail> {
-    for row in META.iter() {
-        check(&rt, rt.alloc(), row)?;
-    }
-    Ok(())
+    check_all(&rt, rt.alloc(), &META)
 }
 
 static CYCLES: [Row; 6] = [
@@ -81,10 +91,7 @@ static CYCLES: [Row; 6] = [
 
 #[test]
 fn a_meta_layer_that_holds_itself(rt: HostRuntime) -> Result<(), Fail> {
-    for row in CYCLES.iter() {
-        check(&rt, rt.alloc(), row)?;
-    }
-    Ok(())
+    check_all(&rt, rt.alloc(), &CYCLES)
 }
 
 const NESTED: &str = "M9=M8 M8=M7 M7=M6 M6=M5 M5=M4 M4=M3 M3=M2 M2=M1 M1=A A";
@@ -102,8 +109,5 @@ static DEEP: [Row; 6] = [
 
 #[test]
 fn meta_layers_nest_8_deep_at_most(rt: HostRuntime) -> Result<(), Fail> {
-    for row in DEEP.iter() {
-        check(&rt, rt.alloc(), row)?;
-    }
-    Ok(())
+    check_all(&rt, rt.alloc(), &DEEP)
 }

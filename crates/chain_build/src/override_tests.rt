@@ -1,16 +1,17 @@
 // The setup that files and variables come to, and the chain that is built of it; the expected answers are written by hand.
-use crate::test_setups::{env_of, shown, words};
+use crate::test_setups::{built, env_of, shown};
 use crate::{ChainAnswer, ChainError, Setup, build, read_setup};
+use env_filters::EnvList;
 use layer_search::{FoundLayer, Note, SearchError};
 use replay_base::MemTree;
 use std::alloc::{AllocError, Global};
 use std::process::Abort;
 use std::test::Fail;
 
-static DRIVER: &str =
+const DRIVER: &str =
     r#"{"file_format_version":"1.0.1","ICD":{"library_path":"liba.so","api_version":"1.3.275"}}"#;
 
-static PLAIN: &str = r#""library_path":"lib.so""#;
+const PLAIN: &str = r#""library_path":"lib.so""#;
 
 pub(crate) fn put(tree: &mut MemTree, path: &str, text: &str) -> Result<(), AllocError> {
     tree.put(path, text.as_bytes()).ok().ok_or(AllocError)
@@ -29,64 +30,59 @@ pub(crate) fn manifest(alloc: Global, name: &str, members: &str) -> Result<Strin
     Ok(text)
 }
 
-fn put_layer(
+const OVERRIDE: &str = "VK_LAYER_LUNARG_override";
+
+static OVERRIDE_PATH: &str = "/etc/vulkan/implicit_layer.d/o.json";
+
+// A path, a layer's name, and the members of its manifest; or the whole file, where there is no name.
+type FileRow = (&'static str, &'static str, &'static str);
+
+// A driver, explicit layers in two folders, and a fault in each.
+static FILES: [FileRow; 9] = [
+    ("/etc/vulkan/icd.d/a.json", "", DRIVER),
+    ("/etc/vulkan/explicit_layer.d/a.json", "A", PLAIN),
+    ("/etc/vulkan/explicit_layer.d/c.json", "C", PLAIN),
+    ("/etc/vulkan/explicit_layer.d/o.json", OVERRIDE, PLAIN),
+    ("/etc/vulkan/explicit_layer.d/x.json", "", "{}"),
+    ("/o/b.json", "B", PLAIN),
+    ("/o/c.json", "C", PLAIN),
+    ("/o/o.json", OVERRIDE, PLAIN),
+    ("/o/x.json", "", "["),
+];
+
+// An implicit layer, and a fault.
+static IMPLICIT_FILES: [FileRow; 2] = [
+    ("/etc/vulkan/implicit_layer.d/p.json", "I", PLAIN),
+    ("/etc/vulkan/implicit_layer.d/x.json", "", "{}"),
+];
+
+fn put_file(
     alloc: Global,
     tree: &mut MemTree,
     path: &str,
     name: &str,
-    members: &str,
+    text: &str,
 ) -> Result<(), AllocError> {
-    put(tree, path, manifest(alloc, name, members)?.as_str())
+    if name.is_empty() {
+        return put(tree, path, text);
+    }
+    put(tree, path, manifest(alloc, name, text)?.as_str())
 }
 
-static OVERRIDE: &str = "VK_LAYER_LUNARG_override";
+fn put_files(alloc: Global, tree: &mut MemTree, rows: &[FileRow]) -> Result<(), AllocError> {
+    for (path, name, text) in rows {
+        put_file(alloc, tree, path, name, text)?;
+    }
+    Ok(())
+}
 
 // A driver, explicit layers in two folders, an implicit layer, and an override with these members; a fault in each folder of
 // layers.
 fn tree_of(alloc: Global, members: &str) -> Result<MemTree, AllocError> {
     let mut tree = MemTree::new(alloc);
-    put(&mut tree, "/etc/vulkan/icd.d/a.json", DRIVER)?;
-    put_layer(
-        alloc,
-        &mut tree,
-        "/etc/vulkan/explicit_layer.d/a.json",
-        "A",
-        PLAIN,
-    )?;
-    put_layer(
-        alloc,
-        &mut tree,
-        "/etc/vulkan/explicit_layer.d/c.json",
-        "C",
-        PLAIN,
-    )?;
-    put_layer(
-        alloc,
-        &mut tree,
-        "/etc/vulkan/explicit_layer.d/o.json",
-        OVERRIDE,
-        PLAIN,
-    )?;
-    put(&mut tree, "/etc/vulkan/explicit_layer.d/x.json", "{}")?;
-    put_layer(alloc, &mut tree, "/o/b.json", "B", PLAIN)?;
-    put_layer(alloc, &mut tree, "/o/c.json", "C", PLAIN)?;
-    put_layer(alloc, &mut tree, "/o/o.json", OVERRIDE, PLAIN)?;
-    put(&mut tree, "/o/x.json", "[")?;
-    put_layer(
-        alloc,
-        &mut tree,
-        "/etc/vulkan/implicit_layer.d/o.json",
-        OVERRIDE,
-        members,
-    )?;
-    put_layer(
-        alloc,
-        &mut tree,
-        "/etc/vulkan/implicit_layer.d/p.json",
-        "I",
-        PLAIN,
-    )?;
-    put(&mut tree, "/etc/vulkan/implicit_layer.d/x.json", "{}")?;
+    put_files(alloc, &mut tree, &FILES)?;
+    put_file(alloc, &mut tree, OVERRIDE_PATH, OVERRIDE, members)?;
+    put_files(alloc, &mut tree, &IMPLICIT_FILES)?;
     Ok(tree)
 }
 
@@ -155,15 +151,26 @@ const AGAIN: &str =
 
 const NOWHERE: &str = "|/ override I |Manifest(NoVersion) / VK_LAYER_LUNARG_override";
 
-fn check(rt: &impl Abort, alloc: Global, row: &Row) -> Result<(), Fail> {
-    let (members, variables, exe, wanted, chain) = *row;
+fn setup_of(alloc: Global, members: &str, variables: &str, exe: &str) -> Result<Setup, Fail> {
     let mut tree = tree_of(alloc, members)?;
     let env = env_of(alloc, variables)?;
-    let setup = read_setup(alloc, &mut tree, &env, "", exe)?;
+    Ok(read_setup(alloc, &mut tree, &env, "", exe)?)
+}
+
+fn check(rt: &impl Abort, alloc: Global, row: &Row) -> Result<(), Fail> {
+    let (members, variables, exe, wanted, chain) = *row;
+    let setup = setup_of(alloc, members, variables, exe)?;
     let text = shown_setup(alloc, &setup)?;
     assert_eq!(rt; text.as_str(), wanted, "{members} {variables} {exe}");
-    let text = shown(alloc, &build(alloc, &setup, &[]))?;
+    let text = built(alloc, &setup, "")?;
     assert_eq!(rt; text.as_str(), chain, "{members} {variables} {exe}");
+    Ok(())
+}
+
+fn check_all(rt: &impl Abort, alloc: Global, rows: &[Row]) -> Result<(), Fail> {
+    for row in rows {
+        check(rt, alloc, row)?;
+    }
     Ok(())
 }
 
@@ -235,10 +242,7 @@ static KEYS: [Row; 9] = [
 
 #[test]
 fn an_override_is_for_its_executables(rt: HostRuntime) -> Result<(), Fail> {
-    for row in KEYS.iter() {
-        check(&rt, rt.alloc(), row)?;
-    }
-    Ok(())
+    check_all(&rt, rt.alloc(), &KEYS)
 }
 
 static PATHS: [Row; 7] = [
@@ -295,10 +299,7 @@ static PATHS: [Row; 7] = [
 
 #[test]
 fn an_override_replaces_the_folders(rt: HostRuntime) -> Result<(), Fail> {
-    for row in PATHS.iter() {
-        check(&rt, rt.alloc(), row)?;
-    }
-    Ok(())
+    check_all(&rt, rt.alloc(), &PATHS)
 }
 
 static SWITCHES: [Row; 8] = [
@@ -362,10 +363,7 @@ static SWITCHES: [Row; 8] = [
 
 #[test]
 fn an_override_is_on_like_an_implicit_layer(rt: HostRuntime) -> Result<(), Fail> {
-    for row in SWITCHES.iter() {
-        check(&rt, rt.alloc(), row)?;
-    }
-    Ok(())
+    check_all(&rt, rt.alloc(), &SWITCHES)
 }
 
 static BLACKLISTS: [Row; 5] = [
@@ -408,28 +406,24 @@ static BLACKLISTS: [Row; 5] = [
 
 #[test]
 fn an_override_has_a_blacklist(rt: HostRuntime) -> Result<(), Fail> {
-    for row in BLACKLISTS.iter() {
-        check(&rt, rt.alloc(), row)?;
-    }
-    Ok(())
+    check_all(&rt, rt.alloc(), &BLACKLISTS)
+}
+
+// The error of reading a setup where the tree fails at a call.
+fn failed(alloc: Global, env: &EnvList, call: u64) -> Result<Option<SearchError>, AllocError> {
+    let mut tree = tree_of(alloc, r#""component_layers":[],"override_paths":["/o"]"#)?;
+    tree.fail_at(call).ok().ok_or(AllocError)?;
+    Ok(read_setup(alloc, &mut tree, env, "", "").err())
 }
 
 // The four folders of each kind are listed: a driver is read, four explicit layers, three implicit ones, and then the
 // override's folder is listed and its four files read.
 #[test]
 fn a_tree_may_fail_at_each_call(rt: HostRuntime) -> Result<(), Fail> {
-    let alloc = rt.alloc();
-    let env = env_of(alloc, "")?;
+    let env = env_of(rt.alloc(), "")?;
     for call in 1..=26 {
-        let mut tree = tree_of(alloc, r#""component_layers":[],"override_paths":["/o"]"#)?;
-        assert_eq!(rt; tree.fail_at(call).is_ok(), true);
-        let found = read_setup(alloc, &mut tree, &env, "", "").err();
-        let wanted = if call == 26 {
-            None
-        } else {
-            Some(SearchError::Tree)
-        };
-        assert_eq!(rt; found, wanted, "{call}");
+        let wanted = (call < 26).then_some(SearchError::Tree);
+        assert_eq!(rt; failed(rt.alloc(), &env, call)?, wanted, "{call}");
     }
     Ok(())
 }
@@ -451,15 +445,18 @@ static DRIVERS: [(&str, &str); 4] = [
     ("VK_LOADER_DRIVERS_DISABLE=*", "no driver"),
 ];
 
-#[test]
-fn drivers_that_are_filtered(rt: HostRuntime) -> Result<(), Fail> {
-    let alloc = rt.alloc();
-    for (variables, wanted) in DRIVERS.iter() {
-        let mut tree = MemTree::new(alloc);
-        put(&mut tree, "/etc/vulkan/icd.d/b.json", DRIVER)?;
-        put(&mut tree, "/etc/vulkan/icd.d/a.json", DRIVER)?;
-        let env = env_of(alloc, variables)?;
-        let setup = read_setup(alloc, &mut tree, &env, "", "")?;
+// A setup of two drivers.
+fn driven(alloc: Global, variables: &str) -> Result<Setup, Fail> {
+    let mut tree = MemTree::new(alloc);
+    put(&mut tree, "/etc/vulkan/icd.d/b.json", DRIVER)?;
+    put(&mut tree, "/etc/vulkan/icd.d/a.json", DRIVER)?;
+    let env = env_of(alloc, variables)?;
+    Ok(read_setup(alloc, &mut tree, &env, "", "")?)
+}
+
+fn check_drivers(rt: &impl Abort, alloc: Global, rows: &[(&str, &str)]) -> Result<(), Fail> {
+    for (variables, wanted) in rows {
+        let setup = driven(alloc, variables)?;
         let text = shown_drivers(alloc, &build(alloc, &setup, &[]))?;
         assert_eq!(rt; text.as_str(), *wanted, "{variables}");
     }
@@ -467,17 +464,33 @@ fn drivers_that_are_filtered(rt: HostRuntime) -> Result<(), Fail> {
 }
 
 #[test]
-fn an_empty_tree_has_no_driver(rt: HostRuntime) -> Result<(), Fail> {
-    let alloc = rt.alloc();
+fn drivers_that_are_filtered(rt: HostRuntime) -> Result<(), Fail> {
+    check_drivers(&rt, rt.alloc(), &DRIVERS)
+}
+
+// A setup of an empty tree.
+fn empty(alloc: Global) -> Result<Setup, Fail> {
     let mut tree = MemTree::new(alloc);
     let env = env_of(alloc, "HOME=/home/u")?;
-    let setup = read_setup(alloc, &mut tree, &env, "", "/bin/x")?;
-    assert_eq!(rt; shown_setup(alloc, &setup)?.as_str(), "|/ |/ none");
+    Ok(read_setup(alloc, &mut tree, &env, "", "/bin/x")?)
+}
+
+#[test]
+fn an_empty_tree_has_no_driver(rt: HostRuntime) -> Result<(), Fail> {
+    let setup = empty(rt.alloc())?;
+    let text = shown_setup(rt.alloc(), &setup)?;
+    assert_eq!(rt; text.as_str(), "|/ |/ none");
     assert_eq!(rt; setup.exe.as_str(), "/bin/x");
     assert_eq!(rt; setup.env.get("HOME"), Some("/home/u"));
-    let text = shown(alloc, &build(alloc, &setup, &[]))?;
+    Ok(())
+}
+
+#[test]
+fn an_empty_tree_has_no_chain(rt: HostRuntime) -> Result<(), Fail> {
+    let setup = empty(rt.alloc())?;
+    let text = built(rt.alloc(), &setup, "")?;
     assert_eq!(rt; text.as_str(), "no driver");
-    let text = shown(alloc, &build(alloc, &setup, &words(alloc, "A")?))?;
+    let text = built(rt.alloc(), &setup, "A")?;
     assert_eq!(rt; text.as_str(), "missing A");
     Ok(())
 }

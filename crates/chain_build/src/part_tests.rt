@@ -1,6 +1,6 @@
 // The parts of chains, and in which order refusals come; the expected answers are written by hand.
-use crate::build;
-use crate::test_setups::{setup_of, shown, shown_parts, words};
+use crate::test_setups::{built_parts, setup_of, shown, shown_parts, words};
+use crate::{Setup, build};
 use std::alloc::{AllocError, Global};
 use std::process::Abort;
 use std::test::Fail;
@@ -27,14 +27,20 @@ fn parts_of(alloc: Global, libraries: &str) -> Result<String, AllocError> {
         place = place.saturating_add(1);
     }
     let setup = setup_of(alloc, layers.as_str(), "", "")?;
-    let app = words(alloc, app.as_str())?;
-    shown_parts(alloc, &build(alloc, &setup, &app))
+    built_parts(alloc, &setup, app.as_str())
 }
 
 fn check(rt: &impl Abort, alloc: Global, row: &(&str, &str)) -> Result<(), Fail> {
     let (libraries, wanted) = *row;
     let parts = parts_of(alloc, libraries)?;
     assert_eq!(rt; parts.as_str(), wanted, "{libraries}");
+    Ok(())
+}
+
+fn check_all(rt: &impl Abort, alloc: Global, rows: &[(&str, &str)]) -> Result<(), Fail> {
+    for row in rows {
+        check(rt, alloc, row)?;
+    }
     Ok(())
 }
 
@@ -62,10 +68,7 @@ static GUARDED: [(&str, &str); 18] = [
 
 #[test]
 fn parts_are_guarded_from_below(rt: HostRuntime) -> Result<(), Fail> {
-    for row in GUARDED.iter() {
-        check(&rt, rt.alloc(), row)?;
-    }
-    Ok(())
+    check_all(&rt, rt.alloc(), &GUARDED)
 }
 
 static LIBRARIES: [(&str, &str); 12] = [
@@ -91,22 +94,17 @@ static LIBRARIES: [(&str, &str); 12] = [
 
 #[test]
 fn the_last_component_of_a_library_picks_its_parts(rt: HostRuntime) -> Result<(), Fail> {
-    for row in LIBRARIES.iter() {
-        check(&rt, rt.alloc(), row)?;
-    }
-    Ok(())
+    check_all(&rt, rt.alloc(), &LIBRARIES)
 }
 
-// Names of so many layers, the last of a library, and what comes of them with a driver or without, where the application names
-// one more.
-fn answer(
+// So many layers, the last of a library, with a driver or without.
+fn many(
     alloc: Global,
     count: u32,
     library: &str,
     variables: &str,
-    app: &str,
     driven: bool,
-) -> Result<String, AllocError> {
+) -> Result<Setup, AllocError> {
     let mut layers = String::new(alloc);
     for number in 1..count {
         write!(layers, "n{number} ")?;
@@ -116,8 +114,13 @@ fn answer(
     if !driven {
         setup.drivers.list.clear();
     }
+    Ok(setup)
+}
+
+// What comes of a setup: the parts of a chain, where the application names no layer.
+fn answer(alloc: Global, setup: &Setup, app: &str) -> Result<String, AllocError> {
     let app = words(alloc, app)?;
-    let answer = build(alloc, &setup, &app);
+    let answer = build(alloc, setup, &app);
     if app.is_empty() && answer.is_ok() {
         return shown_parts(alloc, &answer);
     }
@@ -168,12 +171,17 @@ static REFUSALS: [Refusal; 12] = [
     ),
 ];
 
-#[test]
-fn refusals_come_in_order(rt: HostRuntime) -> Result<(), Fail> {
-    let alloc = rt.alloc();
-    for (count, library, variables, app, driven, wanted) in REFUSALS.iter() {
-        let text = answer(alloc, *count, library, variables, app, *driven)?;
-        assert_eq!(rt; text.as_str(), *wanted, "{count} {library} {app}");
+fn check_refusals(rt: &impl Abort, alloc: Global, rows: &[Refusal]) -> Result<(), Fail> {
+    for row in rows {
+        let (count, library, variables, app, driven, wanted) = *row;
+        let setup = many(alloc, count, library, variables, driven)?;
+        let text = answer(alloc, &setup, app)?;
+        assert_eq!(rt; text.as_str(), wanted, "{count} {library} {app}");
     }
     Ok(())
+}
+
+#[test]
+fn refusals_come_in_order(rt: HostRuntime) -> Result<(), Fail> {
+    check_refusals(&rt, rt.alloc(), &REFUSALS)
 }

@@ -27,6 +27,25 @@ fn check(
     Ok(())
 }
 
+fn check_all(
+    rt: &impl Abort,
+    alloc: Global,
+    layer: &LayerEntry,
+    rows: &[(&str, bool)],
+) -> Result<(), Fail> {
+    for (variables, wanted) in rows {
+        check(rt, alloc, layer, variables, *wanted)?;
+    }
+    Ok(())
+}
+
+// A layer that `D` turns off, and that `E` turns on by a value.
+fn enabled_overlay(alloc: Global, value: &str) -> Result<LayerEntry, AllocError> {
+    let mut layer = overlay(alloc)?;
+    layer.enable = Some(pair(alloc, "E", value)?);
+    Ok(layer)
+}
+
 // Variables, and whether a layer is on that `D` turns off.
 static WITHOUT_ENABLE: [(&str, bool); 17] = [
     ("", true),
@@ -56,12 +75,8 @@ static WITHOUT_ENABLE: [(&str, bool); 17] = [
 
 #[test]
 fn a_layer_without_an_enabling_variable(rt: HostRuntime) -> Result<(), Fail> {
-    let alloc = rt.alloc();
-    let layer = overlay(alloc)?;
-    for (variables, wanted) in WITHOUT_ENABLE.iter() {
-        check(&rt, alloc, &layer, variables, *wanted)?;
-    }
-    Ok(())
+    let layer = overlay(rt.alloc())?;
+    check_all(&rt, rt.alloc(), &layer, &WITHOUT_ENABLE)
 }
 
 // The same of a layer that `E=1` turns on, too.
@@ -102,23 +117,16 @@ static WITH_ENABLE: [(&str, bool); 20] = [
 
 #[test]
 fn a_layer_with_an_enabling_variable(rt: HostRuntime) -> Result<(), Fail> {
-    let alloc = rt.alloc();
-    let mut layer = overlay(alloc)?;
-    layer.enable = Some(pair(alloc, "E", "1")?);
-    for (variables, wanted) in WITH_ENABLE.iter() {
-        check(&rt, alloc, &layer, variables, *wanted)?;
-    }
-    Ok(())
+    let layer = enabled_overlay(rt.alloc(), "1")?;
+    check_all(&rt, rt.alloc(), &layer, &WITH_ENABLE)
 }
+
+// The same of a layer that nothing turns off, and an empty value of `E` on.
+static EMPTY_ENABLE: [(&str, bool); 3] = [("E=", true), ("", false), ("E=1", false)];
 
 #[test]
 fn an_enabling_variable_with_an_empty_value(rt: HostRuntime) -> Result<(), Fail> {
-    let alloc = rt.alloc();
-    let mut layer = overlay(alloc)?;
-    layer.enable = Some(pair(alloc, "E", "")?);
+    let mut layer = enabled_overlay(rt.alloc(), "")?;
     layer.disable = None;
-    for (variables, wanted) in [("E=", true), ("", false), ("E=1", false)] {
-        check(&rt, alloc, &layer, variables, wanted)?;
-    }
-    Ok(())
+    check_all(&rt, rt.alloc(), &layer, &EMPTY_ENABLE)
 }

@@ -1,5 +1,5 @@
 // Setups for tests, written as short texts, and answers shown as such.
-use crate::{ChainAnswer, ChainError, ChainNote, PartKind, Setup};
+use crate::{ChainAnswer, ChainError, ChainNote, PartKind, Setup, build};
 use env_filters::EnvList;
 use layer_search::{Drivers, FoundDriver, FoundLayer, LayerList};
 use manifest_reader::{DriverEntry, EnvPair, LayerEntry};
@@ -103,6 +103,13 @@ fn driver(alloc: Global) -> Result<FoundDriver, AllocError> {
     })
 }
 
+fn drivers(alloc: Global) -> Result<Drivers, AllocError> {
+    let mut list = Vec::new(alloc);
+    list.push(driver(alloc)?)?;
+    let notes = Vec::new(alloc);
+    Ok(Drivers { list, notes })
+}
+
 // A setup of explicit layers, implicit layers and variables, with a driver and without an override.
 pub(crate) fn setup_of(
     alloc: Global,
@@ -110,13 +117,8 @@ pub(crate) fn setup_of(
     implicit: &str,
     variables: &str,
 ) -> Result<Setup, AllocError> {
-    let mut list = Vec::new(alloc);
-    list.push(driver(alloc)?)?;
     Ok(Setup {
-        drivers: Drivers {
-            list,
-            notes: Vec::new(alloc),
-        },
+        drivers: drivers(alloc)?,
         explicit: layers_of(alloc, explicit, "/etc/vulkan/explicit_layer.d")?,
         implicit: layers_of(alloc, implicit, IMPLICIT)?,
         over: None,
@@ -177,6 +179,12 @@ pub(crate) fn shown(
     Ok(text)
 }
 
+// What is built of a setup for the application's layers, which have blanks between them.
+pub(crate) fn built(alloc: Global, setup: &Setup, app: &str) -> Result<String, AllocError> {
+    let app = words(alloc, app)?;
+    shown(alloc, &build(alloc, setup, &app))
+}
+
 // The parts of a chain with their layers' places, each with a blank before it; or why there is none.
 pub(crate) fn shown_parts(
     alloc: Global,
@@ -196,4 +204,10 @@ pub(crate) fn shown_parts(
         add_refusal(answer, &mut text)?;
     }
     Ok(text)
+}
+
+// The parts of what is built of a setup for the application's layers.
+pub(crate) fn built_parts(alloc: Global, setup: &Setup, app: &str) -> Result<String, AllocError> {
+    let app = words(alloc, app)?;
+    shown_parts(alloc, &build(alloc, setup, &app))
 }

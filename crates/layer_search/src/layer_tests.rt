@@ -4,7 +4,8 @@ use crate::{SearchError, find_drivers, find_layers};
 use env_filters::EnvList;
 use manifest_reader::LayerKind;
 use replay_base::MemTree;
-use std::alloc::Global;
+use std::alloc::{AllocError, Global};
+use std::process::Abort;
 use std::test::Fail;
 
 // A layer of a name and type, with the variable that an implicit layer needs.
@@ -48,34 +49,29 @@ fn put(tree: &mut MemTree, path: &str, bytes: &[u8]) -> Result<(), SearchError> 
     Ok(())
 }
 
-fn planted(alloc: Global) -> Result<MemTree, SearchError> {
-    let mut tree = MemTree::new(alloc);
-    put_layers(
-        alloc,
-        &mut tree,
+// Paths, and the layers of their manifests.
+static PLANTED: [(&str, &str); 6] = [
+    (
         "/a/vulkan/explicit_layer.d/m.json",
         "one two:DEVICE three:INSTANCE four:DEVICE",
-    )?;
-    put_layers(
-        alloc,
-        &mut tree,
-        "/a/vulkan/explicit_layer.d/n.json",
-        "two three one",
-    )?;
-    put_layers(
-        alloc,
-        &mut tree,
-        "/b/vulkan/explicit_layer.d/l.json",
-        "three five",
-    )?;
-    put_layers(
-        alloc,
-        &mut tree,
-        "/a/vulkan/implicit_layer.d/i.json",
-        "one six",
-    )?;
-    put_layers(alloc, &mut tree, "/d/p.json", "one seven")?;
-    put_layers(alloc, &mut tree, "/e.json/q.json", "eight")?;
+    ),
+    ("/a/vulkan/explicit_layer.d/n.json", "two three one"),
+    ("/b/vulkan/explicit_layer.d/l.json", "three five"),
+    ("/a/vulkan/implicit_layer.d/i.json", "one six"),
+    ("/d/p.json", "one seven"),
+    ("/e.json/q.json", "eight"),
+];
+
+fn put_all(alloc: Global, tree: &mut MemTree, rows: &[(&str, &str)]) -> Result<(), SearchError> {
+    for (path, layers) in rows {
+        put_layers(alloc, tree, path, layers)?;
+    }
+    Ok(())
+}
+
+fn planted(alloc: Global) -> Result<MemTree, SearchError> {
+    let mut tree = MemTree::new(alloc);
+    put_all(alloc, &mut tree, &PLANTED)?;
     put(&mut tree, "/b/vulkan/explicit_layer.d/k.json", b"{}")?;
     put(&mut tree, "/f/bad.json", b"[")?;
     Ok(tree)
@@ -100,47 +96,125 @@ static EXPLICIT: [(&str, &str); 6] = [
     ),
 ];
 
+// What a search for layers finds, as text.
+fn found_layers(
+    alloc: Global,
+    tree: &mut MemTree,
+    env: &EnvList,
+    kind: LayerKind,
+    only: Option<&[String]>,
+) -> Result<String, AllocError> {
+    shown_layers(alloc, &find_layers(alloc, tree, env, "", kind, only))
+}
+
+fn check_explicit(
+    rt: &impl Abort,
+    alloc: Global,
+    tree: &mut MemTree,
+    row: &(&str, &str),
+) -> Result<(), Fail> {
+    let (variables, wanted) = *row;
+    let env = env_beside(alloc, variables)?;
+    let found = found_layers(alloc, tree, &env, LayerKind::Explicit, None)?;
+    assert_eq!(rt; found.as_str(), wanted, "{variables}");
+    Ok(())
+}
+
+fn check_all_explicit(
+    rt: &impl Abort,
+    alloc: Global,
+    tree: &mut MemTree,
+    rows: &[(&str, &str)],
+) -> Result<(), Fail> {
+    for row in rows {
+        check_explicit(rt, alloc, tree, row)?;
+    }
+    Ok(())
+}
+
 #[test]
 fn explicit_layers_are_found_as_the_table_says(rt: HostRuntime) -> Result<(), Fail> {
-    let alloc = rt.alloc();
-    let mut tree = planted(alloc)?;
-    for (variables, wanted) in EXPLICIT.iter() {
-        let env = env_beside(alloc, variables).ok().ok_or("memory")?;
-        let found = find_layers(alloc, &mut tree, &env, "", LayerKind::Explicit, None);
-        let found = shown_layers(alloc, &found)?;
-        assert_eq!(rt; found.as_str(), *wanted, "{variables}");
+    let mut tree = planted(rt.alloc())?;
+    check_all_explicit(&rt, rt.alloc(), &mut tree, &EXPLICIT)
+}
+
+// A kind, the given folders with blanks between them where there are any, and what is found.
+type Given = (LayerKind, Option<&'static str>, &'static str);
+
+static GIVEN: [Given; 4] = [
+    (
+        LayerKind::Implicit,
+        None,
+        "/a/vulkan/implicit_layer.d/i.json one /a/vulkan/implicit_layer.d/i.json six |",
+    ),
+    (
+        LayerKind::Explicit,
+        Some("/e.json /none /d /e.json"),
+        "/e.json/q.json eight /d/p.json one /d/p.json seven |",
+    ),
+    (
+        LayerKind::Implicit,
+        Some("/e.json /none /d /e.json"),
+        "/e.json/q.json eight /d/p.json one /d/p.json seven |",
+    ),
+    (LayerKind::Explicit, Some(""), "|"),
+];
+
+// Words with blanks between them.
+fn words(alloc: Global, text: &str) -> Result<Vec<String>, AllocError> {
+    let mut list = Vec::new(alloc);
+    for word in text.split(' ') {
+        if !word.is_empty() {
+            list.push(String::from_str(alloc, word)?)?;
+        }
+    }
+    Ok(list)
+}
+
+// What a search for layers finds in the given folders, or where the variables say.
+fn found_in(
+    alloc: Global,
+    tree: &mut MemTree,
+    env: &EnvList,
+    kind: LayerKind,
+    folders: Option<&str>,
+) -> Result<String, AllocError> {
+    match folders {
+        Some(folders) => found_layers(alloc, tree, env, kind, Some(&words(alloc, folders)?)),
+        None => found_layers(alloc, tree, env, kind, None),
+    }
+}
+
+fn check_given(
+    rt: &impl Abort,
+    alloc: Global,
+    tree: &mut MemTree,
+    env: &EnvList,
+    row: &Given,
+) -> Result<(), Fail> {
+    let (kind, folders, wanted) = *row;
+    let found = found_in(alloc, tree, env, kind, folders)?;
+    assert_eq!(rt; found.as_str(), wanted);
+    Ok(())
+}
+
+fn check_all_given(
+    rt: &impl Abort,
+    alloc: Global,
+    tree: &mut MemTree,
+    rows: &[Given],
+) -> Result<(), Fail> {
+    let env = env_beside(alloc, "VK_LAYER_PATH=/d;VK_ADD_LAYER_PATH=/d")?;
+    for row in rows {
+        check_given(rt, alloc, tree, &env, row)?;
     }
     Ok(())
 }
 
 #[test]
 fn implicit_layers_and_given_folders(rt: HostRuntime) -> Result<(), Fail> {
-    let alloc = rt.alloc();
-    let mut tree = planted(alloc)?;
-    let env = env_beside(alloc, "VK_LAYER_PATH=/d;VK_ADD_LAYER_PATH=/d")
-        .ok()
-        .ok_or("memory")?;
-    let found = find_layers(alloc, &mut tree, &env, "", LayerKind::Implicit, None);
-    let found = shown_layers(alloc, &found)?;
-    assert_eq!(rt;
-        found.as_str(),
-        "/a/vulkan/implicit_layer.d/i.json one /a/vulkan/implicit_layer.d/i.json six |"
-    );
-    let mut only = Vec::new(alloc);
-    for folder in ["/e.json", "/none", "/d", "/e.json"] {
-        only.push(String::from_str(alloc, folder)?)?;
-    }
-    for kind in [LayerKind::Explicit, LayerKind::Implicit] {
-        let found = find_layers(alloc, &mut tree, &env, "", kind, Some(&only));
-        let found = shown_layers(alloc, &found)?;
-        assert_eq!(rt;
-            found.as_str(),
-            "/e.json/q.json eight /d/p.json one /d/p.json seven |"
-        );
-    }
-    let found = find_layers(alloc, &mut tree, &env, "", LayerKind::Explicit, Some(&[]));
-    assert_eq!(rt; shown_layers(alloc, &found)?.as_str(), "|");
-    Ok(())
+    let mut tree = planted(rt.alloc())?;
+    check_all_given(&rt, rt.alloc(), &mut tree, &GIVEN)
 }
 
 // An environment that names so many files that aren't there, and the first of them again.
@@ -156,39 +230,68 @@ fn many_files(alloc: Global, count: u32) -> Result<EnvList, SearchError> {
     Ok(env)
 }
 
+// How many notes a search for drivers, or for layers of a kind, leaves, or the error.
+fn notes_of(alloc: Global, env: &EnvList, kind: Option<LayerKind>) -> Result<usize, SearchError> {
+    let mut tree = MemTree::new(alloc);
+    match kind {
+        Some(kind) => Ok(
+            find_layers(alloc, &mut tree, env, "", kind, None)?
+                .notes
+                .len(),
+        ),
+        None => Ok(find_drivers(alloc, &mut tree, env, "")?.notes.len()),
+    }
+}
+
+// How many files are named, what is searched for, and how many notes there are, or the error.
+static MANY: [(u32, Option<LayerKind>, Result<usize, SearchError>); 5] = [
+    (4_096, None, Ok(4_096)),
+    (4_096, Some(LayerKind::Explicit), Ok(4_096)),
+    (4_097, None, Err(SearchError::TooMany { count: 4_097 })),
+    (
+        4_097,
+        Some(LayerKind::Explicit),
+        Err(SearchError::TooMany { count: 4_097 }),
+    ),
+    (4_097, Some(LayerKind::Implicit), Ok(0)),
+];
+
 #[test]
 fn a_search_meets_4096_files_at_most(rt: HostRuntime) -> Result<(), Fail> {
-    let alloc = rt.alloc();
-    let mut tree = MemTree::new(alloc);
-    let env = many_files(alloc, 4_096)?;
-    let found = find_drivers(alloc, &mut tree, &env, "")?;
-    assert_eq!(rt; found.notes.len(), 4_096);
-    let found = find_layers(alloc, &mut tree, &env, "", LayerKind::Explicit, None)?;
-    assert_eq!(rt; found.notes.len(), 4_096);
-    let env = many_files(alloc, 4_097)?;
-    let found = find_drivers(alloc, &mut tree, &env, "").err();
-    assert_eq!(rt; found, Some(SearchError::TooMany { count: 4_097 }));
-    let found = find_layers(alloc, &mut tree, &env, "", LayerKind::Explicit, None).err();
-    assert_eq!(rt; found, Some(SearchError::TooMany { count: 4_097 }));
-    let found = find_layers(alloc, &mut tree, &env, "", LayerKind::Implicit, None)?;
-    assert_eq!(rt; found.notes.len(), 0);
+    for (count, kind, wanted) in MANY.iter() {
+        let env = many_files(rt.alloc(), *count)?;
+        assert_eq!(rt; notes_of(rt.alloc(), &env, *kind), *wanted);
+    }
     Ok(())
 }
 
+// A tree of one driver, with blanks behind its bytes up to so many.
+fn sized_driver(alloc: Global, path: &str, size: usize) -> Result<MemTree, SearchError> {
+    let mut tree = MemTree::new(alloc);
+    let mut bytes = Vec::from_slice(alloc, DRIVER.as_bytes())?;
+    bytes.resize(size, b' ')?;
+    put(&mut tree, path, &bytes)?;
+    Ok(tree)
+}
+
+// What a search for drivers finds, as text.
+fn found_drivers(alloc: Global, tree: &mut MemTree, env: &EnvList) -> Result<String, AllocError> {
+    shown(alloc, &find_drivers(alloc, tree, env, ""))
+}
+
+// How many bytes a driver's manifest has, and what is found.
+static FILE_SIZES: [(usize, &str); 2] = [
+    (1_048_576, "/d/a.json |"),
+    (1_048_577, "| TooLarge /d/a.json"),
+];
+
 #[test]
 fn a_file_has_1048576_bytes_at_most(rt: HostRuntime) -> Result<(), Fail> {
-    let alloc = rt.alloc();
-    let env = env_of(alloc, "VK_DRIVER_FILES=/d").ok().ok_or("memory")?;
-    for (size, wanted) in [
-        (1_048_576, "/d/a.json |"),
-        (1_048_577, "| TooLarge /d/a.json"),
-    ] {
-        let mut bytes = Vec::from_slice(alloc, DRIVER.as_bytes())?;
-        bytes.resize(size, b' ')?;
-        let mut tree = MemTree::new(alloc);
-        put(&mut tree, "/d/a.json", &bytes)?;
-        let found = shown(alloc, &find_drivers(alloc, &mut tree, &env, ""))?;
-        assert_eq!(rt; found.as_str(), wanted);
+    let env = env_of(rt.alloc(), "VK_DRIVER_FILES=/d")?;
+    for (size, wanted) in FILE_SIZES.iter() {
+        let mut tree = sized_driver(rt.alloc(), "/d/a.json", *size)?;
+        let found = found_drivers(rt.alloc(), &mut tree, &env)?;
+        assert_eq!(rt; found.as_str(), *wanted);
     }
     Ok(())
 }
@@ -215,59 +318,93 @@ fn sized_layers(
     put(tree, "/d/l.json", text.as_bytes())
 }
 
+// A driver and so many layers, in manifests of so many bytes.
+fn sized_tree(alloc: Global, count: u32, size: usize) -> Result<MemTree, SearchError> {
+    let mut tree = sized_driver(alloc, "/e/a.json", size)?;
+    sized_layers(alloc, &mut tree, count, size)?;
+    Ok(tree)
+}
+
+// What is to be found of so many layers.
+fn numbered(alloc: Global, count: u32) -> Result<String, AllocError> {
+    let mut text = String::new(alloc);
+    for number in 0..count {
+        write!(text, "/d/l.json VK_LAYER_{number} ")?;
+    }
+    text.push('|')?;
+    Ok(text)
+}
+
+// How many layers there are, how many bytes each manifest has, and how the layers are searched.
+static SIZES: [(u32, usize, LayerKind, Option<&str>); 6] = [
+    (1, 300, LayerKind::Explicit, None),
+    (1, 300, LayerKind::Implicit, Some("/d")),
+    (30, 40_000, LayerKind::Explicit, None),
+    (30, 40_000, LayerKind::Implicit, Some("/d")),
+    (30, 1_048_576, LayerKind::Explicit, None),
+    (30, 1_048_576, LayerKind::Implicit, Some("/d")),
+];
+
+fn check_size(
+    rt: &impl Abort,
+    alloc: Global,
+    env: &EnvList,
+    row: &(u32, usize, LayerKind, Option<&str>),
+) -> Result<(), Fail> {
+    let (count, size, kind, folders) = *row;
+    let mut tree = sized_tree(alloc, count, size)?;
+    let found = found_in(alloc, &mut tree, env, kind, folders)?;
+    assert_eq!(rt; found.as_str(), numbered(alloc, count)?.as_str());
+    let found = found_drivers(alloc, &mut tree, env)?;
+    assert_eq!(rt; found.as_str(), "/e/a.json |");
+    Ok(())
+}
+
 #[test]
 fn manifests_of_every_size_are_found(rt: HostRuntime) -> Result<(), Fail> {
-    let alloc = rt.alloc();
-    let env = env_of(alloc, "VK_DRIVER_FILES=/e;VK_LAYER_PATH=/d")
-        .ok()
-        .ok_or("memory")?;
-    let only = vec![in alloc; String::from_str(alloc, "/d")?]?;
-    for (count, size) in [(1, 300), (30, 40_000), (30, 1_048_576)] {
-        let mut tree = MemTree::new(alloc);
-        sized_layers(alloc, &mut tree, count, size)?;
-        let mut driver = Vec::from_slice(alloc, DRIVER.as_bytes())?;
-        driver.resize(size, b' ')?;
-        put(&mut tree, "/e/a.json", &driver)?;
-        let mut wanted = String::new(alloc);
-        for number in 0..count {
-            write!(wanted, "/d/l.json VK_LAYER_{number} ")?;
-        }
-        wanted.push('|')?;
-        let named = find_layers(alloc, &mut tree, &env, "", LayerKind::Explicit, None);
-        assert_eq!(rt; shown_layers(alloc, &named)?.as_str(), wanted.as_str());
-        let given = find_layers(alloc, &mut tree, &env, "", LayerKind::Implicit, Some(&only));
-        assert_eq!(rt; shown_layers(alloc, &given)?.as_str(), wanted.as_str());
-        let drivers = find_drivers(alloc, &mut tree, &env, "");
-        assert_eq!(rt; shown(alloc, &drivers)?.as_str(), "/e/a.json |");
+    let env = env_of(rt.alloc(), "VK_DRIVER_FILES=/e;VK_LAYER_PATH=/d")?;
+    for row in SIZES.iter() {
+        check_size(&rt, rt.alloc(), &env, row)?;
     }
     Ok(())
+}
+
+// The error of a search for drivers where the tree fails at a call.
+fn failed_drivers(
+    alloc: Global,
+    env: &EnvList,
+    call: u64,
+) -> Result<Option<SearchError>, SearchError> {
+    let files = "/a/vulkan/icd.d/y.json /a/vulkan/icd.d/z.json /b/vulkan/icd.d/x.json";
+    let mut tree = tree_of(alloc, files, DRIVER.as_bytes())?;
+    fail_at(&mut tree, call)?;
+    Ok(find_drivers(alloc, &mut tree, env, "").err())
+}
+
+// The same of a search for layers.
+fn failed_layers(
+    alloc: Global,
+    env: &EnvList,
+    call: u64,
+) -> Result<Option<SearchError>, SearchError> {
+    let mut tree = planted(alloc)?;
+    fail_at(&mut tree, call)?;
+    Ok(find_layers(alloc, &mut tree, env, "", LayerKind::Implicit, None).err())
+}
+
+fn fail_at(tree: &mut MemTree, call: u64) -> Result<(), SearchError> {
+    tree.fail_at(call).ok().ok_or(SearchError::NoMemory)
 }
 
 // Six folders are listed and three files read.
 #[test]
 fn a_tree_may_fail_at_each_call(rt: HostRuntime) -> Result<(), Fail> {
-    let alloc = rt.alloc();
-    let env = env_beside(alloc, "").ok().ok_or("memory")?;
+    let env = env_beside(rt.alloc(), "")?;
     for call in 1..=10 {
-        let files = "/a/vulkan/icd.d/y.json /a/vulkan/icd.d/z.json /b/vulkan/icd.d/x.json";
-        let mut tree = tree_of(alloc, files, DRIVER.as_bytes())?;
-        assert_eq!(rt; tree.fail_at(call).is_ok(), true);
-        let found = find_drivers(alloc, &mut tree, &env, "").err();
-        let wanted = if call == 10 {
-            None
-        } else {
-            Some(SearchError::Tree)
-        };
-        assert_eq!(rt; found, wanted, "{call}");
-        let mut tree = planted(alloc)?;
-        assert_eq!(rt; tree.fail_at(call).is_ok(), true);
-        let found = find_layers(alloc, &mut tree, &env, "", LayerKind::Implicit, None).err();
-        let wanted = if call > 7 {
-            None
-        } else {
-            Some(SearchError::Tree)
-        };
-        assert_eq!(rt; found, wanted, "{call}");
+        let wanted = (call < 10).then_some(SearchError::Tree);
+        assert_eq!(rt; failed_drivers(rt.alloc(), &env, call)?, wanted, "{call}");
+        let wanted = (call <= 7).then_some(SearchError::Tree);
+        assert_eq!(rt; failed_layers(rt.alloc(), &env, call)?, wanted, "{call}");
     }
     Ok(())
 }

@@ -1,22 +1,27 @@
 // What no clause says: that calls succeed with ample memory; and tables of expected answers, written by hand.
 use crate::{Drivers, LayerList, Note, SearchError, SearchKind, find_drivers, folders};
-use env_filters::{EnvList, NoMemory};
+use env_filters::EnvList;
 use replay_base::MemTree;
 use std::alloc::{AllocError, Global};
+use std::process::Abort;
 use std::test::Fail;
 
 pub(crate) static DRIVER: &str =
     r#"{"file_format_version":"1.0.1","ICD":{"library_path":"liba.so","api_version":"1.3.275"}}"#;
 
 // Variables, as `NAME=VALUE` with `;` between them.
-pub(crate) fn env_of(alloc: Global, text: &str) -> Result<EnvList, NoMemory> {
+pub(crate) fn env_of(alloc: Global, text: &str) -> Result<EnvList, AllocError> {
     let mut env = EnvList::new(alloc);
     for part in text.split(';') {
         if let Some((name, value)) = part.split_once('=') {
-            env.put(name, value)?;
+            put(&mut env, name, value)?;
         }
     }
     Ok(env)
+}
+
+fn put(env: &mut EnvList, name: &str, value: &str) -> Result<(), AllocError> {
+    env.put(name, value).ok().ok_or(AllocError)
 }
 
 // A tree whose paths, with blanks between them, all have the bytes.
@@ -80,10 +85,14 @@ pub(crate) fn shown_layers(
     Ok(text)
 }
 
+fn folders_of(alloc: Global, env: &EnvList, kind: SearchKind) -> Result<Vec<String>, AllocError> {
+    folders(alloc, env, kind).ok().ok_or(AllocError)
+}
+
 // The folders for drivers without the end that all have, each with a blank behind it.
-fn bases(alloc: Global, env: &EnvList) -> Result<String, NoMemory> {
+fn bases(alloc: Global, env: &EnvList) -> Result<String, AllocError> {
     let mut text = String::new(alloc);
-    for folder in &folders(alloc, env, SearchKind::Driver)? {
+    for folder in &folders_of(alloc, env, SearchKind::Driver)? {
         text.push_str(folder.as_str().strip_suffix("/vulkan/icd.d").unwrap_or("?"))?;
         text.push(' ')?;
     }
@@ -142,24 +151,60 @@ static FOLDERS: [(&str, &str); 15] = [
     ),
 ];
 
-#[test]
-fn folders_are_those_of_the_table(rt: HostRuntime) -> Result<(), Fail> {
-    let alloc = rt.alloc();
-    for (variables, wanted) in FOLDERS.iter() {
-        let env = env_of(alloc, variables).ok().ok_or("memory")?;
-        let found = bases(alloc, &env).ok().ok_or("memory")?;
-        assert_eq!(rt; found.as_str(), *wanted, "{variables}");
-    }
-    let env = env_of(alloc, "XDG_DATA_DIRS=/a").ok().ok_or("memory")?;
-    for (kind, wanted) in [
-        (SearchKind::Driver, "/a/vulkan/icd.d"),
-        (SearchKind::Explicit, "/a/vulkan/explicit_layer.d"),
-        (SearchKind::Implicit, "/a/vulkan/implicit_layer.d"),
-    ] {
-        let found = folders(alloc, &env, kind).ok().ok_or("memory")?;
-        assert_eq!(rt; found.last().map(|folder| folder.as_str()), Some(wanted));
+fn check_bases(rt: &impl Abort, alloc: Global, row: &(&str, &str)) -> Result<(), Fail> {
+    let (variables, wanted) = *row;
+    let env = env_of(alloc, variables)?;
+    let found = bases(alloc, &env)?;
+    assert_eq!(rt; found.as_str(), wanted, "{variables}");
+    Ok(())
+}
+
+fn check_all_bases(rt: &impl Abort, alloc: Global, rows: &[(&str, &str)]) -> Result<(), Fail> {
+    for row in rows {
+        check_bases(rt, alloc, row)?;
     }
     Ok(())
+}
+
+#[test]
+fn folders_are_those_of_the_table(rt: HostRuntime) -> Result<(), Fail> {
+    check_all_bases(&rt, rt.alloc(), &FOLDERS)
+}
+
+static KINDS: [(SearchKind, &str); 3] = [
+    (SearchKind::Driver, "/a/vulkan/icd.d"),
+    (SearchKind::Explicit, "/a/vulkan/explicit_layer.d"),
+    (SearchKind::Implicit, "/a/vulkan/implicit_layer.d"),
+];
+
+fn check_last(
+    rt: &impl Abort,
+    alloc: Global,
+    env: &EnvList,
+    row: &(SearchKind, &str),
+) -> Result<(), Fail> {
+    let (kind, wanted) = *row;
+    let found = folders_of(alloc, env, kind)?;
+    assert_eq!(rt; found.last().map(|folder| folder.as_str()), Some(wanted));
+    Ok(())
+}
+
+fn check_all_last(
+    rt: &impl Abort,
+    alloc: Global,
+    env: &EnvList,
+    rows: &[(SearchKind, &str)],
+) -> Result<(), Fail> {
+    for row in rows {
+        check_last(rt, alloc, env, row)?;
+    }
+    Ok(())
+}
+
+#[test]
+fn folders_end_as_their_kind_has_it(rt: HostRuntime) -> Result<(), Fail> {
+    let env = env_of(rt.alloc(), "XDG_DATA_DIRS=/a")?;
+    check_all_last(&rt, rt.alloc(), &env, &KINDS)
 }
 
 static FILES: &str =
@@ -238,23 +283,49 @@ static PLACES: [(&str, &str, &str); 20] = [
     ("VK_DRIVER_FILES=/d", "/other", "|"),
 ];
 
-pub(crate) fn env_beside(alloc: Global, variables: &str) -> Result<EnvList, NoMemory> {
+pub(crate) fn env_beside(alloc: Global, variables: &str) -> Result<EnvList, AllocError> {
     let mut env = env_of(alloc, variables)?;
-    env.put("HOME", "/h")?;
-    env.put("XDG_DATA_DIRS", "/a:/b")?;
+    put(&mut env, "HOME", "/h")?;
+    put(&mut env, "XDG_DATA_DIRS", "/a:/b")?;
     Ok(env)
+}
+
+fn check_places(
+    rt: &impl Abort,
+    alloc: Global,
+    tree: &mut MemTree,
+    row: &(&str, &str, &str),
+) -> Result<(), Fail> {
+    let (variables, root, wanted) = *row;
+    let env = env_beside(alloc, variables)?;
+    let found = shown(alloc, &find_drivers(alloc, tree, &env, root))?;
+    assert_eq!(rt; found.as_str(), wanted, "{variables} {root}");
+    Ok(())
+}
+
+fn check_all_places(
+    rt: &impl Abort,
+    alloc: Global,
+    tree: &mut MemTree,
+    rows: &[(&str, &str, &str)],
+) -> Result<(), Fail> {
+    for row in rows {
+        check_places(rt, alloc, tree, row)?;
+    }
+    Ok(())
 }
 
 #[test]
 fn drivers_are_found_as_the_table_says(rt: HostRuntime) -> Result<(), Fail> {
+    let mut tree = tree_of(rt.alloc(), FILES, DRIVER.as_bytes())?;
+    check_all_places(&rt, rt.alloc(), &mut tree, &PLACES)
+}
+
+#[test]
+fn a_driver_has_what_its_manifest_says(rt: HostRuntime) -> Result<(), Fail> {
     let alloc = rt.alloc();
     let mut tree = tree_of(alloc, FILES, DRIVER.as_bytes())?;
-    for (variables, root, wanted) in PLACES.iter() {
-        let env = env_beside(alloc, variables).ok().ok_or("memory")?;
-        let found = shown(alloc, &find_drivers(alloc, &mut tree, &env, root))?;
-        assert_eq!(rt; found.as_str(), *wanted, "{variables} {root}");
-    }
-    let env = env_beside(alloc, "").ok().ok_or("memory")?;
+    let env = env_beside(alloc, "")?;
     let found = find_drivers(alloc, &mut tree, &env, "")?;
     let first = found.list.first().ok_or("a driver")?;
     assert_eq!(rt; first.entry.library.as_str(), "liba.so");
@@ -282,29 +353,53 @@ static FILTERS: [(&str, &str, &str); 16] = [
     ("none", "y*", ""),
 ];
 
-#[test]
-fn drivers_are_selected_and_disabled(rt: HostRuntime) -> Result<(), Fail> {
-    let alloc = rt.alloc();
-    let mut tree = tree_of(alloc, FILES, DRIVER.as_bytes())?;
-    for (selected, disabled, wanted) in FILTERS.iter() {
-        let mut env = env_beside(alloc, "VK_ADD_DRIVER_FILES=/y.json")
-            .ok()
-            .ok_or("memory")?;
-        env.put("VK_LOADER_DRIVERS_SELECT", selected)
-            .ok()
-            .ok_or("memory")?;
-        env.put("VK_LOADER_DRIVERS_DISABLE", disabled)
-            .ok()
-            .ok_or("memory")?;
-        let found = find_drivers(alloc, &mut tree, &env, "")?;
-        let mut names = String::new(alloc);
-        for driver in &found.list {
-            let name = driver.path.as_str().rsplit_once('/').ok_or("a name")?.1;
-            names.push_str(name.strip_suffix(".json").ok_or("an end")?)?;
-            names.push(' ')?;
-        }
-        assert_eq!(rt; names.as_str(), *wanted, "{selected} {disabled}");
-        assert_eq!(rt; found.notes.len(), 1);
+fn filters(alloc: Global, selected: &str, disabled: &str) -> Result<EnvList, AllocError> {
+    let mut env = env_beside(alloc, "VK_ADD_DRIVER_FILES=/y.json")?;
+    put(&mut env, "VK_LOADER_DRIVERS_SELECT", selected)?;
+    put(&mut env, "VK_LOADER_DRIVERS_DISABLE", disabled)?;
+    Ok(env)
+}
+
+// The names of files without their end, each with a blank behind it.
+fn names_of(alloc: Global, found: &Drivers) -> Result<String, Fail> {
+    let mut names = String::new(alloc);
+    for driver in &found.list {
+        let name = driver.path.as_str().rsplit_once('/').ok_or("a name")?.1;
+        names.push_str(name.strip_suffix(".json").ok_or("an end")?)?;
+        names.push(' ')?;
+    }
+    Ok(names)
+}
+
+fn check_filters(
+    rt: &impl Abort,
+    alloc: Global,
+    tree: &mut MemTree,
+    row: &(&str, &str, &str),
+) -> Result<(), Fail> {
+    let (selected, disabled, wanted) = *row;
+    let env = filters(alloc, selected, disabled)?;
+    let found = find_drivers(alloc, tree, &env, "")?;
+    let names = names_of(alloc, &found)?;
+    assert_eq!(rt; names.as_str(), wanted, "{selected} {disabled}");
+    assert_eq!(rt; found.notes.len(), 1);
+    Ok(())
+}
+
+fn check_all_filters(
+    rt: &impl Abort,
+    alloc: Global,
+    tree: &mut MemTree,
+    rows: &[(&str, &str, &str)],
+) -> Result<(), Fail> {
+    for row in rows {
+        check_filters(rt, alloc, tree, row)?;
     }
     Ok(())
+}
+
+#[test]
+fn drivers_are_selected_and_disabled(rt: HostRuntime) -> Result<(), Fail> {
+    let mut tree = tree_of(rt.alloc(), FILES, DRIVER.as_bytes())?;
+    check_all_filters(&rt, rt.alloc(), &mut tree, &FILTERS)
 }
