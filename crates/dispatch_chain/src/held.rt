@@ -77,6 +77,13 @@ impl Held {
         &self.forms[..self.count]
     }
 
+    /// No call is held any more; their room stays.
+    pub fn clear(&mut self)
+        ensures { self.new.forms ≡ [] }
+    {
+        self.count = 0;
+    }
+
     // A walk of a command begins.
     pub(crate) fn begin(&mut self, cmd: CommandId)
         ensures { self.new ≡ record { cmd = cmd; forms = [] } }

@@ -1,5 +1,5 @@
 //! What the parts of a chain keep.
-ghost use Rattle.std.specs.Prelude.{◌≡◌, IfOk, map};
+ghost use Rattle.std.specs.Prelude.{◌≡◌, [], IfOk, map};
 ghost use Rattle.layer_model.specs.Walks.{new_part};
 ghost use Rattle.dispatch_chain.specs.Rows.{kinds_placed};
 ghost use Rattle.dispatch_chain.specs.Seats.{seat_of, seats_from, state_of};
@@ -46,6 +46,16 @@ fn new_parts(alloc: Global, placed: &[(PartKind, u32)]) -> Result<Vec<Part>, NoM
 }
 
 impl LayerStates {
+    /// There is no part. Takes no memory.
+    pub fn none(alloc: Global) -> LayerStates
+        ensures { result ≡ [] }
+    {
+        LayerStates {
+            alloc,
+            parts: Vec::new(alloc),
+        }
+    }
+
     /// Each part of a chain has been given nothing yet.
     pub fn new(alloc: Global, chain: &Chain) -> Result<LayerStates, NoMemory>
         ensures { IfOk result (λ states. states ≡ map new_part (kinds_placed chain.now.parts.items)) }

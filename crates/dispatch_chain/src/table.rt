@@ -172,6 +172,13 @@ impl DispatchTable {
         Ok(DispatchTable { kit: *kit, rows })
     }
 
+    /// The table of another chain, whose parts are called by the same functions.
+    pub fn of_chain(&self, alloc: Global, chain: &Chain) -> Result<DispatchTable, NoMemory>
+        ensures { IfOk result (λ table. table.rows ≡ kinds_placed chain.now.parts.items) }
+    {
+        DispatchTable::build(alloc, chain, &self.kit)
+    }
+
     /// The parts that intercept a command, from the application down. Takes no memory.
     pub fn at(&self, cmd: CommandId) -> &[Entry]
         ensures { result.now ≡ entries_of cmd self.now.rows }

@@ -3,7 +3,6 @@ pub mod OpenCalls
 pub mod Reports
 pub mod Skipping
 pub mod Telling
-pub mod Joined
 pub mod Objects
 pub mod Unowned
 pub mod OneDriver

@@ -20,14 +20,13 @@ mod room;
 mod run;
 mod session;
 mod status;
-mod tally;
 #[cfg(test)]
 mod tests;
 mod told;
 
 pub use error::{ReplayError, SessionError};
+pub use report_text::Tally;
 pub use room::CallRoom;
 pub use run::replay;
 pub use session::Session;
 pub use status::Status;
-pub use tally::Tally;

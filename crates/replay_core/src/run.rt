@@ -13,15 +13,16 @@ ghost use Rattle.replay_core.specs.Stands.{Stands};
 ghost use Rattle.replay_core.specs.Traffic.{traffic_of};
 
 use crate::error::ReplayError;
-use crate::lines::end_line;
 use crate::play::play;
 use crate::player::Player;
 use crate::read::{Unread, read_all};
 use crate::session::Session;
+use command_tables::NoMemory;
 use model_driver::Driver;
 use replay_base::{Sink, Source, put_all, split_line};
 use replay_model::MOST_BYTES;
-use std::alloc::{AllocError, Global};
+use report_text::end_line;
+use std::alloc::Global;
 use trace_format::{HEADER, TraceFault};
 
 // What stands behind the header.
@@ -64,7 +65,7 @@ fn play_trace<K: Sink, D: Driver>(
     }
 }
 
-fn end_text(session: &Session, alloc: Global) -> Result<Vec<u8>, AllocError>
+fn end_text(session: &Session, alloc: Global) -> Result<Vec<u8>, NoMemory>
     ensures { IfOk result (λ line. line.items ≡ line_at_end session.now.calls session.now.skipped session.now.reports) }
 {
     let mut line = Vec::new(alloc);

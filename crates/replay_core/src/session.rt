@@ -23,10 +23,10 @@ use crate::keeping::{keep_names, keep_retrieved, keep_values};
 use crate::lines::{report, return_line};
 use crate::results::made;
 use crate::room::CallRoom;
-use crate::tally::Tally;
 use command_tables::NoMemory;
 use model_driver::Driver;
 use replay_model::Born;
+use report_text::Tally;
 use session_tables::{NameTable, ObjectTable, RetrievedTable, ValueTable};
 use std::alloc::{AllocError, Global};
 use std::marker::Model;
@@ -113,7 +113,7 @@ impl Session {
         call: OpenCall,
         name: Option<Name>,
         lines: &mut Vec<u8>,
-    ) -> Result<(), AllocError>
+    ) -> Result<(), NoMemory>
         requires skipped { call.skipped ≡ true }
         requires number { call.number ≡ self.old.calls + 1 }
         requires handles { call.handles.items ≡ [] }

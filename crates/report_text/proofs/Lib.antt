@@ -2,3 +2,4 @@ pub mod Pieces
 pub mod Folders
 pub mod Numbers
 pub mod Printing
+pub mod Ids

@@ -1,5 +1,10 @@
 -- Texts that are put one behind another.
-use Rattle.std.proofs.Common.{◌≡◌, ◌∙◌, ℕ, List, ◌++◌, ap, append_assoc}
+use Rattle.std.proofs.Common.{◌≡◌, ◌∙◌, ℕ, List, [], ◌++◌, ap, append_assoc}
+use Rattle.std.proofs.lemmas.List.{append-nil}
+
+-- nothing stands behind
+pub append_none : {X : Type 0} (xs : List X) → xs ++ [] ≡ xs
+append_none xs = append-nil xs
 
 pub two_pieces : (l0 l1 l2 a b : List ℕ) → l1 ≡ l0 ++ a → l2 ≡ l1 ++ b → l2 ≡ l0 ++ (a ++ b)
 two_pieces l0 l1 l2 a b p1 p2 = p2 ∙ (ap (λ l. l ++ b) p1 ∙ append_assoc l0 a b)

@@ -28,7 +28,7 @@ use Rattle.session_model.specs.Steps.{BeginSteps}
 use Rattle.session_model.proofs.Begun.{told_is}
 use Rattle.session_model.proofs.Idle.{none_open_then}
 
-le_true : (a b : ℕ) → nat_le a b ≡ true → a ≤ b
+pub le_true : (a b : ℕ) → nat_le a b ≡ true → a ≤ b
 le_true a b h = grind arith
 
 -- one place, where the parameter takes no list
@@ -50,14 +50,14 @@ fits_param f g p a form = record {
   most = subst (λ n. n ≤ 1024) (sym (twice_mapped f g a.names)) (most_places p.many a form);
 }
 
-fit_params : (f : Argument → ℕ) (g : Option Name → Argument) (ps : List ParamSpec) (args : List Arg) → FitParams ps args → FitsRow ps (map (map f) (map (λ (a : Arg). map g a.names) args))
+pub fit_params : (f : Argument → ℕ) (g : Option Name → Argument) (ps : List ParamSpec) (args : List Arg) → FitParams ps args → FitsRow ps (map (map f) (map (λ (a : Arg). map g a.names) args))
 fit_params f g [] [] fit = tt
 fit_params f g [] (a ∷ args) fit = absurd fit
 fit_params f g (p ∷ ps) [] fit = absurd fit
 fit_params f g (p ∷ ps) (a ∷ args) fit = (fits_param f g p a fit.0, fit_params f g ps args fit.1)
 
 -- as many handles are asked for as the command takes results
-takes_fits : (e : Effect) (n : ℕ) → takes e n ≡ true → FitsAsked e n
+pub takes_fits : (e : Effect) (n : ℕ) → takes e n ≡ true → FitsAsked e n
 takes_fits (eff.Create t owner true) n h = le_true n 1024 h
 takes_fits (eff.Create t owner false) n h = eqb-true n 1 h
 takes_fits (eff.Retrieve t owner true) n h = le_true n 1024 h

@@ -18,6 +18,7 @@ mod value_table;
 
 pub use birth_table::BirthTable;
 pub use name_table::NameTable;
+pub use object_map::{Filed, ObjectMap};
 pub use object_table::ObjectTable;
 pub use owners::owner;
 pub use retrieved_map::RetrievedKey;

@@ -1,7 +1,7 @@
 use Rattle.std.proofs.Common.{◌∙◌, Err, refl, ap, subst}
 use Rattle.model_driver.specs.Logs.{Log}
 use Rattle.replay_base.specs.Changes.{Change, changed}
-use Rattle.replay_core.specs.declared.tally.Tally.{Tally}
+use Rattle.report_text.specs.declared.tally.Tally.{Tally}
 use Rattle.replay_core.specs.Replayed.{Ended, Replays, run_of}
 use Rattle.vkreplay.specs.Output.{end_status}
 use Rattle.vkreplay.proofs.Ending.{run_completed, run_refused}

@@ -1,0 +1,110 @@
+-- The steps of a begin, put together.
+use Rattle.std.proofs.Common.{◌≡◌, ◌∙◌, ℕ, ◌+◌, Bool, true, false, cond, ◌&&◌, Option, Some, None, List, [], ◌∷◌, ◌++◌, length, map, refl, ap, sym, subst, append_assoc}
+use Rattle.std.specs.Prelude.{is_some}
+use Rattle.std.specs.List.{AllByRecursion, flat_map}
+use Rattle.command_tables.specs.Calls.{DriverCallContent, call_content}
+use Rattle.command_tables.specs.Tests.{same_command}
+use Rattle.command_tables.specs.declared.types.Code.{Code}
+use Rattle.command_tables.specs.declared.types.CommandId.TheVariants as cmd
+use Rattle.model_driver.specs.Driver.{HasShape, reply_shown}
+use Rattle.model_driver.specs.Logs.{Log}
+use Rattle.trace_format.specs.Content.{BeginEvent}
+use Rattle.object_model.specs.declared.PartKind.{PartKind}
+use Rattle.replay_model.specs.Setup.{Chain, Outcome, Refused, Setup, TooLong, parts_of, refusal_of}
+use Rattle.replay_model.specs.Past.{Opened, is_skipped}
+use Rattle.replay_model.specs.Text.{chain_text, report_text}
+use Rattle.chain_build.specs.declared.answers.Chain.{Chain as Built}
+use Rattle.layer_model.specs.Walks.{PartState}
+use Rattle.terminator.specs.Calls.{TerminatorState, targets_of}
+use Rattle.lifetime_layer.specs.declared.verdict.Verdict.{Verdict}
+use Rattle.lifetime_layer.specs.Reports.{reports_of}
+use Rattle.dispatch_chain.specs.Seats.{kinds_of}
+use Rattle.session_model.specs.Session.{SessionKept}
+use Rattle.session_model.specs.Beginning.{calls_told}
+use Rattle.chain_session.specs.declared.call.OpenCall.{OpenCall}
+use Rattle.chain_session.specs.declared.creation.Creation.{Creation}
+use Rattle.chain_session.specs.declared.kept.Kept.{Kept}
+use Rattle.chain_session.specs.Beginning.{BeginsAs, CutShort, Tells}
+use Rattle.chain_session.specs.Creation.{IsCreated, IsStart}
+use Rattle.chain_session.specs.Judging.{IsJudged}
+use Rattle.chain_session.specs.Keeping.{KeepsBegun}
+use Rattle.chain_session.specs.Opened.{opened_of}
+use Rattle.chain_session.specs.Opening.{opened_first}
+use Rattle.chain_session.specs.Sending.{calls_due}
+use Rattle.chain_session.specs.Shown.{Shows, kinds_chained, refusal_at}
+use Rattle.chain_session.specs.Telling.{FrontAsked}
+use Rattle.chain_session.proofs.Assembled.{Steps, begins_so, due, read_in, read_same}
+use Rattle.chain_session.proofs.Told.{none_asked}
+
+-- the chain of a call that isn't refused is that of the outcome
+pub chained_from : (t : Bool) (o : Outcome) (creation : Creation) (chain : Option Built) → IsCreated t o creation → ((kinds : List PartKind) → IsStart kinds creation → kinds_chained chain ≡ kinds)
+    → t ≡ true → (t && is_some (refusal_of o)) ≡ false → kinds_chained chain ≡ parts_of o
+chained_from true (Chain parts text) creation chain made f is not = f parts made
+chained_from true (Refused code text) creation chain made f is not = cc
+chained_from true (TooLong layers) creation chain made f is not = absurd made
+chained_from false o creation chain made f is not = cc
+
+-- what the parts keep doesn't matter to what is kept of a begun call
+keeps_again : (x : Kept) (states after : List PartState) (call : OpenCall) (n : ℕ) (new : Kept) → KeepsBegun (record x { states = states }) call n new after → KeepsBegun x call n new after
+keeps_again x states after call n new h = record {
+  calls = h.calls;
+  skipped = h.skipped;
+  reports = h.reports;
+  names = h.names;
+  births = h.births;
+  living = h.living;
+  retrieved = h.retrieved;
+  handed = h.handed;
+  terminator = h.terminator;
+  stays = h.stays;
+  open_calls = h.open_calls;
+}
+
+module _ (s : Setup) (x : Kept) (e : BeginEvent) (number : ℕ) (refusal : Option Code) (judged : OpenCall) (verdict : Verdict) (after : List PartState)
+    (counted : number ≡ x.calls + 1) (refused : refusal ≡ refusal_at s e.cmd e.payload)
+    (judges : IsJudged x.objects.living x.handed x.states (opened_first number x.names e refusal) judged verdict after) where
+  steps_in : (k : SessionKept) → Shows s x k → Steps (read_in s k) e number refusal judged verdict after
+  steps_in k sh = subst (λ v. Steps v e number refusal judged verdict after) (read_same s x k sh) (record { counted = counted; judges = judges })
+
+  -- what the drivers are told of it is what the definitions say
+  due_in : (k : SessionKept) → Shows s x k → calls_due x.terminator judged ≡ calls_told s k e
+  due_in k sh = ap (λ v. calls_due v.terminator judged) (read_same s x k sh) ∙ (due s k e number refusal judged verdict after refused (steps_in k sh)).0
+
+  pub shapes_so : (k : SessionKept) → Shows s x k → AllByRecursion HasShape (calls_told s k e) → is_skipped (opened_of judged) ≡ false → AllByRecursion HasShape (targets_of x.terminator (call_content judged.bottom))
+  shapes_so k sh shapes sent =
+      subst (λ (cs : List DriverCallContent). AllByRecursion HasShape cs) (sym (due_in k sh) ∙ ap (λ b. cond b [] (targets_of x.terminator (call_content judged.bottom))) sent) shapes
+
+  -- so were the first so many of them
+  pub cut_so : (log0 log1 : Log) → FrontAsked (calls_due x.terminator judged) log0 log1 → CutShort s x e log0 log1
+  cut_so log0 log1 f = λ k sh. subst (λ (cs : List DriverCallContent). FrontAsked cs log0 log1) (due_in k sh) f
+
+  pub number_so : judged.number ≡ number
+  number_so = ap (λ (o : Opened). o.number) judges.opened
+
+  -- the begin is the definitions'
+  pub began_so : (y new : Kept) (log0 log1 : Log) (lines0 lines1 lines2 : List ℕ) → y ≡ record x { states = after } → kinds_of after ≡ kinds_of x.states → judged.refusal ≡ refusal
+      → (same_command e.cmd cmd.CreateInstance ≡ true → (same_command e.cmd cmd.CreateInstance && is_some (refusal_of (s.outcome e.payload))) ≡ false → kinds_chained judged.chain ≡ parts_of (s.outcome e.payload))
+      → lines1 ≡ lines0 ++ chain_text s e number → Tells y judged e verdict new log0 log1 lines1 lines2 → BeginsAs s x e new log0 log1 lines0 lines2
+  began_so y new log0 log1 lines0 lines1 lines2 is kinds kept chained wrote tells =
+      let again = subst (λ z. Tells z judged e verdict new log0 log1 lines1 lines2) is tells in
+      record {
+        own = map reply_shown again.sent.replies.items;
+        begins = λ k sh. begins_so s x e number refusal judged again.sent verdict after new log0 log1 lines0 lines2
+            (record {
+              counted = counted;
+              refused = refused;
+              judges = judges;
+              keeps = kept;
+              kinds = kinds;
+              sends = again.sends;
+              chained = λ made allowed. ap kinds_chained again.sends.chain ∙ chained made allowed;
+              begun = keeps_again x after after again.sent (length verdict.findings.items) new again.begun;
+              wrote = again.wrote ∙ (ap (λ ls. ls ++ flat_map (report_text e judged.number) (reports_of verdict.findings.items)) wrote
+                  ∙ (append_assoc lines0 (chain_text s e number) (flat_map (report_text e judged.number) (reports_of verdict.findings.items))
+                  ∙ ap (λ n. lines0 ++ (chain_text s e number ++ flat_map (report_text e n) (reports_of verdict.findings.items))) number_so));
+            }) k sh;
+      }
+
+-- nothing was told
+pub cut_first : (s : Setup) (x : Kept) (e : BeginEvent) (log0 log1 : Log) → log1 ≡ log0 → CutShort s x e log0 log1
+cut_first s x e log0 log1 is = λ k sh. none_asked (calls_told s k e) log0 log1 is

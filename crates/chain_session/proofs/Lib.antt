@@ -1,0 +1,16 @@
+pub mod Loader
+pub mod Stopping
+pub mod Fitting
+pub mod Told
+pub mod Judged
+pub mod OpenCalls
+pub mod Places
+pub mod Marks
+pub mod Sent
+pub mod Assembled
+pub mod Payloads
+pub mod Outcomes
+pub mod Lines
+pub mod Begins
+pub mod BeginCalls
+pub mod Advancing

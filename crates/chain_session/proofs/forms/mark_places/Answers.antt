@@ -1,0 +1,25 @@
+use Rattle.std.proofs.Common.{◌≡◌, ◌∙◌, length, ap, sym, arith}
+use Rattle.command_tables.specs.Handles.{Handles}
+use Rattle.chain_session.proofs.Marks.{marks_last, marks_more, marks_still}
+use Rattle.chain_session.proofs.forms.mark_places.Goals.{then-has_mark, else-has_mark}
+use Rattle.chain_session.proofs.forms.mark_places.Goals as goal
+
+pub loop-k-preserved : goal.loop-k-preserved
+loop-k-preserved c = elim c.if-has_mark.branch [
+  | then-has_mark w ↦ record {
+    lists = ap (λ (a : Handles). a.lists) w.all-is ∙ (w.mark_unborn.ensures.lists ∙ c.loop-k.invariant.lists);
+    marks = ap (λ (a : Handles). a.marks) w.all-is
+        ∙ (w.mark_unborn.ensures.marks
+        ∙ marks_more c.loop-k.all.marks c.args.all.now.marks c.args.p c.loop-k.k c.args.at.now c.requires.marks c.loop-k-test.true (sym c.has_mark.ensures ∙ w.if-has_mark.true) c.loop-k.invariant.marks);
+  }
+  | else-has_mark w ↦ record {
+    lists = ap (λ (a : Handles). a.lists) w.all-is ∙ c.loop-k.invariant.lists;
+    marks = ap (λ (a : Handles). a.marks) w.all-is
+        ∙ marks_still c.loop-k.all.marks c.args.all.now.marks c.args.p c.loop-k.k c.args.at.now c.loop-k-test.true (sym c.has_mark.ensures ∙ w.if-has_mark.false) c.loop-k.invariant.marks;
+  }
+]
+
+pub returns-clause-marks : goal.returns-clause-marks
+returns-clause-marks c =
+    let end : c.loop-k.k ≡ length c.args.at.now = omega arith in
+    marks_last c.loop-k.all.marks c.args.all.now.marks c.args.p c.loop-k.k c.args.at.now end c.loop-k.invariant.marks

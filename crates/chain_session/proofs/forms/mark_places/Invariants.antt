@@ -1,0 +1,9 @@
+use Rattle.std.proofs.Common.{◌≡◌, set}
+use Rattle.chain_session.proofs.Marks.{marked}
+use Rattle.chain_session.proofs.forms.mark_places.Given as goal
+
+abbrev pub invariant-loop-k : goal.invariant-loop-k
+invariant-loop-k l = record {
+  lists : l.all.lists ≡ l.initial.all.lists;
+  marks : l.all.marks ≡ set l.initial.all.marks l.p (marked l.k l.at);
+}

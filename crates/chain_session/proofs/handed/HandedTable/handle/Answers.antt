@@ -1,0 +1,19 @@
+use Rattle.std.proofs.Common.{◌∙◌, ap, sym, arith}
+use Rattle.chain_model.specs.Handed.{handle_in}
+use Rattle.chain_session.proofs.Places.{handle_found, handle_missing, place_within}
+use Rattle.chain_session.proofs.handed.HandedTable.handle.Goals as goal
+
+pub index-requires : goal.index-requires
+index-requires c =
+    let within = place_within c.self.inside.list.items c.args.object c.in-Some.place (sym (c.self.invariant c.args.object) ∙ (sym c.get.ensures ∙ c.in-Some.is)) in
+    omega (arith, c.self.inside.list.ok.0)
+
+pub returns-in-None : goal.returns-in-None
+returns-in-None c =
+    handle_missing c.self.inside.list.items c.args.object (sym (c.self.invariant c.args.object) ∙ (sym c.get.ensures ∙ c.in-None.is))
+    ∙ ap (λ hs. handle_in hs c.args.object) c.self.view_is
+
+pub returns-in-Some : goal.returns-in-Some
+returns-in-Some c =
+    handle_found c.self.inside.list.items c.args.object c.in-Some.place c.index.result.now (sym (c.self.invariant c.args.object) ∙ (sym c.get.ensures ∙ c.in-Some.is)) c.index.ensures
+    ∙ ap (λ hs. handle_in hs c.args.object) c.self.view_is

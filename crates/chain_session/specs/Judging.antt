@@ -1,0 +1,71 @@
+-- How a call is judged at its begin. Source: this project.
+use Rattle.std.specs.Prelude.{◌≡◌, ◌≤◌, ℕ, Bool, true, false, not, ◌||◌, if◌then◌else◌, Option, Some, None, List, [], ◌∷◌, length, map}
+use Rattle.command_tables.specs.Calls.{call_content}
+use Rattle.command_tables.specs.Table.{row_of}
+use Rattle.command_tables.specs.declared.types.Rule.TheVariants as rule
+use Rattle.model_driver.specs.Driver.{FitsRow}
+use Rattle.object_model.specs.declared.Argument.{Argument}
+use Rattle.object_model.specs.declared.Object.{Object}
+use Rattle.object_model.specs.Findings.{Findings, Report, is_failing}
+use Rattle.object_model.specs.Objects.{is_in}
+use Rattle.object_model.specs.Rules.{Failure, failure, loader_failures}
+use Rattle.replay_model.specs.Past.{Opened}
+use Rattle.layer_model.specs.Walks.{PartState, Walked, enter_parts, nothing_found}
+use Rattle.lifetime_layer.specs.declared.verdict.Verdict.{Verdict}
+use Rattle.lifetime_layer.specs.Reports.{reports_of}
+use Rattle.chain_model.specs.Chained.{form_by}
+use Rattle.chain_model.specs.Handed.{Handed, handle_in}
+use Rattle.chain_model.specs.Simulated.{base_of, found_by}
+use Rattle.dispatch_chain.specs.Holding.{IsHeldOf}
+use Rattle.dispatch_chain.specs.Seats.{kinds_of}
+use Rattle.chain_session.specs.declared.call.OpenCall.{OpenCall}
+use Rattle.chain_session.specs.Opened.{opened_of}
+
+-- ---- the shape of a call
+
+-- the arguments of a call fit its command's row, whatever handles they have
+pub record FitsCall (o : Opened) : Type 0 where
+  pub row : (g : Argument → ℕ) → FitsRow (row_of o.cmd).params (map (map g) o.args)
+  pub params : length o.args ≤ 6
+  pub results : length o.results ≤ 1024
+
+-- ---- what is found
+
+-- the walk of a call down parts, where objects have these handles above the first
+abbrev pub walk_at : List PartState → List Handed → Opened → Walked
+walk_at states handed o = enter_parts o.thread o.number 1 states (form_by (handle_in handed) (base_of o) o.args)
+
+-- the loader's report
+abbrev pub loader_report : Report
+loader_report = record { place = 0; failure = failure 0 0 rule.Parameter 0 }
+
+-- the place of the last report
+abbrev pub last_place : List Report → Option ℕ
+last_place [] = None
+last_place (r ∷ []) = Some r.place
+last_place (r ∷ q ∷ rs) = last_place (q ∷ rs)
+
+-- the place that stops a call, which has the last report
+abbrev pub stopped_by : Bool → List Report → Option ℕ
+stopped_by skip reports = if skip then last_place reports else None
+
+-- what the loader finds, where these objects live
+abbrev pub found_first : List Object → Opened → List Failure
+found_first living o = loader_failures (is_in living) (row_of o.cmd).params o.args
+
+-- a call comes to the parts: its chain isn't refused, and the loader doesn't report it
+abbrev pub comes_down : List Object → Opened → Bool
+comes_down living o = not (o.refused || is_failing (found_first living o))
+
+-- all that is found at a call
+abbrev pub found_at : List Object → List PartState → List Handed → Opened → Findings
+found_at living states handed o = if o.refused then nothing_found else found_by (found_first living o) (walk_at states handed o).found
+
+-- A call was judged: where it stops, what was found, what the parts keep then, and the call as it stood above each part that it came to and below
+-- the last.
+pub record IsJudged (living : List Object) (handed : List Handed) (before : List PartState) (o : Opened) (new : OpenCall) (verdict : Verdict) (after : List PartState) : Type 0 where
+  pub opened : opened_of new ≡ record o { stop = (found_at living before handed o).stop }
+  pub reports : reports_of verdict.findings.items ≡ (found_at living before handed o).reports
+  pub states : after ≡ (if comes_down living o then (walk_at before handed o).states else before)
+  pub bottom : comes_down living o ≡ true → call_content new.bottom ≡ (walk_at before handed o).bottom
+  pub held : IsHeldOf new.held (kinds_of before) (if comes_down living o then (walk_at before handed o).forms else [])

@@ -1,0 +1,13 @@
+pub mod Opened
+pub mod Handed
+pub mod Passed
+pub mod Opening
+pub mod Judging
+pub mod Telling
+pub mod Sending
+pub mod Shown
+pub mod Beginning
+pub mod Keeping
+pub mod Creation
+pub mod Reporting
+pub mod Standing

@@ -1,0 +1,163 @@
+// The begin of a call.
+ghost use Rattle.std.specs.Prelude.{◌≡◌, ◌++◌, ◌+◌, ◌<◌, ◌^◌, [], List, false, length, map, IfErr, IfOk, OnErr, OnOk};
+ghost use Rattle.std.specs.List.{AllByRecursion};
+ghost use Rattle.command_tables.specs.Calls.{call_content};
+ghost use Rattle.model_driver.specs.Driver.{HasShape};
+ghost use Rattle.object_model.specs.declared.PartKind.{PartKind};
+ghost use Rattle.replay_model.specs.Past.{is_skipped};
+ghost use Rattle.terminator.specs.Calls.{targets_of};
+ghost use Rattle.chain_build.specs.Setup.{setup_content};
+ghost use Rattle.report_text.specs.Setups.{trace_setup};
+ghost use Rattle.dispatch_chain.specs.Seats.{kinds_of};
+ghost use Rattle.chain_session.specs.Beginning.{BeginsAs, CanBegin, CutShort, Tells};
+ghost use Rattle.command_tables.specs.Tests.{same_command};
+ghost use Rattle.command_tables.specs.declared.types.CommandId.TheVariants as CommandId;
+ghost use Rattle.chain_session.specs.Creation.{IsFault, IsStart, refusal_in};
+ghost use Rattle.chain_session.specs.Judging.{FitsCall, IsJudged};
+ghost use Rattle.chain_session.specs.Opened.{opened_of};
+ghost use Rattle.chain_session.specs.Opening.{begin_content, opened_first};
+ghost use Rattle.chain_session.specs.Sending.{calls_due};
+ghost use Rattle.chain_session.specs.Shown.{kinds_chained};
+ghost use Rattle.chain_session.specs.Telling.{FrontAsked};
+
+use crate::call::OpenCall;
+use crate::counting::keep_begun;
+use crate::creation::{Creation, create};
+use crate::error::SessionError;
+use crate::judging::judge;
+use crate::kept::Kept;
+use crate::opening::{Beginning, open_call};
+use crate::reporting::put_reports;
+use crate::room::Room;
+use crate::sending::send;
+use chain_build::{Chain, Setup};
+use command_tables::{Code, NoMemory};
+use dispatch_chain::DispatchTable;
+use lifetime_layer::Verdict;
+use model_driver::Driver;
+
+/// The code with which the chain of a call is refused, or the chain that comes in force where the call succeeds.
+#[derive(Drop)]
+pub(crate) struct Start {
+    pub(crate) refusal: Option<Code>,
+    pub(crate) chain: Option<Chain>,
+}
+
+fn start_of(creation: Creation) -> Start
+    ensures refusal { result.refusal ≡ refusal_in creation }
+    ensures chain { (kinds : List PartKind) → IsStart kinds creation → kinds_chained result.chain ≡ kinds }
+{
+    match creation {
+        Creation::None => Start {
+            refusal: None,
+            chain: None,
+        },
+        Creation::Refused(code) => Start {
+            refusal: Some(code),
+            chain: None,
+        },
+        Creation::Starts(chain) => Start {
+            refusal: None,
+            chain: Some(chain),
+        },
+    }
+}
+
+// The call of a begin, judged.
+#[tactic(auto, using(crate::proofs::Assembled::judged_first))]
+fn open_judged(
+    table: &DispatchTable,
+    kept: &mut Kept,
+    room: &mut Room,
+    number: u64,
+    begin: Beginning,
+    start: Start,
+    verdict: &mut Verdict,
+) -> Result<OpenCall, NoMemory>
+    requires table { table.now.rows ≡ kinds_of kept.old.states }
+    requires fits { FitsCall (opened_first number kept.old.names (begin_content begin) start.refusal) }
+    requires goes { verdict.old.skip ≡ false }
+    requires empty { verdict.old.findings.items ≡ [] }
+    ensures judged { IfOk result (λ c. IsJudged kept.old.objects.living kept.old.handed kept.old.states (opened_first number kept.old.names (begin_content begin.entry) start.refusal) c verdict.new kept.new.states) }
+    ensures refusal { IfOk result (λ c. c.refusal ≡ start.refusal) }
+    ensures chain { IfOk result (λ c. c.chain ≡ start.chain) }
+    ensures replies { IfOk result (λ c. c.replies.items ≡ []) }
+    ensures kept { kept.new ≡ record kept.old { states = kept.new.states } }
+    ensures kinds { kinds_of kept.new.states ≡ kinds_of kept.old.states }
+{
+    let mut call = open_call(room, &kept.names, number, begin, start.refusal, start.chain)?;
+    judge(
+        table,
+        &mut kept.states,
+        &kept.objects,
+        &kept.handed,
+        &mut call,
+        &mut room.handles,
+        verdict,
+    )?;
+    Ok(call)
+}
+
+// The drivers of a call are told, its reports are written, and it is kept.
+fn tell_and_keep<D: Driver>(
+    kept: &mut Kept,
+    room: &mut Room,
+    call: OpenCall,
+    begin: Beginning,
+    verdict: &Verdict,
+    driver: &mut D,
+    lines: &mut Vec<u8>,
+) -> Result<(), NoMemory>
+    requires shapes { is_skipped (opened_of call) ≡ false → AllByRecursion HasShape (targets_of kept.old.terminator (call_content call.bottom)) }
+    requires drivers { call.drivers.items ≡ [] }
+    requires replies { call.replies.items ≡ [] }
+    ensures ok { OnOk result (Tells kept.old call (begin_content begin.entry) verdict.now kept.new (D.log driver.old) (D.log driver.new) lines.old.items lines.new.items) }
+    ensures err { OnErr result (FrontAsked (calls_due kept.old.terminator call) (D.log driver.old) (D.log driver.new)) }
+    ensures states { kept.new.states ≡ kept.old.states }
+    ensures policy { D.answers_by driver.new ≡ D.answers_by driver.old }
+{
+    let mut call = call;
+    let number = call.number;
+    send(
+        room.alloc,
+        &kept.terminator,
+        &mut call,
+        &mut room.targets,
+        driver,
+    )?;
+    put_reports(number, begin.cmd, begin.args, &verdict.findings, lines)?;
+    keep_begun(kept, call, verdict.findings.len())?;
+    Ok(())
+}
+
+/// The begin of a call: what is found at it is written behind the lines of its chain, its drivers are told, and it is kept as an open call.
+/// `Chain` comes where the chain of a vkCreateInstance would have more than 64 layers. After an error what is kept is for dropping, the
+/// first so many of the drivers were told, and anything may stand behind the lines.
+pub(crate) fn begin_call<D: Driver>(
+    table: &DispatchTable,
+    kept: &mut Kept,
+    room: &mut Room,
+    number: u64,
+    begin: Beginning,
+    setup: &Setup,
+    driver: &mut D,
+    lines: &mut Vec<u8>,
+) -> Result<(), SessionError>
+    requires table { table.now.rows ≡ kinds_of kept.old.states }
+    requires can { CanBegin (trace_setup (setup_content setup.now)) kept.old (begin_content begin) }
+    requires number { number ≡ kept.old.calls + 1 }
+    requires few { length (setup_content setup.now).drivers.list < 2 ^ 32 }
+    ensures ok { OnOk result (BeginsAs (trace_setup (setup_content setup.now)) kept.old (begin_content begin.entry) kept.new (D.log driver.old) (D.log driver.new) lines.old.items lines.new.items) }
+    ensures err { OnErr result (CutShort (trace_setup (setup_content setup.now)) kept.old (begin_content begin.entry) (D.log driver.old) (D.log driver.new)) }
+    ensures fault { IfErr result (IsFault (same_command begin.entry.cmd CommandId.CreateInstance) ((trace_setup (setup_content setup.now)).outcome begin.entry.payload.now)) }
+    ensures kinds { kinds_of kept.new.states ≡ kinds_of kept.old.states }
+    ensures policy { D.answers_by driver.new ≡ D.answers_by driver.old }
+{
+    let creation = create(room.alloc, number, begin.cmd, begin.payload, setup, lines)?;
+    let start = start_of(creation);
+    let mut verdict = room.take_verdict();
+    let call = open_judged(table, kept, room, number, begin, start, &mut verdict)?;
+    tell_and_keep(kept, room, call, begin, &verdict, driver, lines)?;
+    room.keep_verdict(verdict);
+    Ok(())
+}

@@ -1,0 +1,139 @@
+// The session.
+ghost use Rattle.std.specs.Prelude.{◌≡◌, ◌+◌, ◌<◌, ◌^◌, length, None, IfErr, OnErr, OnOk};
+ghost use Rattle.std.specs.Option.{option_map};
+ghost use Rattle.command_tables.specs.Tests.{same_command};
+ghost use Rattle.command_tables.specs.declared.types.CommandId.TheVariants as CommandId;
+ghost use Rattle.trace_format.specs.Content.{Begin, content};
+ghost use Rattle.chain_build.specs.Setup.{setup_content};
+ghost use Rattle.report_text.specs.Setups.{trace_setup};
+ghost use Rattle.chain_session.specs.Creation.{IsFault};
+ghost use Rattle.chain_session.specs.Opening.{begin_content};
+ghost use Rattle.chain_session.specs.Standing.{Advances, BeginsCall, CanCome, CutAt, CutBefore, IsFaultAt, calls_before};
+
+use crate::error::SessionError;
+use crate::opening::Beginning;
+use crate::started::Started;
+use chain_build::Setup;
+use dispatch_chain::Kit;
+use model_driver::Driver;
+use std::alloc::Global;
+use trace_format::Event;
+
+/// What is kept of the events of a trace so far. Nothing is kept before the first begin, which brings the setup and the kit.
+#[derive(Drop)]
+pub struct Session {
+    alloc: Global,
+    pub(crate) started: Option<Started>,
+}
+
+impl Session {
+    /// A session for a trace of which nothing was replayed yet. Takes no memory.
+    pub fn new(alloc: Global) -> Session
+        ensures { option_map (λ x. x.kept) result.started ≡ None }
+    {
+        Session {
+            alloc,
+            started: None,
+        }
+    }
+
+    // The first begin of a trace.
+    fn begin_first<D: Driver>(
+        &mut self,
+        number: u64,
+        begin: Beginning,
+        setup: &Setup,
+        kit: &Kit,
+        driver: &mut D,
+        lines: &mut Vec<u8>,
+    ) -> Result<(), SessionError>
+        requires first { option_map (λ x. x.kept) self.old.started ≡ None }
+        requires can { CanCome (trace_setup (setup_content setup.now)) (option_map (λ x. x.kept) self.old.started) (Begin (begin_content begin)) }
+        requires number { number ≡ calls_before (option_map (λ x. x.kept) self.old.started) + 1 }
+        requires few { length (setup_content setup.now).drivers.list < 2 ^ 32 }
+        ensures ok { OnOk result (Advances (trace_setup (setup_content setup.now)) (option_map (λ x. x.kept) self.old.started) (option_map (λ x. x.kept) self.new.started) (Begin (begin_content begin.entry)) (D.log driver.old) (D.log driver.new) lines.old.items lines.new.items) }
+        ensures err { OnErr result (CutBefore (trace_setup (setup_content setup.now)) (option_map (λ x. x.kept) self.old.started) (begin_content begin.entry) (D.log driver.old) (D.log driver.new)) }
+        ensures fault { IfErr result (IsFault (same_command begin.entry.cmd CommandId.CreateInstance) ((trace_setup (setup_content setup.now)).outcome begin.entry.payload.now)) }
+        ensures policy { D.answers_by driver.new ≡ D.answers_by driver.old }
+    {
+        let mut started = Started::new(self.alloc, setup, kit)?;
+        match started.begin(number, begin, setup, driver, lines) {
+            Err(error) => Err(error),
+            Ok(()) => {
+                self.started = Some(started);
+                Ok(())
+            }
+        }
+    }
+
+    // A begin, by what it says.
+    fn begin_with<D: Driver>(
+        &mut self,
+        number: u64,
+        begin: Beginning,
+        setup: &Setup,
+        kit: &Kit,
+        driver: &mut D,
+        lines: &mut Vec<u8>,
+    ) -> Result<(), SessionError>
+        requires can { CanCome (trace_setup (setup_content setup.now)) (option_map (λ x. x.kept) self.old.started) (Begin (begin_content begin)) }
+        requires number { number ≡ calls_before (option_map (λ x. x.kept) self.old.started) + 1 }
+        requires few { length (setup_content setup.now).drivers.list < 2 ^ 32 }
+        ensures ok { OnOk result (Advances (trace_setup (setup_content setup.now)) (option_map (λ x. x.kept) self.old.started) (option_map (λ x. x.kept) self.new.started) (Begin (begin_content begin.entry)) (D.log driver.old) (D.log driver.new) lines.old.items lines.new.items) }
+        ensures err { OnErr result (CutBefore (trace_setup (setup_content setup.now)) (option_map (λ x. x.kept) self.old.started) (begin_content begin.entry) (D.log driver.old) (D.log driver.new)) }
+        ensures fault { IfErr result (IsFault (same_command begin.entry.cmd CommandId.CreateInstance) ((trace_setup (setup_content setup.now)).outcome begin.entry.payload.now)) }
+        ensures policy { D.answers_by driver.new ≡ D.answers_by driver.old }
+    {
+        match &mut self.started {
+            None => self.begin_first(number, begin, setup, kit, driver, lines),
+            Some(started) => match started.begin(number, begin, setup, driver, lines) {
+                Err(error) => Err(error),
+                Ok(()) => Ok(()),
+            },
+        }
+    }
+
+    /// The begin of a call: the lines of its chain and of what is found at it are added, and its drivers are told the call where it isn't
+    /// skipped. `Chain` comes where the chain of a vkCreateInstance would have more than 64 layers. After an error the session is for
+    /// dropping alone, the first so many of the drivers were told, and anything may stand behind the lines.
+    pub fn begin<D: Driver>(
+        &mut self,
+        number: u64,
+        event: &Event,
+        setup: &Setup,
+        kit: &Kit,
+        driver: &mut D,
+        lines: &mut Vec<u8>,
+    ) -> Result<(), SessionError>
+        requires begins { BeginsCall (content event.now) }
+        requires can { CanCome (trace_setup (setup_content setup.now)) (option_map (λ x. x.kept) self.old.started) (content event.now) }
+        requires number { number ≡ calls_before (option_map (λ x. x.kept) self.old.started) + 1 }
+        requires few { length (setup_content setup.now).drivers.list < 2 ^ 32 }
+        ensures ok { OnOk result (Advances (trace_setup (setup_content setup.now)) (option_map (λ x. x.kept) self.old.started) (option_map (λ x. x.kept) self.new.started) (content event.now) (D.log driver.old) (D.log driver.new) lines.old.items lines.new.items) }
+        ensures err { OnErr result (CutAt (trace_setup (setup_content setup.now)) (option_map (λ x. x.kept) self.old.started) (content event.now) (D.log driver.old) (D.log driver.new)) }
+        ensures fault { IfErr result (IsFaultAt (trace_setup (setup_content setup.now)) (content event.now)) }
+        ensures policy { D.answers_by driver.new ≡ D.answers_by driver.old }
+    {
+        match event {
+            Event::Return { .. } => Ok(()),
+            Event::Begin {
+                thread,
+                cmd,
+                args,
+                results,
+                code,
+                payload,
+            } => {
+                let begin = Beginning {
+                    thread: *thread,
+                    cmd: *cmd,
+                    args,
+                    results,
+                    code: *code,
+                    payload,
+                };
+                self.begin_with(number, begin, setup, kit, driver, lines)
+            }
+        }
+    }
+}

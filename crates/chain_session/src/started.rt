@@ -1,0 +1,111 @@
+// A session to which a setup and a kit were given.
+ghost use Rattle.std.specs.Prelude.{◌≡◌, ◌+◌, ◌<◌, ◌^◌, [], length, map, IfErr, IfOk, OnErr, OnOk};
+ghost use Rattle.command_tables.specs.Tests.{same_command};
+ghost use Rattle.command_tables.specs.declared.types.CommandId.TheVariants as CommandId;
+ghost use Rattle.chain_build.specs.Setup.{setup_content};
+ghost use Rattle.report_text.specs.Setups.{trace_setup};
+ghost use Rattle.dispatch_chain.specs.Seats.{kinds_of};
+ghost use Rattle.replay_model.specs.Setup.{Setup as TraceSetup};
+ghost use Rattle.session_model.specs.Session.{nothing_kept};
+ghost use Rattle.chain_session.specs.Beginning.{BeginsAs, CanBegin, CutShort};
+ghost use Rattle.chain_session.specs.Creation.{IsFault};
+ghost use Rattle.chain_session.specs.Opening.{begin_content};
+ghost use Rattle.chain_session.specs.Shown.{Shows};
+
+use crate::beginning::begin_call;
+use crate::error::SessionError;
+use crate::handed::HandedTable;
+use crate::kept::Kept;
+use crate::opening::Beginning;
+use crate::room::Room;
+use chain_build::{Chain, Setup};
+use command_tables::NoMemory;
+use dispatch_chain::{DispatchTable, Kit, LayerStates, Terminator};
+use model_driver::Driver;
+use session_tables::{NameTable, ObjectTable, RetrievedTable};
+use std::alloc::Global;
+
+/// What is kept, and the stored rows of the chain in force, which may have no parts.
+#[derive(Drop)]
+pub struct Started {
+    pub(crate) kept: Kept,
+    table: DispatchTable,
+    room: Room,
+    ghost agrees: { table.rows ≡ kinds_of kept.states },
+}
+
+// A chain of no parts.
+fn no_chain(alloc: Global) -> Chain
+    ensures { result.parts.items ≡ [] }
+{
+    Chain {
+        layers: Vec::new(alloc),
+        parts: Vec::new(alloc),
+        drivers: Vec::new(alloc),
+        notes: Vec::new(alloc),
+    }
+}
+
+// Nothing is kept yet, above so many drivers.
+fn nothing(alloc: Global, drivers: u32) -> Kept
+    ensures shows { (s : TraceSetup) → drivers ≡ s.drivers → Shows s result nothing_kept }
+    ensures states { result.states ≡ [] }
+{
+    Kept {
+        calls: 0,
+        skipped: 0,
+        reports: 0,
+        names: NameTable::new(alloc),
+        objects: ObjectTable::new(alloc),
+        retrieved: RetrievedTable::new(alloc),
+        handed: HandedTable::new(alloc),
+        terminator: Terminator::new(alloc, drivers),
+        states: LayerStates::none(alloc),
+        open_calls: Vec::new(alloc),
+    }
+}
+
+impl Started {
+    /// Nothing is kept yet, and no chain is in force.
+    pub(crate) fn new(alloc: Global, setup: &Setup, kit: &Kit) -> Result<Started, NoMemory>
+        requires few { length (setup_content setup.now).drivers.list < 2 ^ 32 }
+        ensures { IfOk result (λ x. Shows (trace_setup (setup_content setup.now)) x.kept nothing_kept) }
+    {
+        let table = DispatchTable::build(alloc, &no_chain(alloc), kit)?;
+        let kept = nothing(alloc, setup.drivers.list.len() as u32);
+        Ok(Started {
+            kept,
+            table,
+            room: Room::new(alloc),
+        })
+    }
+
+    /// The begin of a call.
+    pub(crate) fn begin<D: Driver>(
+        &mut self,
+        number: u64,
+        begin: Beginning,
+        setup: &Setup,
+        driver: &mut D,
+        lines: &mut Vec<u8>,
+    ) -> Result<(), SessionError>
+        requires can { CanBegin (trace_setup (setup_content setup.now)) self.old.kept (begin_content begin) }
+        requires number { number ≡ self.old.kept.calls + 1 }
+        requires few { length (setup_content setup.now).drivers.list < 2 ^ 32 }
+        ensures ok { OnOk result (BeginsAs (trace_setup (setup_content setup.now)) self.old.kept (begin_content begin.entry) self.new.kept (D.log driver.old) (D.log driver.new) lines.old.items lines.new.items) }
+        ensures err { OnErr result (CutShort (trace_setup (setup_content setup.now)) self.old.kept (begin_content begin.entry) (D.log driver.old) (D.log driver.new)) }
+        ensures fault { IfErr result (IsFault (same_command begin.entry.cmd CommandId.CreateInstance) ((trace_setup (setup_content setup.now)).outcome begin.entry.payload.now)) }
+        ensures policy { D.answers_by driver.new ≡ D.answers_by driver.old }
+    {
+        begin_call(
+            &self.table,
+            &mut self.kept,
+            &mut self.room,
+            number,
+            begin,
+            setup,
+            driver,
+            lines,
+        )
+    }
+}
