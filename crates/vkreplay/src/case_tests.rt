@@ -1,13 +1,10 @@
 // Stored runs with all that the driver was told and answered.
-use crate::tests::{sink, words_of};
-use crate::top::replay_main;
+use crate::tests::{Streams, run_with, streams_at};
 use command_tables::{Code, row};
-use env_filters::EnvList;
 use itoa::Buffer;
 use model_driver::{DriverCall, DriverReply, ModelDriver, RecordingDriver};
-use replay_base::{MemSource, MemTree};
 use replay_core::Status;
-use std::alloc::Global;
+use std::alloc::{AllocError, Global};
 use std::process::Abort;
 use std::test::Fail;
 
@@ -22,7 +19,7 @@ struct Case {
     calls: &'static str,
 }
 
-const CASES: [Case; 12] = [
+static CASES: [Case; 12] = [
     Case {
         trace: "vktrace 1\nb 1 vkCreateInstance = %1.1 VK_SUCCESS\nr 1\nb 1 vkEnumeratePhysicalDevices %1.1 = %1.2 VK_SUCCESS\nr 1\nb 1 vkEnumeratePhysicalDevices %1.1 = %1.3 VK_SUCCESS\nr 1\nb 1 vkCreateDevice %1.2 = %1.4 VK_SUCCESS\nr 1\nb 1 vkCreateDevice %1.2 = %1.5 VK_SUCCESS\nr 1\nb 1 vkDestroyInstance %1.1 void\nr 1\nb 1 vkCreateDevice %1.2 = %1.6 VK_SUCCESS\nr 1\nb 1 vkEnumeratePhysicalDevices %1.1 = %1.7 VK_SUCCESS\nr 1\nb 1 vkEnumeratePhysicalDevices %1.1 = %1.8 VK_SUCCESS\nr 1\nb 1 vkCreateDevice %1.7 = %1.9 VK_SUCCESS\nr 1\nb 1 vkDestroyInstance %1.1 void\nr 1\n",
         status: Status::Reported,
@@ -109,13 +106,16 @@ const CASES: [Case; 12] = [
     },
 ];
 
-fn put_handles(text: &mut Vec<u8>, handles: &[u64]) -> Result<(), Fail> {
+fn put_number(text: &mut Vec<u8>, number: u64) -> Result<(), AllocError> {
+    text.extend_from_slice(Buffer::new().format(number).as_bytes())
+}
+
+fn put_handles(text: &mut Vec<u8>, handles: &[u64]) -> Result<(), AllocError> {
     text.extend_from_slice(b"[")?;
     for handle in handles {
-        text.extend_from_slice(Buffer::new().format(*handle).as_bytes())?;
+        put_number(text, *handle)?;
     }
-    text.extend_from_slice(b"]")?;
-    Ok(())
+    text.extend_from_slice(b"]")
 }
 
 fn code_name(code: Option<Code>) -> &'static str {
@@ -125,49 +125,74 @@ fn code_name(code: Option<Code>) -> &'static str {
     }
 }
 
-fn put_call(text: &mut Vec<u8>, call: &DriverCall, reply: &DriverReply) -> Result<(), Fail> {
-    let number = u64::from(call.driver).saturating_add(1);
-    text.extend_from_slice(Buffer::new().format(number).as_bytes())?;
+// The driver's number and the command.
+fn put_command(text: &mut Vec<u8>, call: &DriverCall) -> Result<(), AllocError> {
+    put_number(text, u64::from(call.driver).saturating_add(1))?;
     text.extend_from_slice(b" ")?;
-    text.extend_from_slice(row(call.body.cmd).name.as_bytes())?;
+    text.extend_from_slice(row(call.body.cmd).name.as_bytes())
+}
+
+fn put_arguments(text: &mut Vec<u8>, call: &DriverCall) -> Result<(), AllocError> {
     for p in 0..call.body.args.len() {
         text.extend_from_slice(b" ")?;
         put_handles(text, call.body.args.param(p))?;
     }
-    text.extend_from_slice(b" asked=")?;
-    text.extend_from_slice(Buffer::new().format(call.body.asked).as_bytes())?;
-    text.extend_from_slice(b" ")?;
-    text.extend_from_slice(code_name(call.body.code).as_bytes())?;
-    text.extend_from_slice(b" -> ")?;
-    put_handles(text, &reply.handles)?;
-    text.extend_from_slice(b"\n")?;
     Ok(())
 }
 
+fn put_asked(text: &mut Vec<u8>, call: &DriverCall) -> Result<(), AllocError> {
+    text.extend_from_slice(b" asked=")?;
+    put_number(text, u64::from(call.body.asked))?;
+    text.extend_from_slice(b" ")?;
+    text.extend_from_slice(code_name(call.body.code).as_bytes())
+}
+
+fn put_call(text: &mut Vec<u8>, call: &DriverCall, reply: &DriverReply) -> Result<(), AllocError> {
+    put_command(text, call)?;
+    put_arguments(text, call)?;
+    put_asked(text, call)?;
+    text.extend_from_slice(b" -> ")?;
+    put_handles(text, &reply.handles)?;
+    text.extend_from_slice(b"\n")
+}
+
 fn runs_as_stored(rt: &impl Abort, alloc: Global, case: &Case) -> Result<(), Fail> {
-    let words = words_of(alloc, "run")?;
-    let bytes = Vec::from_slice(alloc, case.trace.as_bytes())?;
-    let mut trace = MemSource::new(bytes, Vec::new(alloc));
-    let mut out = sink(alloc, 0)?;
-    let mut errs = sink(alloc, 0)?;
+    let mut streams = streams_at(alloc, case.trace)?;
     let mut driver = RecordingDriver::new(alloc, ModelDriver::new(alloc));
-    let finished = replay_main(
-        alloc,
-        &words,
-        &EnvList::new(alloc),
-        &mut MemTree::new(alloc),
-        &mut trace,
-        &mut out,
-        &mut errs,
-        &mut driver,
+    let finished = run_with(alloc, "run", &mut streams, &mut driver)?;
+    assert_eq!(rt; finished.status, case.status);
+    is_written(rt, &streams, case);
+    is_told(rt, alloc, driver.log(), case)
+}
+
+fn is_written(rt: &impl Abort, streams: &Streams, case: &Case) {
+    assert!(rt;
+        streams.out.bytes() == case.out.as_bytes(),
+        "{}",
+        case.trace
     );
+    assert!(rt;
+        streams.errs.bytes() == case.errs.as_bytes(),
+        "{}",
+        case.trace
+    );
+}
+
+fn all_calls(alloc: Global, log: &[(DriverCall, DriverReply)]) -> Result<Vec<u8>, AllocError> {
     let mut calls = Vec::new(alloc);
-    for (call, reply) in driver.log() {
+    for (call, reply) in log {
         put_call(&mut calls, call, reply)?;
     }
-    assert_eq!(rt; finished.status, case.status);
-    assert!(rt; out.bytes() == case.out.as_bytes(), "{}", case.trace);
-    assert!(rt; errs.bytes() == case.errs.as_bytes(), "{}", case.trace);
+    Ok(calls)
+}
+
+fn is_told(
+    rt: &impl Abort,
+    alloc: Global,
+    log: &[(DriverCall, DriverReply)],
+    case: &Case,
+) -> Result<(), Fail> {
+    let calls = all_calls(alloc, log)?;
     assert!(rt; calls.as_slice() == case.calls.as_bytes(), "{}", case.trace);
     Ok(())
 }

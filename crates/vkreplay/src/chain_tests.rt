@@ -1,6 +1,6 @@
 // Chains that are shown: what each tree with its variables prints, says and answers.
 use crate::tests::{sink, words_of};
-use crate::top::{Finished, replay_main};
+use crate::top::replay_main;
 use env_filters::EnvList;
 use model_driver::ModelDriver;
 use replay_base::{MemSink, MemSource, MemTree};
@@ -73,7 +73,7 @@ const EMPTY: Shown = Shown {
     errs: "",
 };
 
-const CASES: [Shown; 11] = [
+static CASES: [Shown; 11] = [
     EMPTY,
     Shown {
         files: &[DRIVER, VALIDATION],
@@ -155,18 +155,30 @@ const CASES: [Shown; 11] = [
 pub fn variables(alloc: Global, pairs: Pairs) -> Result<EnvList, Fail> {
     let mut env = EnvList::new(alloc);
     for (name, value) in pairs {
-        env.put(name, value).ok().ok_or("no memory")?;
+        set(&mut env, name, value)?;
     }
     Ok(env)
+}
+
+// One variable more.
+pub fn set(env: &mut EnvList, name: &str, value: &str) -> Result<(), Fail> {
+    env.put(name, value).ok().ok_or("no memory")?;
+    Ok(())
 }
 
 // A tree of these files.
 pub fn tree_of(alloc: Global, files: Pairs) -> Result<MemTree, Fail> {
     let mut tree = MemTree::new(alloc);
     for (path, text) in files {
-        tree.put(path, text.as_bytes()).ok().ok_or("no memory")?;
+        put(&mut tree, path, text.as_bytes())?;
     }
     Ok(tree)
+}
+
+// One file more.
+pub fn put(tree: &mut MemTree, path: &str, bytes: &[u8]) -> Result<(), Fail> {
+    tree.put(path, bytes).ok().ok_or("no memory")?;
+    Ok(())
 }
 
 // What is shown of a tree, with its status and what is said.
@@ -178,29 +190,20 @@ pub struct Seen {
 }
 
 // Runs the program over a tree with an empty trace.
-pub fn seen_at(
+fn run_over(
     alloc: Global,
-    words: &str,
+    words: &[String],
     env: &EnvList,
     tree: &mut MemTree,
-) -> Result<Seen, Fail> {
-    let words = words_of(alloc, words)?;
+    out: &mut MemSink,
+    errs: &mut MemSink,
+) -> Status {
     let mut trace = MemSource::new(Vec::new(alloc), Vec::new(alloc));
-    let mut out = MemSink::new(alloc, 1_048_576, Vec::new(alloc))
-        .ok()
-        .ok_or("no memory")?;
-    let mut errs = sink(alloc, 0)?;
     let mut driver = ModelDriver::new(alloc);
-    let Finished { status, .. } = replay_main(
-        alloc,
-        &words,
-        env,
-        tree,
-        &mut trace,
-        &mut out,
-        &mut errs,
-        &mut driver,
-    );
+    replay_main(alloc, words, env, tree, &mut trace, out, errs, &mut driver).status
+}
+
+fn seen_of(alloc: Global, status: Status, out: &MemSink, errs: &MemSink) -> Result<Seen, Fail> {
     Ok(Seen {
         status,
         out: Vec::from_slice(alloc, out.bytes())?,
@@ -208,10 +211,44 @@ pub fn seen_at(
     })
 }
 
-fn is_shown(rt: &impl Abort, alloc: Global, case: &Shown) -> Result<(), Fail> {
+fn seen_with(
+    alloc: Global,
+    words: &[String],
+    env: &EnvList,
+    tree: &mut MemTree,
+) -> Result<Seen, Fail> {
+    let mut out = sink_of(alloc, 1_048_576)?;
+    let mut errs = sink(alloc, 0)?;
+    let status = run_over(alloc, words, env, tree, &mut out, &mut errs);
+    seen_of(alloc, status, &out, &errs)
+}
+
+// A sink with room for so many bytes.
+fn sink_of(alloc: Global, room: usize) -> Result<MemSink, Fail> {
+    Ok(
+        MemSink::new(alloc, room, Vec::new(alloc))
+            .ok()
+            .ok_or("no memory")?,
+    )
+}
+
+pub fn seen_at(
+    alloc: Global,
+    words: &str,
+    env: &EnvList,
+    tree: &mut MemTree,
+) -> Result<Seen, Fail> {
+    seen_with(alloc, &words_of(alloc, words)?, env, tree)
+}
+
+fn shown_of(alloc: Global, case: &Shown) -> Result<Seen, Fail> {
     let env = variables(alloc, case.env)?;
     let mut tree = tree_of(alloc, case.files)?;
-    let seen = seen_at(alloc, case.words, &env, &mut tree)?;
+    seen_at(alloc, case.words, &env, &mut tree)
+}
+
+fn is_shown(rt: &impl Abort, alloc: Global, case: &Shown) -> Result<(), Fail> {
+    let seen = shown_of(alloc, case)?;
     assert_eq!(rt; seen.status, case.status);
     assert!(rt; seen.out.as_slice() == case.out.as_bytes(), "{}", case.out);
     assert!(rt;
@@ -224,21 +261,23 @@ fn is_shown(rt: &impl Abort, alloc: Global, case: &Shown) -> Result<(), Fail> {
 
 #[test]
 fn chains_are_shown_as_they_must_be(rt: HostRuntime) -> Result<(), Fail> {
-    let alloc = rt.alloc();
-    for case in &CASES {
-        is_shown(&rt, alloc, case)?;
+    for case in CASES.iter() {
+        is_shown(&rt, rt.alloc(), case)?;
     }
     Ok(())
 }
 
+// A chain over a tree that fails at one of its calls.
+fn failed_at(alloc: Global, call: u64) -> Result<Seen, Fail> {
+    let mut tree = tree_of(alloc, &[DRIVER, VALIDATION])?;
+    tree.fail_at(call).ok().ok_or("no memory")?;
+    seen_at(alloc, "chain", &variables(alloc, &[HOME])?, &mut tree)
+}
+
 #[test]
 fn a_tree_that_fails_at_each_of_its_calls_shows_nothing(rt: HostRuntime) -> Result<(), Fail> {
-    let alloc = rt.alloc();
-    let env = variables(alloc, &[HOME])?;
     for call in 1..21 {
-        let mut tree = tree_of(alloc, &[DRIVER, VALIDATION])?;
-        tree.fail_at(call).ok().ok_or("no memory")?;
-        let seen = seen_at(alloc, "chain", &env, &mut tree)?;
+        let seen = failed_at(rt.alloc(), call)?;
         assert_eq!(rt; seen.status, Status::ReadFault);
         assert!(rt; seen.out.is_empty());
         assert!(rt; seen.errs.as_slice() == b"vkreplay: read fault\n".as_slice());

@@ -1,5 +1,7 @@
 // Which variables an environment comes to.
 use crate::environment::variables_of;
+use env_filters::EnvList;
+use std::alloc::{AllocError, Global};
 use std::env::{Env, FillError};
 use std::process::Abort;
 use std::test::Fail;
@@ -31,7 +33,7 @@ impl Env for Entries {
 }
 
 // Each name, and the value that it must have.
-const WANTED: [(&str, Option<&str>); 7] = [
+static WANTED: [(&str, Option<&str>); 7] = [
     ("HOME", Some("/home/a")),
     ("EMPTY", Some("")),
     ("TWO", Some("a=b")),
@@ -41,33 +43,46 @@ const WANTED: [(&str, Option<&str>); 7] = [
     ("LAST", Some("x")),
 ];
 
-#[test]
-fn the_first_of_two_counts(rt: HostRuntime) -> Result<(), Fail> {
-    let alloc = rt.alloc();
-    let mut entries = Vec::new(alloc);
+// An entry that isn't UTF-8 sets no name, so that a later one with its name counts.
+static ENTRIES: [&[u8]; 9] = [
+    b"HOME=/home/a",
+    b"EMPTY=",
+    b"HOME=/home/b",
+    b"EMPTY=set",
+    b"TWO=a=b",
+    b"NONE",
+    b"=nameless",
+    b"BYTES=\xff",
+    b"BYTES=text",
+];
+
+// A variable of 10,000 bytes with its name.
+fn long_entry(alloc: Global) -> Result<Vec<u8>, AllocError> {
     let mut long = Vec::from_slice(alloc, b"LONG=")?;
     long.resize(10_000, b'x')?;
-    // An entry that isn't UTF-8 sets no name, so that a later one with its name counts.
-    for entry in [
-        b"HOME=/home/a".as_slice(),
-        b"EMPTY=",
-        b"HOME=/home/b",
-        b"EMPTY=set",
-        b"TWO=a=b",
-        b"NONE",
-        b"=nameless",
-        b"BYTES=\xff",
-        b"BYTES=text",
-    ] {
+    Ok(long)
+}
+
+fn entries_of(alloc: Global) -> Result<Vec<Vec<u8>>, AllocError> {
+    let mut entries = Vec::new(alloc);
+    for entry in ENTRIES.iter() {
         entries.push(Vec::from_slice(alloc, entry)?)?;
     }
-    entries.push(long)?;
+    entries.push(long_entry(alloc)?)?;
     entries.push(Vec::from_slice(alloc, b"LAST=x")?)?;
-    let variables = variables_of(&Entries(entries), alloc)
-        .ok()
-        .ok_or("no memory")?;
-    for (name, value) in WANTED {
-        assert!(rt; variables.get(name) == value, "{}", name);
+    Ok(entries)
+}
+
+fn set_variables(alloc: Global) -> Result<EnvList, Fail> {
+    let entries = Entries(entries_of(alloc)?);
+    Ok(variables_of(&entries, alloc).ok().ok_or("no memory")?)
+}
+
+#[test]
+fn the_first_of_two_counts(rt: HostRuntime) -> Result<(), Fail> {
+    let variables = set_variables(rt.alloc())?;
+    for (name, value) in WANTED.iter() {
+        assert!(rt; variables.get(name) == *value, "{}", name);
     }
     assert_eq!(rt; variables.get("LONG").map(|value| value.len()), Some(9_995));
     Ok(())

@@ -2,12 +2,12 @@
 ghost use Rattle.std.specs.Prelude.{None};
 
 use crate::tests::{TWICE, TWICE_TEXT, sink, words_of};
-use crate::top::{Finished, replay_main};
+use crate::top::replay_main;
 use env_filters::EnvList;
-use model_driver::{ModelDriver, RecordingDriver};
-use replay_base::{Failed, MemTree, Sink, Source};
+use model_driver::{Driver, ModelDriver, RecordingDriver};
+use replay_base::{Failed, MemSink, MemTree, Sink, Source};
 use replay_core::Status;
-use std::alloc::Global;
+use std::alloc::{AllocError, Global};
 use std::process::Abort;
 use std::test::Fail;
 
@@ -71,37 +71,63 @@ struct Cut {
     told: usize,
 }
 
-fn cut_run(alloc: Global, read: usize, written: usize) -> Result<Cut, Fail> {
-    let words = words_of(alloc, "run")?;
-    let mut trace = ByteSource {
+fn source_at(alloc: Global, fails_at: usize) -> Result<ByteSource, AllocError> {
+    Ok(ByteSource {
         bytes: Vec::from_slice(alloc, TWICE.as_bytes())?,
         at: 0,
-        fails_at: read,
+        fails_at,
         faults: 0,
-    };
-    let mut out = ByteSink {
-        bytes: Vec::new(alloc),
-        fails_at: written,
-        faults: 0,
-    };
-    let mut errs = sink(alloc, 0)?;
-    let mut driver = RecordingDriver::new(alloc, ModelDriver::new(alloc));
-    let Finished { status, .. } = replay_main(
+    })
+}
+
+fn cut_with<D: Driver>(
+    alloc: Global,
+    words: &[String],
+    trace: &mut ByteSource,
+    out: &mut ByteSink,
+    errs: &mut MemSink,
+    driver: &mut D,
+) -> Status {
+    replay_main(
         alloc,
-        &words,
+        words,
         &EnvList::new(alloc),
         &mut MemTree::new(alloc),
-        &mut trace,
-        &mut out,
-        &mut errs,
-        &mut driver,
-    );
+        trace,
+        out,
+        errs,
+        driver,
+    )
+    .status
+}
+
+fn cut_of(
+    alloc: Global,
+    words: &[String],
+    mut trace: ByteSource,
+    mut errs: MemSink,
+    fails_at: usize,
+) -> Cut {
+    let mut out = ByteSink {
+        bytes: Vec::new(alloc),
+        fails_at,
+        faults: 0,
+    };
+    let mut driver = RecordingDriver::new(alloc, ModelDriver::new(alloc));
+    let status = cut_with(alloc, words, &mut trace, &mut out, &mut errs, &mut driver);
     let told = driver.log().len();
-    Ok(Cut {
+    Cut {
         status,
         out: out.bytes,
         told,
-    })
+    }
+}
+
+fn cut_run(alloc: Global, read: usize, written: usize) -> Result<Cut, Fail> {
+    let words = words_of(alloc, "run")?;
+    let trace = source_at(alloc, read)?;
+    let errs = sink(alloc, 0)?;
+    Ok(cut_of(alloc, &words, trace, errs, written))
 }
 
 #[test]

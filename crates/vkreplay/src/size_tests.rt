@@ -1,5 +1,7 @@
 // Chains of the most layers, meta-layers of the most levels, and searches of the most and the largest manifest files.
-use crate::chain_tests::{DRIVER, HOME, VALIDATION, VALIDATION_TEXT, seen_at, tree_of, variables};
+use crate::chain_tests::{
+    DRIVER, HOME, Seen, VALIDATION, VALIDATION_TEXT, put, seen_at, set, tree_of, variables,
+};
 use replay_base::MemTree;
 use replay_core::Status;
 use std::alloc::{AllocError, Global};
@@ -8,29 +10,52 @@ use std::test::Fail;
 
 const DRIVER_LINE: &str = "driver 1 /etc/vulkan/icd.d/a.json libvulkan_a.so\n";
 
-fn put(tree: &mut MemTree, path: &str, bytes: &[u8]) -> Result<(), Fail> {
-    tree.put(path, bytes).ok().ok_or("no memory")?;
-    Ok(())
+fn layer_path(alloc: Global, name: &str) -> Result<String, AllocError> {
+    format!(in alloc; "/usr/share/vulkan/explicit_layer.d/{name}.json")
+}
+
+fn layer_text(alloc: Global, name: &str, holds: &str) -> Result<String, AllocError> {
+    format!(in alloc;
+        "{{\"file_format_version\":\"1.0.0\",\"layer\":{{\"name\":\"{name}\",\"type\":\"GLOBAL\",{holds},\"api_version\":\"1.3.275\",\"implementation_version\":\"1\",\"description\":\"\"}}}}"
+    )
 }
 
 // An explicit layer's manifest, with its library or its components.
 fn put_layer(alloc: Global, tree: &mut MemTree, name: &str, holds: &str) -> Result<(), Fail> {
-    let path = format!(in alloc; "/usr/share/vulkan/explicit_layer.d/{name}.json")?;
-    let text = format!(in alloc;
-        "{{\"file_format_version\":\"1.0.0\",\"layer\":{{\"name\":\"{name}\",\"type\":\"GLOBAL\",{holds},\"api_version\":\"1.3.275\",\"implementation_version\":\"1\",\"description\":\"\"}}}}"
-    )?;
+    let path = layer_path(alloc, name)?;
+    let text = layer_text(alloc, name, holds)?;
     put(tree, path.as_str(), text.as_bytes())
+}
+
+// The name of a meta-layer, and that of what it holds: below the first is the validation layer.
+fn level_name(alloc: Global, level: u32) -> Result<String, AllocError> {
+    if level == 0 {
+        String::from_str(alloc, "VK_LAYER_KHRONOS_validation")
+    } else {
+        format!(in alloc; "VK_LAYER_m{level}")
+    }
+}
+
+fn components(alloc: Global, inner: &str) -> Result<String, AllocError> {
+    format!(in alloc; "\"component_layers\":[\"{inner}\"]")
+}
+
+fn put_level(alloc: Global, tree: &mut MemTree, level: u32) -> Result<(), Fail> {
+    let inner = level_name(alloc, level.saturating_sub(1))?;
+    let holds = components(alloc, inner.as_str())?;
+    put_layer(
+        alloc,
+        tree,
+        level_name(alloc, level)?.as_str(),
+        holds.as_str(),
+    )
 }
 
 // The validation layer, nine meta-layers of which each holds the one before, and one that holds itself.
 fn nested(alloc: Global) -> Result<MemTree, Fail> {
     let mut tree = tree_of(alloc, &[DRIVER, VALIDATION])?;
-    let mut inner = String::from_str(alloc, "VK_LAYER_KHRONOS_validation")?;
     for level in 1..10 {
-        let name = format!(in alloc; "VK_LAYER_m{level}")?;
-        let holds = format!(in alloc; "\"component_layers\":[\"{}\"]", inner.as_str())?;
-        put_layer(alloc, &mut tree, name.as_str(), holds.as_str())?;
-        inner = name;
+        put_level(alloc, &mut tree, level)?;
     }
     put_layer(
         alloc,
@@ -41,14 +66,15 @@ fn nested(alloc: Global) -> Result<MemTree, Fail> {
     Ok(tree)
 }
 
-fn nested_shows(rt: &impl Abort, alloc: Global, layer: &str, out: &str) -> Result<(), Fail> {
+// A chain over the nested layers, with one that the application names.
+fn nested_seen(alloc: Global, layer: &str) -> Result<Seen, Fail> {
     let words = format!(in alloc; "chain --layers {layer}")?;
-    let seen = seen_at(
-        alloc,
-        words.as_str(),
-        &variables(alloc, &[HOME])?,
-        &mut nested(alloc)?,
-    )?;
+    let env = variables(alloc, &[HOME])?;
+    seen_at(alloc, words.as_str(), &env, &mut nested(alloc)?)
+}
+
+fn nested_shows(rt: &impl Abort, alloc: Global, layer: &str, out: &str) -> Result<(), Fail> {
+    let seen = nested_seen(alloc, layer)?;
     assert_eq!(rt; seen.status, Status::Clean);
     assert!(rt; seen.out.as_slice() == out.as_bytes(), "{layer}");
     Ok(())
@@ -109,73 +135,102 @@ fn plain_text(alloc: Global, count: u32) -> Result<String, AllocError> {
     Ok(text)
 }
 
-#[test]
-fn a_chain_has_64_layers_at_most(rt: HostRuntime) -> Result<(), Fail> {
-    let alloc = rt.alloc();
+// A chain of so many layers that the environment names.
+fn plain_seen(alloc: Global, count: u32) -> Result<Seen, Fail> {
     let mut env = variables(alloc, &[HOME])?;
-    let asked = names(alloc, 64, ":")?;
-    env.put("VK_INSTANCE_LAYERS", asked.as_str())
-        .ok()
-        .ok_or("no memory")?;
-    let seen = seen_at(alloc, "chain", &env, &mut plain(alloc, 64)?)?;
-    assert_eq!(rt; seen.status, Status::Clean);
-    assert!(rt; seen.out.as_slice() == plain_text(alloc, 64)?.as_bytes());
-    let asked = names(alloc, 65, ":")?;
-    env.put("VK_INSTANCE_LAYERS", asked.as_str())
-        .ok()
-        .ok_or("no memory")?;
-    let seen = seen_at(alloc, "chain", &env, &mut plain(alloc, 65)?)?;
+    let asked = names(alloc, count, ":")?;
+    set(&mut env, "VK_INSTANCE_LAYERS", asked.as_str())?;
+    seen_at(alloc, "chain", &env, &mut plain(alloc, count)?)
+}
+
+// A limit was reached, and nothing was shown.
+fn is_limited(rt: &impl Abort, seen: &Seen, errs: &[u8]) {
     assert_eq!(rt; seen.status, Status::Limit);
     assert!(rt; seen.out.is_empty());
-    assert!(rt; seen.errs.as_slice() == b"vkreplay: limit Chain 64\n".as_slice());
+    assert!(rt; seen.errs.as_slice() == errs);
+}
+
+// Nothing failed, and this was shown.
+fn is_shown(rt: &impl Abort, seen: &Seen, text: &str) {
+    assert_eq!(rt; seen.status, Status::Clean);
+    assert!(rt; seen.out.as_slice() == text.as_bytes());
+}
+
+#[test]
+fn a_chain_has_64_layers(rt: HostRuntime) -> Result<(), Fail> {
+    let seen = plain_seen(rt.alloc(), 64)?;
+    is_shown(&rt, &seen, plain_text(rt.alloc(), 64)?.as_str());
     Ok(())
+}
+
+#[test]
+fn a_chain_has_no_more_layers(rt: HostRuntime) -> Result<(), Fail> {
+    let seen = plain_seen(rt.alloc(), 65)?;
+    is_limited(&rt, &seen, b"vkreplay: limit Chain 64\n");
+    Ok(())
+}
+
+fn manifest_path(alloc: Global, index: u32) -> Result<String, AllocError> {
+    format!(in alloc; "/etc/vulkan/icd.d/{index}.json")
 }
 
 // So many files in one folder of drivers that hold an empty object.
 fn empty_manifests(alloc: Global, count: u32) -> Result<MemTree, Fail> {
     let mut tree = MemTree::new(alloc);
-    for number in 0..count {
-        let index = u64::from(number) + 10_000;
-        let path = format!(in alloc; "/etc/vulkan/icd.d/{index}.json")?;
+    for index in 10_000..count.saturating_add(10_000) {
+        let path = manifest_path(alloc, index)?;
         put(&mut tree, path.as_str(), b"{}")?;
     }
     Ok(tree)
 }
 
-#[test]
-fn a_search_has_4096_manifests_at_most(rt: HostRuntime) -> Result<(), Fail> {
-    let alloc = rt.alloc();
+// A chain over them.
+fn empty_seen(alloc: Global, count: u32) -> Result<Seen, Fail> {
     let env = variables(alloc, &[HOME])?;
-    let seen = seen_at(alloc, "chain", &env, &mut empty_manifests(alloc, 4_096)?)?;
+    seen_at(alloc, "chain", &env, &mut empty_manifests(alloc, count)?)
+}
+
+// What is shown of them.
+fn empty_text(alloc: Global, count: u32) -> Result<String, AllocError> {
     let mut text = String::new(alloc);
-    for number in 0..4_096u32 {
-        write!(
-            text,
-            "note NoVersion /etc/vulkan/icd.d/{}.json\n",
-            10_000 + number
-        )?;
+    for index in 10_000..count.saturating_add(10_000) {
+        write!(text, "note NoVersion /etc/vulkan/icd.d/{index}.json\n")?;
     }
     text.push_str("chain 0 no-driver\n")?;
-    assert_eq!(rt; seen.status, Status::Clean);
-    assert!(rt; seen.out.as_slice() == text.as_bytes());
-    let seen = seen_at(alloc, "chain", &env, &mut empty_manifests(alloc, 4_097)?)?;
-    assert_eq!(rt; seen.status, Status::Limit);
-    assert!(rt; seen.out.is_empty());
-    assert!(rt; seen.errs.as_slice() == b"vkreplay: limit Manifests 4096\n".as_slice());
+    Ok(text)
+}
+
+#[test]
+fn a_search_has_4096_manifests(rt: HostRuntime) -> Result<(), Fail> {
+    let seen = empty_seen(rt.alloc(), 4_096)?;
+    is_shown(&rt, &seen, empty_text(rt.alloc(), 4_096)?.as_str());
     Ok(())
 }
 
 #[test]
-fn a_manifest_that_is_too_large_is_noted(rt: HostRuntime) -> Result<(), Fail> {
-    let alloc = rt.alloc();
+fn a_search_has_no_more_manifests(rt: HostRuntime) -> Result<(), Fail> {
+    let seen = empty_seen(rt.alloc(), 4_097)?;
+    is_limited(&rt, &seen, b"vkreplay: limit Manifests 4096\n");
+    Ok(())
+}
+
+// A chain over a manifest of a driver and one of so many blanks.
+fn blank_seen(alloc: Global, size: usize) -> Result<Seen, Fail> {
     let mut tree = tree_of(alloc, &[DRIVER])?;
-    let large = vec![in alloc; b' '; 1_048_577]?;
+    let large = vec![in alloc; b' '; size]?;
     put(&mut tree, "/etc/vulkan/icd.d/b.json", &large)?;
-    let seen = seen_at(alloc, "chain", &variables(alloc, &[HOME])?, &mut tree)?;
-    let text = format!(in alloc;
+    seen_at(alloc, "chain", &variables(alloc, &[HOME])?, &mut tree)
+}
+
+fn blank_text(alloc: Global) -> Result<String, AllocError> {
+    format!(in alloc;
         "note TooLarge /etc/vulkan/icd.d/b.json\nchain 0 ok layers=0 parts=0 drivers=1\n{DRIVER_LINE}"
-    )?;
-    assert_eq!(rt; seen.status, Status::Clean);
-    assert!(rt; seen.out.as_slice() == text.as_bytes());
+    )
+}
+
+#[test]
+fn a_manifest_that_is_too_large_is_noted(rt: HostRuntime) -> Result<(), Fail> {
+    let seen = blank_seen(rt.alloc(), 1_048_577)?;
+    is_shown(&rt, &seen, blank_text(rt.alloc())?.as_str());
     Ok(())
 }

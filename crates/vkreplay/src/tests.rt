@@ -2,10 +2,10 @@
 use crate::top::{Finished, replay_main};
 use command_tables::CommandId;
 use env_filters::EnvList;
-use model_driver::{AdverseDriver, Driver, DriverCall, ModelDriver, RecordingDriver};
-use replay_base::{MemSink, MemSource, MemTree};
+use model_driver::{AdverseDriver, Driver, DriverCall, DriverReply, ModelDriver, RecordingDriver};
+use replay_base::{MemSink, MemSource, MemTree, NoMemory};
 use replay_core::Status;
-use std::alloc::Global;
+use std::alloc::{AllocError, Global};
 use std::process::Abort;
 use std::test::Fail;
 
@@ -32,18 +32,18 @@ const POOL_TEXT: &str =
 // The words, the trace, how many letters follow it, and the numbers of the first call of the source and the sink that
 // fails; and what the run must answer, print and say.
 #[derive(Clone, Copy)]
-struct Run {
-    words: &'static str,
-    trace: &'static str,
+struct Run<'a> {
+    words: &'a str,
+    trace: &'a str,
     letters: usize,
     read_fails: u64,
     write_fails: u64,
     status: Status,
-    out: &'static str,
-    errs: &'static str,
+    out: &'a str,
+    errs: &'a str,
 }
 
-const CLEAN: Run = Run {
+const CLEAN: Run<'static> = Run {
     words: "run",
     trace: FIRST,
     letters: 0,
@@ -54,13 +54,13 @@ const CLEAN: Run = Run {
     errs: "",
 };
 
-const MALFORMED: Run = Run {
+const MALFORMED: Run<'static> = Run {
     status: Status::Malformed,
     out: "",
     ..CLEAN
 };
 
-const RUNS: [Run; 23] = [
+static RUNS: [Run<'static>; 23] = [
     CLEAN,
     Run {
         trace: "vktrace 1",
@@ -199,40 +199,90 @@ pub fn words_of(alloc: Global, text: &str) -> Result<Vec<String>, Fail> {
     Ok(words)
 }
 
-fn bytes_of(alloc: Global, run: &Run) -> Result<Vec<u8>, Fail> {
-    let mut bytes = Vec::from_slice(alloc, run.trace.as_bytes())?;
-    for _ in 0..run.letters {
-        bytes.push(b'x')?;
-    }
+fn bytes_of(alloc: Global, text: &str, letters: usize) -> Result<Vec<u8>, AllocError> {
+    let mut bytes = Vec::from_slice(alloc, text.as_bytes())?;
+    bytes.resize(bytes.len().saturating_add(letters), b'x')?;
     Ok(bytes)
 }
 
+fn sink_of(alloc: Global, room: usize, fails: u64) -> Result<MemSink, NoMemory> {
+    MemSink::new(alloc, room, vec![in alloc; fails]?)
+}
+
 pub fn sink(alloc: Global, fails: u64) -> Result<MemSink, Fail> {
-    let fails = vec![in alloc; fails]?;
-    Ok(MemSink::new(alloc, 4096, fails).ok().ok_or("no memory")?)
+    Ok(sink_of(alloc, 4096, fails).ok().ok_or("no memory")?)
+}
+
+// What goes in and out of a run over memory.
+#[derive(Drop)]
+pub struct Streams {
+    pub trace: MemSource,
+    pub out: MemSink,
+    pub errs: MemSink,
+}
+
+fn streams_of(alloc: Global, run: &Run) -> Result<Streams, Fail> {
+    let out = sink(alloc, run.write_fails)?;
+    let errs = sink(alloc, 0)?;
+    let trace = source_of(alloc, run)?;
+    Ok(Streams { trace, out, errs })
+}
+
+fn source_of(alloc: Global, run: &Run) -> Result<MemSource, AllocError> {
+    let fails = vec![in alloc; run.read_fails]?;
+    Ok(MemSource::new(bytes_of(alloc, run.trace, run.letters)?, fails))
+}
+
+// The streams of a run that doesn't fail.
+pub fn streams_at(alloc: Global, trace: &str) -> Result<Streams, Fail> {
+    streams_of(alloc, &Run { trace, ..CLEAN })
+}
+
+// Runs the program over an empty tree without variables.
+pub fn run_of<D: Driver>(
+    alloc: Global,
+    words: &[String],
+    streams: &mut Streams,
+    driver: &mut D,
+) -> Finished {
+    replay_main(
+        alloc,
+        words,
+        &EnvList::new(alloc),
+        &mut MemTree::new(alloc),
+        &mut streams.trace,
+        &mut streams.out,
+        &mut streams.errs,
+        driver,
+    )
+}
+
+// The same with words that are read first.
+pub fn run_with<D: Driver>(
+    alloc: Global,
+    words: &str,
+    streams: &mut Streams,
+    driver: &mut D,
+) -> Result<Finished, Fail> {
+    Ok(run_of(alloc, &words_of(alloc, words)?, streams, driver))
+}
+
+fn is_written(rt: &impl Abort, streams: &Streams, run: &Run) {
+    assert!(rt; streams.out.bytes() == run.out.as_bytes(), "{}", run.trace);
+    assert!(rt;
+        streams.errs.bytes() == run.errs.as_bytes(),
+        "{}",
+        run.trace
+    );
 }
 
 fn ends_as_it_must(rt: &impl Abort, alloc: Global, run: &Run) -> Result<(), Fail> {
-    let words = words_of(alloc, run.words)?;
-    let mut trace = MemSource::new(bytes_of(alloc, run)?, vec![in alloc; run.read_fails]?);
-    let mut out = sink(alloc, run.write_fails)?;
-    let mut errs = sink(alloc, 0)?;
-    let mut driver = ModelDriver::new(alloc);
-    let Finished { status, session } = replay_main(
-        alloc,
-        &words,
-        &EnvList::new(alloc),
-        &mut MemTree::new(alloc),
-        &mut trace,
-        &mut out,
-        &mut errs,
-        &mut driver,
-    );
-    assert_eq!(rt; status, run.status);
-    assert!(rt; out.bytes() == run.out.as_bytes(), "{}", run.trace);
-    assert!(rt; errs.bytes() == run.errs.as_bytes(), "{}", run.trace);
-    let ended = status == Status::Clean || status == Status::Reported;
-    assert_eq!(rt; session.is_some(), ended);
+    let mut streams = streams_of(alloc, run)?;
+    let finished = run_with(alloc, run.words, &mut streams, &mut ModelDriver::new(alloc))?;
+    assert_eq!(rt; finished.status, run.status);
+    is_written(rt, &streams, run);
+    let ended = run.status == Status::Clean || run.status == Status::Reported;
+    assert_eq!(rt; finished.session.is_some(), ended);
     Ok(())
 }
 
@@ -254,6 +304,17 @@ fn told(call: &DriverCall) -> (CommandId, u64) {
     (call.body.cmd, first)
 }
 
+fn all_told(
+    alloc: Global,
+    log: &[(DriverCall, DriverReply)],
+) -> Result<Vec<(CommandId, u64)>, AllocError> {
+    let mut calls = Vec::new(alloc);
+    for (call, _) in log {
+        calls.push(told(call))?;
+    }
+    Ok(calls)
+}
+
 // What a driver is told at a trace that ends with this line.
 fn told_by<D: Driver + Drop>(
     rt: &impl Abort,
@@ -262,28 +323,11 @@ fn told_by<D: Driver + Drop>(
     inner: D,
     end: &str,
 ) -> Result<Vec<(CommandId, u64)>, Fail> {
-    let words = words_of(alloc, "run")?;
-    let bytes = Vec::from_slice(alloc, trace.as_bytes())?;
-    let mut source = MemSource::new(bytes, Vec::new(alloc));
-    let mut out = sink(alloc, 0)?;
-    let mut errs = sink(alloc, 0)?;
+    let mut streams = streams_at(alloc, trace)?;
     let mut driver = RecordingDriver::new(alloc, inner);
-    replay_main(
-        alloc,
-        &words,
-        &EnvList::new(alloc),
-        &mut MemTree::new(alloc),
-        &mut source,
-        &mut out,
-        &mut errs,
-        &mut driver,
-    );
-    assert!(rt; out.bytes().ends_with(end.as_bytes()), "{end}");
-    let mut calls = Vec::new(alloc);
-    for (call, _) in driver.log() {
-        calls.push(told(call))?;
-    }
-    Ok(calls)
+    run_with(alloc, "run", &mut streams, &mut driver)?;
+    assert!(rt; streams.out.bytes().ends_with(end.as_bytes()), "{end}");
+    Ok(all_told(alloc, driver.log())?)
 }
 
 #[test]
