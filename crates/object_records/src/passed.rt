@@ -28,7 +28,7 @@ fn limit(passed: &mut Vec<usize>, owner: KeptOwner, most: usize)
     }
 }
 
-/// What has this owner comes up: its owner's own owner passes over it no longer.
+/// A further record has this owner: the owner's own owner passes over it no longer.
 pub fn reopen(passed: &mut Vec<usize>, records: &[ObjectRecord], owner: KeptOwner)
     requires within { before_owned owner ≤ length records.now }
     requires before { AreOwnersBefore 0 records.now }
