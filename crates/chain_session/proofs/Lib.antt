@@ -7,6 +7,11 @@ pub mod OpenCalls
 pub mod Places
 pub mod Marks
 pub mod Sent
+pub mod Retrieving
+pub mod Unowned
+pub mod Fresh
+pub mod Rising
+pub mod Closing
 pub mod Assembled
 pub mod Payloads
 pub mod Outcomes
@@ -14,3 +19,8 @@ pub mod Lines
 pub mod Begins
 pub mod BeginCalls
 pub mod Advancing
+pub mod Instances
+pub mod Finished
+pub mod Guarded
+pub mod First
+pub mod Returning

@@ -6,6 +6,8 @@ pub mod Judging
 pub mod Telling
 pub mod Sending
 pub mod Shown
+pub mod Raising
+pub mod Finishing
 pub mod Beginning
 pub mod Keeping
 pub mod Creation

@@ -10,7 +10,7 @@ use Rattle.replay_model.specs.Setup.{Setup}
 use Rattle.replay_model.specs.Judged.{begun_of, judged}
 use Rattle.replay_model.specs.Direct.{driver_calls, exchanges_at, sends_at, valued}
 use Rattle.replay_model.specs.Text.{lines_at}
-use Rattle.chain_model.specs.Traces.{IsTrace}
+use Rattle.chain_model.specs.Traces.{GivesGuarded, IsTrace}
 use Rattle.session_model.specs.Session.{SessionKept, nothing_kept}
 use Rattle.session_model.specs.Stands.{Stands}
 use Rattle.chain_session.specs.declared.kept.Kept.{Kept}
@@ -47,6 +47,20 @@ pub record Advances (s : Setup) (old new : Option Kept) (e : TraceEvent) (old_lo
       → log ≡ logged old_log (exchanges_at s (judged s events) e (replies ++ before))
   pub wrote : (events : List TraceEvent) (before : List ReplyContent) → StandsFor s old events before → IsTrace (e ∷ events)
       → lines ≡ old_lines ++ lines_at s (judged s events) e
+
+-- the open call of a thread can return, under a setup whose chains are guarded
+pub record CanReturn (x : Option Kept) (thread : ℕ) : Type 0 where
+  pub setup : Setup
+  pub guarded : GivesGuarded setup
+  pub can : CanCome setup x (Return thread)
+
+-- the return is one event more, of which no driver is told, under any such setup
+abbrev pub ReturnsAs : Option Kept → Option Kept → ℕ → List ℕ → List ℕ → Type 0
+ReturnsAs old new thread old_lines lines = (s : Setup) → GivesGuarded s → (log : Log) → Advances s old new (Return thread) log log old_lines lines
+
+-- the numbers of calls, skipped calls and reports are those of what is kept
+abbrev pub Counts : Option Kept → ℕ → ℕ → ℕ → Type 0
+Counts x calls skipped reports = (s : Setup) (k : SessionKept) → ShowsOnce s x k → (calls ≡ k.calls) × ((skipped ≡ k.skipped) × (reports ≡ k.reports))
 
 -- a begin that memory cut short: the first so many of its calls were told
 abbrev pub CutBefore : Setup → Option Kept → BeginEvent → Log → Log → Type 0

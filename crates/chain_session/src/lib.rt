@@ -3,6 +3,7 @@
 //! Leaves to others how events are read and in which order they may come, and where the lines go.
 #![tactic(auto)]
 
+mod bearing;
 mod beginning;
 mod call;
 mod counting;
@@ -10,19 +11,26 @@ mod creation;
 #[cfg(test)]
 mod creation_tests;
 mod error;
+mod finishing;
 mod forms;
 mod handed;
 #[cfg(test)]
 mod handed_tests;
 mod judging;
+mod keeping;
 mod kept;
 mod names;
 mod opening;
+mod raising;
 mod reporting;
+mod results;
 mod room;
 mod sending;
 mod session;
+#[cfg(test)]
+mod session_tests;
 mod started;
+mod starting;
 mod telling;
 
 pub use error::SessionError;

@@ -8,14 +8,16 @@ ghost use Rattle.chain_build.specs.Setup.{setup_content};
 ghost use Rattle.report_text.specs.Setups.{trace_setup};
 ghost use Rattle.chain_session.specs.Creation.{IsFault};
 ghost use Rattle.chain_session.specs.Opening.{begin_content};
-ghost use Rattle.chain_session.specs.Standing.{Advances, BeginsCall, CanCome, CutAt, CutBefore, IsFaultAt, calls_before};
+ghost use Rattle.chain_session.specs.Standing.{Advances, BeginsCall, CanCome, CanReturn, Counts, CutAt, CutBefore, IsFaultAt, ReturnsAs, calls_before};
 
 use crate::error::SessionError;
 use crate::opening::Beginning;
 use crate::started::Started;
 use chain_build::Setup;
+use command_tables::NoMemory;
 use dispatch_chain::Kit;
 use model_driver::Driver;
+use report_text::Tally;
 use std::alloc::Global;
 use trace_format::Event;
 
@@ -134,6 +136,39 @@ impl Session {
                 };
                 self.begin_with(number, begin, setup, kit, driver, lines)
             }
+        }
+    }
+
+    /// The return of a thread's open call: its line is added. After `NoMemory` the session is for dropping alone, and anything may stand
+    /// behind the lines.
+    pub fn finish(&mut self, thread: u32, lines: &mut Vec<u8>) -> Result<(), NoMemory>
+        requires { CanReturn (option_map (λ x. x.kept) self.old.started) thread }
+        ensures { OnOk result (ReturnsAs (option_map (λ x. x.kept) self.old.started) (option_map (λ x. x.kept) self.new.started) thread lines.old.items lines.new.items) }
+    {
+        match &mut self.started {
+            None => Ok(()),
+            Some(started) => match started.finish(thread, lines) {
+                Err(error) => Err(error),
+                Ok(()) => Ok(()),
+            },
+        }
+    }
+
+    /// How many calls there were, how many of them were skipped, and how many reports. Takes no memory.
+    pub fn tally(&self) -> Tally
+        ensures { Counts (option_map (λ x. x.kept) self.now.started) result.calls result.skipped result.reports }
+    {
+        match &self.started {
+            None => Tally {
+                calls: 0,
+                skipped: 0,
+                reports: 0,
+            },
+            Some(started) => Tally {
+                calls: started.kept.calls,
+                skipped: started.kept.skipped,
+                reports: started.kept.reports,
+            },
         }
     }
 }

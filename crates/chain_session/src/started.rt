@@ -9,11 +9,13 @@ ghost use Rattle.replay_model.specs.Setup.{Setup as TraceSetup};
 ghost use Rattle.session_model.specs.Session.{nothing_kept};
 ghost use Rattle.chain_session.specs.Beginning.{BeginsAs, CanBegin, CutShort};
 ghost use Rattle.chain_session.specs.Creation.{IsFault};
+ghost use Rattle.chain_session.specs.Finishing.{CanFinish, Finishes};
 ghost use Rattle.chain_session.specs.Opening.{begin_content};
 ghost use Rattle.chain_session.specs.Shown.{Shows};
 
 use crate::beginning::begin_call;
 use crate::error::SessionError;
+use crate::finishing::finish_call;
 use crate::handed::HandedTable;
 use crate::kept::Kept;
 use crate::opening::Beginning;
@@ -105,6 +107,22 @@ impl Started {
             begin,
             setup,
             driver,
+            lines,
+        )
+    }
+
+    /// The return of a thread's open call.
+    pub(crate) fn finish(&mut self, thread: u32, lines: &mut Vec<u8>) -> Result<(), NoMemory>
+        requires { CanFinish self.old.kept thread }
+        ensures { OnOk result (Finishes self.old.kept self.new.kept thread lines.old.items lines.new.items) }
+    {
+        let drivers = self.kept.terminator.drivers();
+        finish_call(
+            &mut self.table,
+            &mut self.kept,
+            &mut self.room,
+            drivers,
+            thread,
             lines,
         )
     }

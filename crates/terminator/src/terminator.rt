@@ -68,6 +68,13 @@ impl Terminator {
         }
     }
 
+    /// How many drivers there are. Takes no memory.
+    pub fn drivers(&self) -> u32
+        ensures { result ≡ self.now.drivers }
+    {
+        self.drivers
+    }
+
     // The drivers that a call goes to.
     #[tactic(auto, unfolding(command_tables::specs::Tests::same_type))]
     fn receivers(&self, call: &LayerCall) -> Receivers
