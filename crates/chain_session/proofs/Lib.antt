@@ -22,5 +22,4 @@ pub mod Advancing
 pub mod Instances
 pub mod Finished
 pub mod Guarded
-pub mod First
 pub mod Returning

@@ -27,8 +27,6 @@ mod results;
 mod room;
 mod sending;
 mod session;
-#[cfg(test)]
-mod session_tests;
 mod started;
 mod starting;
 mod telling;
