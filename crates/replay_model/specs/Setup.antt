@@ -1,6 +1,6 @@
 -- What the manifests, the environment and the words come to, as far as a trace asks: the drivers, the notes, and the chain for each list of application layers.
 -- Source: Khronos Vulkan-Loader interface documents (a chain of layers is built at vkCreateInstance); that a chain may be refused, and with which codes, is this project's.
-use Rattle.std.specs.Prelude.{ℕ, Option, Some, None, List, []}
+use Rattle.std.specs.Prelude.{ℕ, Bool, true, false, Option, Some, None, List, []}
 use Rattle.command_tables.specs.declared.types.Code.{Code}
 use Rattle.object_model.specs.declared.PartKind.{PartKind}
 
@@ -34,3 +34,9 @@ abbrev pub outcome_text : Outcome → ℕ → List ℕ
 outcome_text (Chain parts text) number = text number
 outcome_text (Refused code text) number = text number
 outcome_text (TooLong layers) number = []
+
+-- the chain would have too many layers
+abbrev pub is_too_long : Outcome → Bool
+is_too_long (Chain parts text) = false
+is_too_long (Refused code text) = false
+is_too_long (TooLong layers) = true

@@ -1,18 +1,23 @@
--- Where a trace stops, and why: the first line that has a fault or would bring too many names. Source: this project.
-use Rattle.std.specs.Prelude.{ℕ, ◌+◌, Bool, true, false, if◌then◌else◌, nat_lt, Option, Some, None, Result, Ok, Err, List, [], ◌∷◌, length, drop}
+-- Where a trace stops under a setup, and why: the first line that has a fault, or would bring too many names, or begins a vkCreateInstance whose chain
+-- would have too many layers. Source: this project.
+use Rattle.std.specs.Prelude.{ℕ, ◌+◌, Bool, true, false, ◌&&◌, if◌then◌else◌, nat_lt, Option, Some, None, Result, Ok, Err, List, [], ◌∷◌, length, drop}
 use Rattle.std.specs.Option.{option_map}
 use Rattle.replay_base.specs.Lines.{lines_of}
+use Rattle.command_tables.specs.Tests.{same_command}
+use Rattle.command_tables.specs.declared.types.CommandId.TheVariants as cmd
 use Rattle.trace_format.specs.declared.fault.TraceFault.{TraceFault}
 use Rattle.trace_format.specs.declared.fault.TraceFault.TheVariants as fault
 use Rattle.trace_format.specs.Accepting.{exceeds_names, fault_after, fault_at_end, header_fault}
-use Rattle.trace_format.specs.Content.{TraceEvent}
+use Rattle.trace_format.specs.Content.{TraceEvent, Begin, Return}
 use Rattle.trace_format.specs.Reading.{read_line}
 use Rattle.replay_model.specs.declared.TheConstants.{MOST_BYTES}
+use Rattle.replay_model.specs.Setup.{Setup, is_too_long}
 
--- why a trace stops at a line: its fault, or the limit on names
+-- why a trace stops at a line: its fault, the limit on names, or that on the layers of a chain
 pub data Cause : Type 0 where
   Fault : (fault : TraceFault) → Cause
   Names : Cause
+  Layers : Cause
 
 -- a line, from 1, and why the trace stops there
 pub record Stop : Type 0 where
@@ -25,15 +30,21 @@ at_fault n f = record { line = n; cause = Fault f }
 
 -- ---- one line
 
--- the fault, and where there is none, the limit where it is passed
-abbrev pub first_cause : Option TraceFault → Bool → Option Cause
-first_cause (Some f) exceeds = Some (Fault f)
-first_cause None true = Some Names
-first_cause None false = None
+-- the event begins a vkCreateInstance whose chain would have too many layers
+abbrev pub exceeds_layers : Setup → TraceEvent → Bool
+exceeds_layers s (Begin e) = same_command e.cmd cmd.CreateInstance && is_too_long (s.outcome e.payload)
+exceeds_layers s (Return thread) = false
+
+-- the fault, and where there is none, the first limit that is passed: on names, and then on layers
+abbrev pub first_cause : Option TraceFault → Bool → Bool → Option Cause
+first_cause (Some f) names layers = Some (Fault f)
+first_cause None true layers = Some Names
+first_cause None false true = Some Layers
+first_cause None false false = None
 
 -- why an event can't follow those before it
-abbrev pub cause_after : List TraceEvent → TraceEvent → Option Cause
-cause_after before e = first_cause (fault_after before e) (exceeds_names before e)
+abbrev pub cause_after : Setup → List TraceEvent → TraceEvent → Option Cause
+cause_after s before e = first_cause (fault_after before e) (exceeds_names before e) (exceeds_layers s e)
 
 -- the event, where nothing stops it
 abbrev pub unless_stopped : TraceEvent → Option Cause → Result TraceEvent Cause
@@ -41,13 +52,13 @@ unless_stopped e None = Ok e
 unless_stopped e (Some c) = Err c
 
 -- the event that was read, where it may follow those before it
-abbrev pub placed : List TraceEvent → Result TraceEvent TraceFault → Result TraceEvent Cause
-placed before (Ok e) = unless_stopped e (cause_after before e)
-placed before (Err f) = Err (Fault f)
+abbrev pub placed : Setup → List TraceEvent → Result TraceEvent TraceFault → Result TraceEvent Cause
+placed s before (Ok e) = unless_stopped e (cause_after s before e)
+placed s before (Err f) = Err (Fault f)
 
 -- the event of a line behind these events, or why the trace stops there: what the line itself has comes before its place
-abbrev pub line_after : List TraceEvent → List ℕ → Result TraceEvent Cause
-line_after before line = placed before (read_line line)
+abbrev pub line_after : Setup → List TraceEvent → List ℕ → Result TraceEvent Cause
+line_after s before line = placed s before (read_line line)
 
 -- ---- where a trace stops
 
@@ -57,26 +68,26 @@ stop_or n (Ok e) rest = rest e
 stop_or n (Err c) rest = Some (record { line = n; cause = c })
 
 -- the lines from number n on, behind these events; a call that is open at the end stops one line behind the last
-abbrev pub stop_from : ℕ → List TraceEvent → List (List ℕ) → Option Stop
-stop_from n before [] = option_map (at_fault n) (fault_at_end before)
-stop_from n before (line ∷ lines) = stop_or n (line_after before line) (λ e. stop_from (n + 1) (e ∷ before) lines)
+abbrev pub stop_from : Setup → ℕ → List TraceEvent → List (List ℕ) → Option Stop
+stop_from s n before [] = option_map (at_fault n) (fault_at_end before)
+stop_from s n before (line ∷ lines) = stop_or n (line_after s before line) (λ e. stop_from s (n + 1) (e ∷ before) lines)
 
 -- the first line is the header, and then come the events
-abbrev pub stop_behind : Option TraceFault → List (List ℕ) → Option Stop
-stop_behind (Some f) lines = Some (at_fault 1 f)
-stop_behind None lines = stop_from 2 [] (drop 1 lines)
+abbrev pub stop_behind : Setup → Option TraceFault → List (List ℕ) → Option Stop
+stop_behind s (Some f) lines = Some (at_fault 1 f)
+stop_behind s None lines = stop_from s 2 [] (drop 1 lines)
 
 -- the stop of these lines
-abbrev pub stop_in : List (List ℕ) → Option Stop
-stop_in lines = stop_behind (header_fault lines) lines
+abbrev pub stop_in : Setup → List (List ℕ) → Option Stop
+stop_in s lines = stop_behind s (header_fault lines) lines
 
 -- a trace of more than 1,048,576 bytes isn't replayed yet
 abbrev pub too_large : Stop
 too_large = at_fault 1 fault.NotBuilt
 
 -- the first line at which a trace stops
-abbrev pub stop : List ℕ → Option Stop
-stop bytes = if nat_lt MOST_BYTES (length bytes) then Some too_large else stop_in (lines_of bytes)
+abbrev pub stop : Setup → List ℕ → Option Stop
+stop s bytes = if nat_lt MOST_BYTES (length bytes) then Some too_large else stop_in s (lines_of bytes)
 
 -- ---- the events before the stop, the newest first
 
@@ -86,19 +97,19 @@ events_or before (Ok e) more = more e
 events_or before (Err c) more = before
 
 -- the events of the lines, behind these
-abbrev pub events_from : List TraceEvent → List (List ℕ) → List TraceEvent
-events_from before [] = before
-events_from before (line ∷ lines) = events_or before (line_after before line) (λ e. events_from (e ∷ before) lines)
+abbrev pub events_from : Setup → List TraceEvent → List (List ℕ) → List TraceEvent
+events_from s before [] = before
+events_from s before (line ∷ lines) = events_or before (line_after s before line) (λ e. events_from s (e ∷ before) lines)
 
 -- the events behind the header
-abbrev pub events_behind : Option TraceFault → List (List ℕ) → List TraceEvent
-events_behind (Some f) lines = []
-events_behind None lines = events_from [] (drop 1 lines)
+abbrev pub events_behind : Setup → Option TraceFault → List (List ℕ) → List TraceEvent
+events_behind s (Some f) lines = []
+events_behind s None lines = events_from s [] (drop 1 lines)
 
 -- the events of these lines, up to their stop
-abbrev pub events_in : List (List ℕ) → List TraceEvent
-events_in lines = events_behind (header_fault lines) lines
+abbrev pub events_in : Setup → List (List ℕ) → List TraceEvent
+events_in s lines = events_behind s (header_fault lines) lines
 
 -- the events of a trace, up to its stop
-abbrev pub events_of : List ℕ → List TraceEvent
-events_of bytes = if nat_lt MOST_BYTES (length bytes) then [] else events_in (lines_of bytes)
+abbrev pub events_of : Setup → List ℕ → List TraceEvent
+events_of s bytes = if nat_lt MOST_BYTES (length bytes) then [] else events_in s (lines_of bytes)

@@ -58,20 +58,20 @@ pub fn skipped_calls_are_not_sent()
 
 /// The events of a trace, up to its stop, may each follow those before it, so that what is said of accepted events holds of them.
 pub fn traces_are_accepted()
-    ensures { (bytes : List ℕ) → are_accepted (events_of bytes) ≡ true }
+    ensures { (s : Setup) (bytes : List ℕ) → are_accepted (events_of s bytes) ≡ true }
 {}
 
 /// Where nothing stops a trace, its events, the oldest first, are those that the lines behind its header spell.
 pub fn a_trace_without_a_stop_spells_its_events()
-    ensures { (bytes : List ℕ) → stop bytes ≡ None → map (λ e. Ok e) (reverse (events_of bytes)) ≡ map read_line (drop 1 (lines_of bytes)) }
+    ensures { (s : Setup) (bytes : List ℕ) → stop s bytes ≡ None → map (λ e. Ok e) (reverse (events_of s bytes)) ≡ map read_line (drop 1 (lines_of bytes)) }
 {}
 
 /// So the drivers are told just what the trace, up to its stop and less its skipped calls, tells them with no layers.
 pub fn skipped_calls_of_a_trace_are_not_sent()
     ensures calls { (s : Setup) (bytes : List ℕ) (replies : List ReplyContent) →
-        direct (judged (no_layers s) (less (judged s (events_of bytes)))) replies ≡ direct (judged s (events_of bytes)) replies }
+        direct (judged (no_layers s) (less (judged s (events_of s bytes)))) replies ≡ direct (judged s (events_of s bytes)) replies }
     ensures exchanges { (s : Setup) (bytes : List ℕ) (replies : List ReplyContent) →
-        exchanges (judged (no_layers s) (less (judged s (events_of bytes)))) replies ≡ exchanges (judged s (events_of bytes)) replies }
+        exchanges (judged (no_layers s) (less (judged s (events_of s bytes)))) replies ≡ exchanges (judged s (events_of s bytes)) replies }
 {}
 
 /// The judged calls are those of the events: as many have begun, and a thread has an open one where its events say so.

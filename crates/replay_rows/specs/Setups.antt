@@ -3,7 +3,7 @@ use Rattle.std.specs.Prelude.{ℕ, Bool, true, false, if◌then◌else◌, List,
 use Rattle.command_tables.specs.declared.types.Code.TheVariants as code
 use Rattle.object_model.specs.declared.PartKind.{PartKind}
 use Rattle.object_model.specs.declared.PartKind.TheVariants as part
-use Rattle.replay_model.specs.Setup.{Setup, Chain, Refused}
+use Rattle.replay_model.specs.Setup.{Setup, Chain, Refused, TooLong}
 use Rattle.replay_rows.specs.Traces.{said}
 
 -- no bytes
@@ -46,6 +46,10 @@ no_driver = record { drivers = 0; notes = []; outcome = λ payload. Refused code
 -- one driver, and a layer that checks lifetimes with no unique part nearer the driver
 abbrev pub unguarded : Setup
 unguarded = record { drivers = 1; notes = []; outcome = λ payload. Refused code.ErrorInitializationFailed (λ number. said (chain_line number (codes "unguarded " ++ payload) ∷ [])) }
+
+-- one driver, and a chain of 65 layers whatever the application names
+abbrev pub too_many_layers : Setup
+too_many_layers = record { drivers = 1; notes = []; outcome = λ payload. TooLong 65 }
 
 -- two drivers and no layers; a third driver's manifest has no version
 abbrev pub two_drivers : Setup

@@ -6,6 +6,6 @@ use Rattle.replay_model.proofs.skipped_calls_of_a_trace_are_not_sent.Goals as go
 
 pub returns : goal.returns
 returns c = record {
-  calls = λ s bytes replies. (less-alike s (events_of bytes) (begins-idle s (events_of bytes) (trace-accepted bytes))).calls replies;
-  exchanges = λ s bytes replies. (less-alike s (events_of bytes) (begins-idle s (events_of bytes) (trace-accepted bytes))).told replies;
+  calls = λ s bytes replies. (less-alike s (events_of s bytes) (begins-idle s (events_of s bytes) (trace-accepted s bytes))).calls replies;
+  exchanges = λ s bytes replies. (less-alike s (events_of s bytes) (begins-idle s (events_of s bytes) (trace-accepted s bytes))).told replies;
 }
