@@ -23,3 +23,4 @@ pub mod Instances
 pub mod Finished
 pub mod Guarded
 pub mod Returning
+pub mod Within

@@ -1,10 +1,12 @@
 // The begin of a call.
-ghost use Rattle.std.specs.Prelude.{◌≡◌, ◌++◌, ◌+◌, ◌<◌, ◌^◌, [], List, false, length, map, IfErr, IfOk, OnErr, OnOk};
+ghost use Rattle.std.specs.Prelude.{◌≡◌, ◌++◌, ◌+◌, ◌<◌, ◌^◌, [], List, true, false, length, map, IfErr, IfOk, OnErr, OnOk};
 ghost use Rattle.std.specs.List.{AllByRecursion};
 ghost use Rattle.command_tables.specs.Calls.{call_content};
 ghost use Rattle.model_driver.specs.Driver.{HasShape};
 ghost use Rattle.object_model.specs.declared.PartKind.{PartKind};
+ghost use Rattle.trace_format.specs.Content.{Begin};
 ghost use Rattle.replay_model.specs.Past.{is_skipped};
+ghost use Rattle.replay_model.specs.Stop.{exceeds_layers};
 ghost use Rattle.terminator.specs.Calls.{targets_of};
 ghost use Rattle.chain_build.specs.Setup.{setup_content};
 ghost use Rattle.report_text.specs.Setups.{trace_setup};
@@ -133,6 +135,7 @@ fn tell_and_keep<D: Driver>(
 /// The begin of a call: what is found at it is written behind the lines of its chain, its drivers are told, and it is kept as an open call.
 /// `Chain` comes where the chain of a vkCreateInstance would have more than 64 layers. After an error what is kept is for dropping, the
 /// first so many of the drivers were told, and anything may stand behind the lines.
+#[tactic(auto, using(crate::proofs::Within::within_created))]
 pub(crate) fn begin_call<D: Driver>(
     table: &DispatchTable,
     kept: &mut Kept,
@@ -150,6 +153,8 @@ pub(crate) fn begin_call<D: Driver>(
     ensures ok { OnOk result (BeginsAs (trace_setup (setup_content setup.now)) kept.old (begin_content begin.entry) kept.new (D.log driver.old) (D.log driver.new) lines.old.items lines.new.items) }
     ensures err { OnErr result (CutShort (trace_setup (setup_content setup.now)) kept.old (begin_content begin.entry) (D.log driver.old) (D.log driver.new)) }
     ensures fault { IfErr result (IsFault (same_command begin.entry.cmd CommandId.CreateInstance) ((trace_setup (setup_content setup.now)).outcome begin.entry.payload.now)) }
+    ensures within { OnOk result (exceeds_layers (trace_setup (setup_content setup.now)) (Begin (begin_content begin.entry)) ≡ false) }
+    ensures untold { OnErr result (exceeds_layers (trace_setup (setup_content setup.now)) (Begin (begin_content begin.entry)) ≡ true → D.log driver.new ≡ D.log driver.old) }
     ensures kinds { kinds_of kept.new.states ≡ kinds_of kept.old.states }
     ensures policy { D.answers_by driver.new ≡ D.answers_by driver.old }
 {

@@ -8,14 +8,10 @@ mod beginning;
 mod call;
 mod counting;
 mod creation;
-#[cfg(test)]
-mod creation_tests;
 mod error;
 mod finishing;
 mod forms;
 mod handed;
-#[cfg(test)]
-mod handed_tests;
 mod judging;
 mod keeping;
 mod kept;

@@ -1,11 +1,12 @@
 // The session.
-ghost use Rattle.std.specs.Prelude.{◌≡◌, ◌+◌, ◌<◌, ◌^◌, length, None, IfErr, OnErr, OnOk};
+ghost use Rattle.std.specs.Prelude.{◌≡◌, ◌+◌, ◌<◌, ◌^◌, true, false, length, None, IfErr, OnErr, OnOk};
 ghost use Rattle.std.specs.Option.{option_map};
 ghost use Rattle.command_tables.specs.Tests.{same_command};
 ghost use Rattle.command_tables.specs.declared.types.CommandId.TheVariants as CommandId;
 ghost use Rattle.trace_format.specs.Content.{Begin, content};
 ghost use Rattle.chain_build.specs.Setup.{setup_content};
 ghost use Rattle.report_text.specs.Setups.{trace_setup};
+ghost use Rattle.replay_model.specs.Stop.{exceeds_layers};
 ghost use Rattle.chain_session.specs.Creation.{IsFault};
 ghost use Rattle.chain_session.specs.Opening.{begin_content};
 ghost use Rattle.chain_session.specs.Standing.{Advances, BeginsCall, CanCome, CanReturn, Counts, CutAt, CutBefore, IsFaultAt, ReturnsAs, calls_before};
@@ -29,8 +30,8 @@ pub struct Session {
 }
 
 impl Session {
-    /// A session for a trace of which nothing was replayed yet. Takes no memory.
-    pub fn new(alloc: Global) -> Session
+    /// A session for a trace of which nothing was replayed yet, and whose chains call the functions of this kit. Takes no memory.
+    pub fn new(alloc: Global, _kit: &Kit) -> Session
         ensures { option_map (λ x. x.kept) result.started ≡ None }
     {
         Session {
@@ -56,6 +57,8 @@ impl Session {
         ensures ok { OnOk result (Advances (trace_setup (setup_content setup.now)) (option_map (λ x. x.kept) self.old.started) (option_map (λ x. x.kept) self.new.started) (Begin (begin_content begin.entry)) (D.log driver.old) (D.log driver.new) lines.old.items lines.new.items) }
         ensures err { OnErr result (CutBefore (trace_setup (setup_content setup.now)) (option_map (λ x. x.kept) self.old.started) (begin_content begin.entry) (D.log driver.old) (D.log driver.new)) }
         ensures fault { IfErr result (IsFault (same_command begin.entry.cmd CommandId.CreateInstance) ((trace_setup (setup_content setup.now)).outcome begin.entry.payload.now)) }
+        ensures within { OnOk result (exceeds_layers (trace_setup (setup_content setup.now)) (Begin (begin_content begin.entry)) ≡ false) }
+        ensures untold { OnErr result (exceeds_layers (trace_setup (setup_content setup.now)) (Begin (begin_content begin.entry)) ≡ true → D.log driver.new ≡ D.log driver.old) }
         ensures policy { D.answers_by driver.new ≡ D.answers_by driver.old }
     {
         let mut started = Started::new(self.alloc, setup, kit)?;
@@ -84,6 +87,8 @@ impl Session {
         ensures ok { OnOk result (Advances (trace_setup (setup_content setup.now)) (option_map (λ x. x.kept) self.old.started) (option_map (λ x. x.kept) self.new.started) (Begin (begin_content begin.entry)) (D.log driver.old) (D.log driver.new) lines.old.items lines.new.items) }
         ensures err { OnErr result (CutBefore (trace_setup (setup_content setup.now)) (option_map (λ x. x.kept) self.old.started) (begin_content begin.entry) (D.log driver.old) (D.log driver.new)) }
         ensures fault { IfErr result (IsFault (same_command begin.entry.cmd CommandId.CreateInstance) ((trace_setup (setup_content setup.now)).outcome begin.entry.payload.now)) }
+        ensures within { OnOk result (exceeds_layers (trace_setup (setup_content setup.now)) (Begin (begin_content begin.entry)) ≡ false) }
+        ensures untold { OnErr result (exceeds_layers (trace_setup (setup_content setup.now)) (Begin (begin_content begin.entry)) ≡ true → D.log driver.new ≡ D.log driver.old) }
         ensures policy { D.answers_by driver.new ≡ D.answers_by driver.old }
     {
         match &mut self.started {
@@ -114,6 +119,8 @@ impl Session {
         ensures ok { OnOk result (Advances (trace_setup (setup_content setup.now)) (option_map (λ x. x.kept) self.old.started) (option_map (λ x. x.kept) self.new.started) (content event.now) (D.log driver.old) (D.log driver.new) lines.old.items lines.new.items) }
         ensures err { OnErr result (CutAt (trace_setup (setup_content setup.now)) (option_map (λ x. x.kept) self.old.started) (content event.now) (D.log driver.old) (D.log driver.new)) }
         ensures fault { IfErr result (IsFaultAt (trace_setup (setup_content setup.now)) (content event.now)) }
+        ensures within { OnOk result (exceeds_layers (trace_setup (setup_content setup.now)) (content event.now) ≡ false) }
+        ensures untold { OnErr result (exceeds_layers (trace_setup (setup_content setup.now)) (content event.now) ≡ true → D.log driver.new ≡ D.log driver.old) }
         ensures policy { D.answers_by driver.new ≡ D.answers_by driver.old }
     {
         match event {

@@ -1,5 +1,5 @@
 // A session to which a setup and a kit were given.
-ghost use Rattle.std.specs.Prelude.{◌≡◌, ◌+◌, ◌<◌, ◌^◌, [], length, map, IfErr, IfOk, OnErr, OnOk};
+ghost use Rattle.std.specs.Prelude.{◌≡◌, ◌+◌, ◌<◌, ◌^◌, [], true, false, length, map, IfErr, IfOk, OnErr, OnOk};
 ghost use Rattle.command_tables.specs.Tests.{same_command};
 ghost use Rattle.command_tables.specs.declared.types.CommandId.TheVariants as CommandId;
 ghost use Rattle.chain_build.specs.Setup.{setup_content};
@@ -8,6 +8,8 @@ ghost use Rattle.dispatch_chain.specs.Seats.{kinds_of};
 ghost use Rattle.replay_model.specs.Setup.{Setup as TraceSetup};
 ghost use Rattle.session_model.specs.Session.{nothing_kept};
 ghost use Rattle.chain_session.specs.Beginning.{BeginsAs, CanBegin, CutShort};
+ghost use Rattle.trace_format.specs.Content.{Begin};
+ghost use Rattle.replay_model.specs.Stop.{exceeds_layers};
 ghost use Rattle.chain_session.specs.Creation.{IsFault};
 ghost use Rattle.chain_session.specs.Finishing.{CanFinish, Finishes};
 ghost use Rattle.chain_session.specs.Opening.{begin_content};
@@ -97,6 +99,8 @@ impl Started {
         ensures ok { OnOk result (BeginsAs (trace_setup (setup_content setup.now)) self.old.kept (begin_content begin.entry) self.new.kept (D.log driver.old) (D.log driver.new) lines.old.items lines.new.items) }
         ensures err { OnErr result (CutShort (trace_setup (setup_content setup.now)) self.old.kept (begin_content begin.entry) (D.log driver.old) (D.log driver.new)) }
         ensures fault { IfErr result (IsFault (same_command begin.entry.cmd CommandId.CreateInstance) ((trace_setup (setup_content setup.now)).outcome begin.entry.payload.now)) }
+        ensures within { OnOk result (exceeds_layers (trace_setup (setup_content setup.now)) (Begin (begin_content begin.entry)) ≡ false) }
+        ensures untold { OnErr result (exceeds_layers (trace_setup (setup_content setup.now)) (Begin (begin_content begin.entry)) ≡ true → D.log driver.new ≡ D.log driver.old) }
         ensures policy { D.answers_by driver.new ≡ D.answers_by driver.old }
     {
         begin_call(
