@@ -1,21 +1,25 @@
 -- A replay, one event longer.
-use Rattle.std.proofs.Common.{◌≡◌, ℕ, ◌+◌, Option, Some, None, List, [], ◌∷◌, ◌++◌, length, refl, sym, ◌∙◌, ap, subst, arith, append_assoc, append-nil, length-append, inl, inr}
-use Rattle.std.specs.Prelude.{find}
+use Rattle.std.proofs.Common.{◌≡◌, ℕ, Bool, true, false, cond, Option, Some, None, List, [], ◌∷◌, ◌++◌, length, refl, sym, ◌∙◌, ap, subst, append_assoc, append-nil}
 use Rattle.command_tables.specs.Calls.{DriverCallContent, ReplyContent}
 use Rattle.model_driver.specs.Logs.{Log, logged}
-use Rattle.trace_format.specs.Content.{TraceEvent, Begin, Return}
+use Rattle.trace_format.specs.Content.{TraceEvent}
 use Rattle.replay_base.specs.Bytes.{grown, GrownByFront}
 use Rattle.replay_base.specs.Changes.{Gained}
 use Rattle.replay_base.proofs.Written.{grown_grown, grown_nil}
-use Rattle.replay_model.specs.Past.{Past, Opened, is_of, open_calls}
-use Rattle.replay_model.specs.Judged.{judge, judged, returned_by}
-use Rattle.replay_model.specs.Direct.{exchanges_at, sends_in, sends_at}
+use Rattle.replay_model.specs.Setup.{Setup}
+use Rattle.replay_model.specs.Judged.{judged}
+use Rattle.replay_model.specs.Direct.{exchanges, exchanges_at, sends_in, sends_at}
+use Rattle.replay_model.specs.Stop.{exceeds_layers}
 use Rattle.replay_model.proofs.Exchanges.{lines-judge, exchanges-judge}
-use Rattle.replay_core.specs.Setups.{one_driver}
-use Rattle.replay_core.specs.Kept.{Kept}
-use Rattle.replay_core.specs.Stands.{Stands, Advances, MayTell}
-use Rattle.replay_core.specs.Plays.{Step}
-use Rattle.replay_core.specs.Traffic.{Traffic, Start, upto, through, text_of, lines_behind, Told, Played, CutInLines, CutBefore}
+use Rattle.chain_model.specs.Traces.{IsTrace}
+use Rattle.chain_session.specs.declared.kept.Kept.{Kept}
+use Rattle.chain_session.specs.Standing.{Advances}
+use Rattle.chain_session.specs.Telling.{FrontAsked}
+use Rattle.chain_session.proofs.Told.{none_asked}
+use Rattle.replay_core.specs.Beginning.{MayTell}
+use Rattle.replay_core.specs.Plays.{Step, next_of}
+use Rattle.replay_core.specs.Traffic.{Traffic, Start, upto, through, lines_of_events, lines_behind, next_calls, Told, Played, WentOut, CutInLines, RanOutBehind}
+use Rattle.replay_core.proofs.Sessions.{no_events, stands_first}
 
 logged_logged : (log : Log) (xs ys : List (DriverCallContent × ReplyContent)) → logged (logged log xs) ys ≡ logged log (xs ++ ys)
 logged_logged None xs ys = refl
@@ -25,79 +29,78 @@ logged_nil : (log : Log) → log ≡ logged log []
 logged_nil None = refl
 logged_nil (Some xs) = ap (λ ys. Some ys) (sym (append-nil xs))
 
-text_more : (events : List TraceEvent) (e : TraceEvent) → text_of (e ∷ events) ≡ text_of events ++ lines_behind events e
-text_more events e = lines-judge one_driver (judged one_driver events) e
+lines_more : (s : Setup) (events : List TraceEvent) (e : TraceEvent) → lines_of_events s (e ∷ events) ≡ lines_of_events s events ++ lines_behind s events e
+lines_more s events e = lines-judge s (judged s events) e
 
 -- before the first event
-pub played_none : (k : Kept) (t : Traffic) → Stands k [] [] → t.log ≡ t.old_log → t.sink.new ≡ t.sink.old → Played k [] t
-played_none k t stands log held = record { replies = []; stands = stands; told = record { each = refl; told = log ∙ logged_nil t.old_log }; wrote = held ∙ sym (grown_nil t.sink.old) }
+pub played_none : (s : Setup) (x : Option Kept) (t : Traffic) → x ≡ None → t.log ≡ t.old_log → t.sink.new ≡ t.sink.old → Played s x [] t
+played_none s x t none log held = record {
+  replies = [];
+  stands = stands_first s x none;
+  trace = no_events;
+  told = record { each = refl; told = log ∙ logged_nil t.old_log };
+  wrote = held ∙ sym (grown_nil t.sink.old);
+}
+
+-- nothing went out, as of no event
+pub nothing_out : (s : Setup) (t : Traffic) → t.log ≡ t.old_log → t.sink.new ≡ t.sink.old → WentOut s [] t
+nothing_out s t log held = record { replies = []; told = record { each = refl; told = log ∙ logged_nil t.old_log }; wrote = held ∙ sym (grown_nil t.sink.old) }
+
+-- what was replayed went out
+pub went_out : (s : Setup) (x : Option Kept) (events : List TraceEvent) (t : Traffic) → Played s x events t → WentOut s events t
+went_out s x events t p = record { replies = p.replies; told = p.told; wrote = p.wrote }
+
+-- where nothing more goes out, that stays
+pub still_out : (start : Start) (s : Setup) (x : Option Kept) (events : List TraceEvent) (t : Traffic) → Played s x events (upto start t) → t.log ≡ t.old_log → t.sink.new ≡ t.sink.old → WentOut s events (through start t)
+still_out start s x events t p log held = record { replies = p.replies; told = record { each = p.told.each; told = log ∙ p.told.told }; wrote = held ∙ p.wrote }
 
 -- the calls of one event more
-told_more : (start : Start) (t : Traffic) (events : List TraceEvent) (e : TraceEvent) (more before : List ReplyContent) → Told events before (upto start t) → length more ≡ sends_at one_driver (judged one_driver events) e
-    → length (more ++ before) ≡ sends_in (judged one_driver (e ∷ events))
-    → t.log ≡ logged t.old_log (exchanges_at one_driver (judged one_driver events) e (more ++ before)) → Told (e ∷ events) (more ++ before) (through start t)
-told_more start t events e more before so_far each all told = record {
+told_more : (start : Start) (s : Setup) (t : Traffic) (events : List TraceEvent) (e : TraceEvent) (more before : List ReplyContent) → Told s events before (upto start t) → length more ≡ sends_at s (judged s events) e
+    → length (more ++ before) ≡ sends_in (judged s (e ∷ events))
+    → t.log ≡ logged t.old_log (exchanges_at s (judged s events) e (more ++ before)) → Told s (e ∷ events) (more ++ before) (through start t)
+told_more start s t events e more before so_far each all told = record {
   each = all;
   told = told
-      ∙ (ap (λ l. logged l (exchanges_at one_driver (judged one_driver events) e (more ++ before))) so_far.told
-      ∙ (logged_logged start.log _ _ ∙ ap (logged start.log) (sym (exchanges-judge one_driver (judged one_driver events) e more before each))));
+      ∙ (ap (λ l. logged l (exchanges_at s (judged s events) e (more ++ before))) so_far.told
+      ∙ (logged_logged start.log _ _ ∙ ap (logged start.log) (sym (exchanges-judge s (judged s events) e more before each))));
 }
 
 -- the event was replayed, and its lines were written
-pub played_more : (step : Step) (start : Start) (events : List TraceEvent) (lines : List ℕ) → Played step.old events (upto start step.traffic)
-    → Advances step.old step.new step.event step.traffic.old_log step.traffic.log [] lines → Gained step.traffic.sink lines → Played step.new (step.event ∷ events) (through start step.traffic)
-played_more step start events lines before adv wrote =
-    let stands = adv.stands events before.replies before.stands in
+pub played_more : (step : Step) (start : Start) (events : List TraceEvent) (lines : List ℕ) → Played step.setup step.old events (upto start step.traffic) → IsTrace (step.event ∷ events)
+    → Advances step.setup step.old step.new step.event step.traffic.old_log step.traffic.log [] lines → Gained step.traffic.sink lines → Played step.setup step.new (step.event ∷ events) (through start step.traffic)
+played_more step start events lines before trace adv wrote =
+    let stands = adv.stands events before.replies before.stands trace in
     record {
       replies = adv.replies ++ before.replies;
       stands = stands;
-      told = told_more start step.traffic events step.event adv.replies before.replies before.told (adv.each events before.replies before.stands) stands.each (adv.told events before.replies before.stands);
+      trace = trace;
+      told = told_more start step.setup step.traffic events step.event adv.replies before.replies before.told (adv.each events before.replies before.stands trace) stands.stands.each (adv.told events before.replies before.stands trace);
       wrote = wrote
-          ∙ (ap (grown step.traffic.sink.old) (adv.wrote events before.replies before.stands)
-          ∙ (ap (λ h. grown h (lines_behind events step.event)) before.wrote ∙ (grown_grown start.held _ _ ∙ ap (grown start.held) (sym (text_more events step.event)))));
+          ∙ (ap (grown step.traffic.sink.old) (adv.wrote events before.replies before.stands trace)
+          ∙ (ap (λ h. grown h (lines_behind step.setup events step.event)) before.wrote ∙ (grown_grown start.held _ _ ∙ ap (grown start.held) (sym (lines_more step.setup events step.event)))));
     }
 
 -- the sink failed in the lines of the event
-pub cut_in_lines : (step : Step) (start : Start) (events : List TraceEvent) (lines : List ℕ) → Played step.old events (upto start step.traffic)
-    → Advances step.old step.new step.event step.traffic.old_log step.traffic.log [] lines → GrownByFront step.traffic.sink.old step.traffic.sink.new lines → CutInLines events step.event (through start step.traffic)
-cut_in_lines step start events lines before adv front =
-    let stands = adv.stands events before.replies before.stands in
+pub cut_in_lines : (step : Step) (start : Start) (events : List TraceEvent) (lines : List ℕ) → Played step.setup step.old events (upto start step.traffic) → IsTrace (step.event ∷ events)
+    → Advances step.setup step.old step.new step.event step.traffic.old_log step.traffic.log [] lines → GrownByFront step.traffic.sink.old step.traffic.sink.new lines → CutInLines step.setup events step.event (through start step.traffic)
+cut_in_lines step start events lines before trace adv front =
+    let stands = adv.stands events before.replies before.stands trace in
     record {
       replies = adv.replies ++ before.replies;
-      told = told_more start step.traffic events step.event adv.replies before.replies before.told (adv.each events before.replies before.stands) stands.each (adv.told events before.replies before.stands);
-      wrote = subst (λ (h : Option (List ℕ)). GrownByFront h step.traffic.sink.new (lines_behind events step.event)) before.wrote
-          (subst (λ (ls : List ℕ). GrownByFront step.traffic.sink.old step.traffic.sink.new ls) (adv.wrote events before.replies before.stands) front);
+      told = told_more start step.setup step.traffic events step.event adv.replies before.replies before.told (adv.each events before.replies before.stands trace) stands.stands.each (adv.told events before.replies before.stands trace);
+      wrote = subst (λ (h : Option (List ℕ)). GrownByFront h step.traffic.sink.new (lines_behind step.setup events step.event)) before.wrote
+          (subst (λ (ls : List ℕ). GrownByFront step.traffic.sink.old step.traffic.sink.new ls) (adv.wrote events before.replies before.stands trace) front);
     }
 
--- one event more makes as many calls more
-sent_more : (events : List TraceEvent) (e : TraceEvent) (more before : List ReplyContent) → length before ≡ sends_in (judged one_driver events) → length more ≡ sends_at one_driver (judged one_driver events) e
-    → length (more ++ before) ≡ sends_in (judged one_driver (e ∷ events))
-sent_more events e more before all one = simp length-append (sum (judged one_driver events) e all one)
-  where
-    sum : (past : Past) (e : TraceEvent) → length before ≡ sends_in past → length more ≡ sends_at one_driver past e → length more + length before ≡ sends_in (judge one_driver past e)
-    sum past (Begin b) all one = omega arith
-    sum past (Return thread) all one = returned (find (is_of thread) (open_calls past))
-      where
-        returned : (f : Option Opened) → length more + length before ≡ sends_in (returned_by one_driver past f)
-        returned None = omega arith
-        returned (Some o) = omega arith
-
 -- memory ran out at the event
-pub cut_before : (step : Step) (start : Start) (events : List TraceEvent) → Played step.old events (upto start step.traffic) → MayTell step.old step.event step.traffic.old_log step.traffic.log
-    → step.traffic.sink.new ≡ step.traffic.sink.old → CutBefore events step.event (through start step.traffic)
-cut_before step start events before (inl same) held = record {
-  told = events;
-  are = inl refl;
-  cut = record { replies = before.replies; told = record { each = before.told.each; told = same ∙ before.told.told }; wrote = held ∙ before.wrote; behind = inl refl };
-}
-cut_before step start events before (inr tells) held = record {
-  told = step.event ∷ events;
-  are = inr refl;
-  cut = record {
-    replies = tells.replies ++ before.replies;
-    told = told_more start step.traffic events step.event tells.replies before.replies before.told (tells.each events before.replies before.stands)
-        (sent_more events step.event tells.replies before.replies before.told.each (tells.each events before.replies before.stands)) (tells.told events before.replies before.stands);
-    wrote = held ∙ before.wrote;
-    behind = inr (record { last = step.event; is = refl });
-  };
-}
+pub ran_out_behind : (step : Step) (start : Start) (events : List TraceEvent) → Played step.setup step.old events (upto start step.traffic) → IsTrace (step.event ∷ events)
+    → MayTell step.setup step.old step.event step.traffic.old_log step.traffic.log → step.traffic.sink.new ≡ step.traffic.sink.old → RanOutBehind step.setup events (next_of step.setup step.event) (through start step.traffic)
+ran_out_behind step start events before trace may held = record { replies = before.replies; each = before.told.each; asked = asked (exceeds_layers step.setup step.event) refl; wrote = held ∙ before.wrote }
+  where
+    asked : (long : Bool) → exceeds_layers step.setup step.event ≡ long → FrontAsked (next_calls step.setup events (cond long None (Some step.event)) before.replies) (logged start.log (exchanges (judged step.setup events) before.replies)) step.traffic.log
+    asked true is = none_asked [] _ step.traffic.log (may.long is ∙ before.told.told)
+    asked false is = subst (λ (l : Log). FrontAsked (next_calls step.setup events (Some step.event) before.replies) l step.traffic.log) before.told.told (may.front events before.replies before.stands trace)
+
+-- or before the line was read
+pub ran_out_before : (start : Start) (s : Setup) (x : Option Kept) (events : List TraceEvent) (t : Traffic) → Played s x events (upto start t) → t.log ≡ t.old_log → t.sink.new ≡ t.sink.old → RanOutBehind s events None (through start t)
+ran_out_before start s x events t p log held = record { replies = p.replies; each = p.told.each; asked = none_asked [] _ t.log (log ∙ p.told.told); wrote = held ∙ p.wrote }

@@ -1,21 +1,13 @@
--- What a replay reads before its lines, and what it writes behind them. Source: this project.
-use Rattle.std.specs.Prelude.{◌≡◌, ◌⊎◌, ◌<◌, ◌≤◌, ◌++◌, ℕ, List, Some, None, Vec, Result, Ok, Err, length}
+-- What a replay reads before its lines, and a text that it writes by itself. Source: this project.
+use Rattle.std.specs.Prelude.{◌≡◌, ◌<◌, ◌≤◌, ℕ, List, Vec, Result, Ok, Err, length}
 use Rattle.std.specs.declared.alloc.Global.{Global}
-use Rattle.command_tables.specs.Calls.{ReplyContent}
 use Rattle.replay_base.specs.Bytes.{before, GrownByFront}
 use Rattle.replay_base.specs.Changes.{Change, Stood, FailedOnce, IsUnmoved, Gave, Gained}
-use Rattle.replay_base.specs.declared.limit.Which.TheVariants as which
 use Rattle.replay_model.specs.declared.TheConstants.{MOST_BYTES}
-use Rattle.replay_model.specs.Stop.{at_fault}
-use Rattle.replay_model.specs.Text.{end_line}
 use Rattle.replay_core.specs.declared.error.ReplayError.{ReplayError}
 use Rattle.replay_core.specs.declared.error.ReplayError.TheVariants as error
 use Rattle.replay_core.specs.declared.read.Unread.{Unread}
 use Rattle.replay_core.specs.declared.read.Unread.TheVariants as unread
-use Rattle.replay_core.specs.Kept.{Kept}
-use Rattle.replay_core.specs.Plays.{Script, PlayedTo, PlayedToNames}
-use Rattle.replay_core.specs.Stands.{Stands}
-use Rattle.replay_core.specs.Traffic.{Traffic, Told, BrokeInLines, BrokeAtEnd, RanOut, text_of, end_line_of}
 
 -- ---- reading
 
@@ -39,45 +31,16 @@ Reads source (Err unread.Failed) = FailedOnce source
 Reads source (Err unread.TooLarge) = GaveTooMuch source
 Reads source (Err unread.NoMemory) = Stood source
 
--- ---- the end line
+-- ---- a text by itself
 
--- the end line of what a session keeps
-abbrev pub end_line_kept : Kept → List ℕ
-end_line_kept k = end_line k.calls k.skipped k.reports
-
--- the sink failed behind a front of the end line
-pub record PutFront (k : Kept) (sink : Change) : Type 0 where
-  pub front : GrownByFront sink.old sink.new (end_line_kept k)
+-- the sink failed behind a front of the text
+pub record PutFront (text : List ℕ) (sink : Change) : Type 0 where
+  pub front : GrownByFront sink.old sink.new text
   pub failed : FailedOnce sink
 
--- the end line was written, or why not
-abbrev pub PutsEnd : Kept → Change → Result (Unit {0}) ReplayError → Type 0
-PutsEnd k sink (Ok done) = Gained sink (end_line_kept k) × Stood sink
-PutsEnd k sink (Err error.Write) = PutFront k sink
-PutsEnd k sink (Err error.NoMemory) = IsUnmoved sink × Stood sink
-PutsEnd k sink (Err other) = ⊥
-
--- ---- all lines and the end line
-
--- nothing stops the trace, all its events were replayed, and the end line stands behind their text
-pub record PlayedWhole (script : Script) (k : Kept) (t : Traffic) : Type 0 where
-  pub none : script.stop ≡ None
-  pub replies : List ReplyContent
-  pub stands : Stands k script.events replies
-  pub told : Told script.events replies t
-  pub wrote : Gained t.sink (text_of script.events ++ end_line_of script.events)
-  pub stood : Stood t.sink
-
--- the sink failed in the end line of a trace that nothing stops
-pub record CutAtEnd (script : Script) (t : Traffic) : Type 0 where
-  pub none : script.stop ≡ None
-  pub cut : BrokeAtEnd script.events t
-
--- the whole trace was replayed, or why not
-abbrev pub PlaysWhole : Script → Kept → Traffic → Result (Unit {0}) ReplayError → Type 0
-PlaysWhole script k t (Ok done) = PlayedWhole script k t
-PlaysWhole script k t (Err (error.Trace line fault)) = PlayedTo (Some (at_fault line fault)) script k t
-PlaysWhole script k t (Err (error.Limit which.Names)) = PlayedToNames script k t
-PlaysWhole script k t (Err error.Write) = (BrokeInLines script.events t ⊎ CutAtEnd script t) × FailedOnce t.sink
-PlaysWhole script k t (Err error.NoMemory) = RanOut script.events t × Stood t.sink
-PlaysWhole script k t (Err other) = ⊥
+-- the text was written, or why not: all its memory is taken before any of it is written
+abbrev pub PutsText : List ℕ → Change → Result (Unit {0}) ReplayError → Type 0
+PutsText text sink (Ok done) = Gained sink text × Stood sink
+PutsText text sink (Err error.Write) = PutFront text sink
+PutsText text sink (Err error.NoMemory) = IsUnmoved sink × Stood sink
+PutsText text sink (Err other) = ⊥

@@ -1,12 +1,7 @@
 pub mod Errors
 pub mod Replayed
 pub mod Statuses
-pub mod Setups
-pub mod Kept
-pub mod Shown
 pub mod Beginning
-pub mod Stands
-pub mod Lines
 pub mod Traffic
 pub mod Plays
 pub mod Ending

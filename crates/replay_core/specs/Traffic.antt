@@ -1,17 +1,19 @@
--- What a replay has told the driver and written to the sink, over the events of a trace, the newest first. Source: this project.
-use Rattle.std.specs.Prelude.{◌≡◌, ◌⊎◌, ℕ, List, ◌∷◌, ◌++◌, Option, length}
-use Rattle.command_tables.specs.Calls.{ReplyContent}
+-- What a replay has told the drivers and written to the sink, over the events of a trace, the newest first. Source: this project.
+use Rattle.std.specs.Prelude.{◌≡◌, ℕ, List, [], ◌∷◌, ◌++◌, Option, Some, None, length}
+use Rattle.command_tables.specs.Calls.{DriverCallContent, ReplyContent}
 use Rattle.model_driver.specs.Logs.{Log, logged}
-use Rattle.trace_format.specs.Content.{TraceEvent}
+use Rattle.trace_format.specs.Content.{TraceEvent, Begin, Return}
 use Rattle.replay_base.specs.Changes.{Change, Gained, GainedFront}
-use Rattle.replay_model.specs.Judged.{judged}
-use Rattle.replay_model.specs.Text.{text, lines_at, end_of}
-use Rattle.replay_model.specs.Direct.{exchanges, sends_in}
-use Rattle.replay_core.specs.Setups.{one_driver}
-use Rattle.replay_core.specs.Kept.{Kept}
-use Rattle.replay_core.specs.Stands.{Stands}
+use Rattle.replay_model.specs.Setup.{Setup}
+use Rattle.replay_model.specs.Judged.{begun_of, judged}
+use Rattle.replay_model.specs.Text.{lines, lines_at, text, end_of}
+use Rattle.replay_model.specs.Direct.{driver_calls, exchanges, sends_in, valued}
+use Rattle.chain_model.specs.Traces.{IsTrace}
+use Rattle.chain_session.specs.declared.kept.Kept.{Kept}
+use Rattle.chain_session.specs.Standing.{StandsFor}
+use Rattle.chain_session.specs.Telling.{FrontAsked}
 
--- the driver's log before and after, and the sink
+-- the drivers' log before and after, and the sink
 pub record Traffic : Type 0 where
   pub old_log : Log
   pub log : Log
@@ -21,58 +23,71 @@ pub record Traffic : Type 0 where
 abbrev pub traffic_of : Log → Log → Change → Traffic
 traffic_of old_log log sink = record { old_log = old_log; log = log; sink = sink }
 
--- the text of the events
-abbrev pub text_of : List TraceEvent → List ℕ
-text_of events = text one_driver (judged one_driver events)
+-- the lines of the events
+abbrev pub lines_of_events : Setup → List TraceEvent → List ℕ
+lines_of_events s events = lines s (judged s events)
+
+-- the text of the events: the notes, and then their lines
+abbrev pub text_of : Setup → List TraceEvent → List ℕ
+text_of s events = text s (judged s events)
 
 -- the end line of the events
-abbrev pub end_line_of : List TraceEvent → List ℕ
-end_line_of events = end_of (judged one_driver events)
+abbrev pub end_line_of : Setup → List TraceEvent → List ℕ
+end_line_of s events = end_of (judged s events)
 
 -- the lines of an event behind others
-abbrev pub lines_behind : List TraceEvent → TraceEvent → List ℕ
-lines_behind events e = lines_at one_driver (judged one_driver events) e
+abbrev pub lines_behind : Setup → List TraceEvent → TraceEvent → List ℕ
+lines_behind s events e = lines_at s (judged s events) e
 
--- the driver's log has gained the calls of the events, each with its reply
-pub record Told (events : List TraceEvent) (replies : List ReplyContent) (t : Traffic) : Type 0 where
-  pub each : length replies ≡ sends_in (judged one_driver events)
-  pub told : t.log ≡ logged t.old_log (exchanges (judged one_driver events) replies)
+-- the log has gained the drivers' calls of the events, each with its reply
+pub record Told (s : Setup) (events : List TraceEvent) (replies : List ReplyContent) (t : Traffic) : Type 0 where
+  pub each : length replies ≡ sends_in (judged s events)
+  pub told : t.log ≡ logged t.old_log (exchanges (judged s events) replies)
 
--- the events were replayed: the session stands for them, the driver was told their calls, and the sink has gained their text
-pub record Played (k : Kept) (events : List TraceEvent) (t : Traffic) : Type 0 where
+-- the drivers were told the events' calls, and the sink has gained their lines
+pub record WentOut (s : Setup) (events : List TraceEvent) (t : Traffic) : Type 0 where
   pub replies : List ReplyContent
-  pub stands : Stands k events replies
-  pub told : Told events replies t
-  pub wrote : Gained t.sink (text_of events)
+  pub told : Told s events replies t
+  pub wrote : Gained t.sink (lines_of_events s events)
 
--- The sink failed in the lines of an event: the driver was told its calls and those of the events before it, and no others. What stands is the
--- text of the events before it, and a front of its own lines.
-pub record CutInLines (events : List TraceEvent) (e : TraceEvent) (t : Traffic) : Type 0 where
+-- the events of a trace were replayed: the session stands for them, the drivers were told their calls, and the sink has gained their lines
+pub record Played (s : Setup) (x : Option Kept) (events : List TraceEvent) (t : Traffic) : Type 0 where
   pub replies : List ReplyContent
-  pub told : Told (e ∷ events) replies t
-  pub wrote : GainedFront t.sink (text_of events) (lines_behind events e)
+  pub stands : StandsFor s x events replies
+  pub trace : IsTrace events
+  pub told : Told s events replies t
+  pub wrote : Gained t.sink (lines_of_events s events)
 
--- one event more
-pub record HasOneMore (events written : List TraceEvent) : Type 0 where
-  pub last : TraceEvent
-  pub is : events ≡ last ∷ written
-
--- memory ran out: the driver was told the calls of these events, and the text of all of them stands, or of all but the last
-pub record CutBetweenLines (events written : List TraceEvent) (t : Traffic) : Type 0 where
+-- The sink failed in the lines of an event: the drivers were told its calls and those of the events before it, and no others. What stands are the
+-- lines of the events before it, and a front of its own lines.
+pub record CutInLines (s : Setup) (events : List TraceEvent) (e : TraceEvent) (t : Traffic) : Type 0 where
   pub replies : List ReplyContent
-  pub told : Told events replies t
-  pub wrote : Gained t.sink (text_of written)
-  pub behind : (events ≡ written) ⊎ HasOneMore events written
+  pub told : Told s (e ∷ events) replies t
+  pub wrote : GainedFront t.sink (lines_of_events s events) (lines_behind s events e)
 
--- memory ran out at an event behind these: its calls were told or weren't, and no line of it was written
-pub record CutBefore (events : List TraceEvent) (e : TraceEvent) (t : Traffic) : Type 0 where
-  pub told : List TraceEvent
-  pub are : (told ≡ events) ⊎ (told ≡ e ∷ events)
-  pub cut : CutBetweenLines told events t
+-- ---- want of memory
+
+-- the calls of the drivers that come next, where an event comes next
+abbrev pub next_calls : Setup → List TraceEvent → Option TraceEvent → List ReplyContent → List DriverCallContent
+next_calls s events None replies = []
+next_calls s events (Some (Begin e)) replies = driver_calls (valued (judged s events) replies) (begun_of s (judged s events) e).opened
+next_calls s events (Some (Return thread)) replies = []
+
+-- Memory ran out behind these events: the drivers were told their calls and the first so many of the next event's, and their lines stand.
+pub record RanOutBehind (s : Setup) (events : List TraceEvent) (next : Option TraceEvent) (t : Traffic) : Type 0 where
+  pub replies : List ReplyContent
+  pub each : length replies ≡ sends_in (judged s events)
+  pub asked : FrontAsked (next_calls s events next replies) (logged t.old_log (exchanges (judged s events) replies)) t.log
+  pub wrote : Gained t.sink (lines_of_events s events)
+
+-- the events with the next, where there is one
+abbrev pub with_next : Option TraceEvent → List TraceEvent → List TraceEvent
+with_next None events = events
+with_next (Some e) events = e ∷ events
 
 -- ---- one event more
 
--- where a replay began: the driver's log, what the sink held, and how often it had failed
+-- where a replay began: the drivers' log, what the sink held, and how often it had failed
 pub record Start : Type 0 where
   pub log : Log
   pub held : Option (List ℕ)
@@ -94,21 +109,21 @@ pub record IsFront (all events : List TraceEvent) : Type 0 where
   pub are : all ≡ later ++ events
 
 -- the sink failed in the lines of one of these events
-pub record BrokeInLines (all : List TraceEvent) (t : Traffic) : Type 0 where
+pub record BrokeInLines (s : Setup) (all : List TraceEvent) (t : Traffic) : Type 0 where
   pub events : List TraceEvent
   pub event : TraceEvent
   pub front : IsFront all (event ∷ events)
-  pub cut : CutInLines events event t
+  pub cut : CutInLines s events event t
 
--- the sink failed in the end line, behind the text of all events
-pub record BrokeAtEnd (all : List TraceEvent) (t : Traffic) : Type 0 where
+-- the sink failed in the end line, behind the lines of all events
+pub record BrokeAtEnd (s : Setup) (all : List TraceEvent) (t : Traffic) : Type 0 where
   pub replies : List ReplyContent
-  pub told : Told all replies t
-  pub wrote : GainedFront t.sink (text_of all) (end_line_of all)
+  pub told : Told s all replies t
+  pub wrote : GainedFront t.sink (lines_of_events s all) (end_line_of s all)
 
--- memory ran out between two lines
-pub record RanOut (all : List TraceEvent) (t : Traffic) : Type 0 where
+-- memory ran out behind some of these events
+pub record RanOut (s : Setup) (all : List TraceEvent) (t : Traffic) : Type 0 where
   pub events : List TraceEvent
-  pub written : List TraceEvent
-  pub front : IsFront all events
-  pub cut : CutBetweenLines events written t
+  pub next : Option TraceEvent
+  pub front : IsFront all (with_next next events)
+  pub cut : RanOutBehind s events next t

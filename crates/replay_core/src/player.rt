@@ -1,41 +1,45 @@
 // A replay's session with the state of its trace, line by line.
-ghost use Rattle.std.specs.Prelude.{◌≡◌, ◌≤◌, ◌+◌, ℕ, [], OnOk, OnErr, IfErr, Err};
+ghost use Rattle.std.specs.Prelude.{◌≡◌, ◌<◌, ◌^◌, ℕ, [], true, false, length, OnOk, OnErr, IfErr};
+ghost use Rattle.std.specs.Option.{option_map};
 ghost use Rattle.replay_base.specs.Changes.{changed};
 ghost use Rattle.trace_format.specs.Content.{content};
 ghost use Rattle.trace_format.specs.State.{SumsUp};
-ghost use Rattle.replay_core.specs.Beginning.{CanTake, HasTaken};
+ghost use Rattle.replay_model.specs.Stop.{exceeds_layers};
+ghost use Rattle.chain_build.specs.Setup.{setup_content};
+ghost use Rattle.report_text.specs.Setups.{trace_setup};
+ghost use Rattle.chain_session.specs.Standing.{Advances};
+ghost use Rattle.replay_core.specs.Beginning.{CanTake, IsLong, MayTell};
 ghost use Rattle.replay_core.specs.Plays.{InStep, PlaysLine, Steps};
-ghost use Rattle.replay_core.specs.Stands.{Advances, MayTell, Stands};
 ghost use Rattle.replay_core.specs.Traffic.{traffic_of};
 
-use crate::error::{ReplayError, SessionError};
-use crate::room::CallRoom;
-use crate::session::Session;
+use crate::error::ReplayError;
+use chain_build::Setup;
+use chain_session::{Session, SessionError};
+use dispatch_chain::Kit;
 use model_driver::Driver;
 use replay_base::{Sink, Which, put_all};
 use std::alloc::Global;
 use trace_format::{AcceptError, Event, EventRoom, ParseError, TraceState};
 
-/// A session and the state of its trace, which stand for the same events, and room for events, calls and lines.
+/// A session and the state of its trace, which stand for the same events, and room for events and lines.
 #[derive(Drop)]
 pub struct Player {
     pub session: Session,
     pub state: TraceState,
     events: EventRoom,
-    calls: CallRoom,
     lines: Vec<u8>,
 }
 
 impl Player {
-    pub fn new(alloc: Global) -> Player
-        ensures session { Stands result.session [] [] }
+    /// A player of a session for which nothing was replayed yet.
+    pub fn new(alloc: Global, session: Session) -> Player
+        ensures session { option_map (λ x. x.kept) result.session.started ≡ option_map (λ x. x.kept) session.started }
         ensures state { SumsUp result.state [] }
     {
         Player {
-            session: Session::new(alloc),
+            session,
             state: TraceState::new(alloc),
             events: EventRoom::new(alloc),
-            calls: CallRoom::new(alloc),
             lines: Vec::new(alloc),
         }
     }
@@ -45,48 +49,56 @@ impl Player {
         &mut self,
         call: u64,
         event: &Event,
+        setup: &Setup,
+        kit: &Kit,
         driver: &mut D,
     ) -> Result<(), SessionError>
-        requires { CanTake self.old.session (content event.now) call }
-        ensures ok { OnOk result (Advances self.old.session self.new.session (content event.now) (D.log driver.old) (D.log driver.new) [] self.new.lines.items) }
-        ensures taken { OnOk result (HasTaken self.old.session self.new.session (content event.now) call) }
-        ensures err { OnErr result (MayTell self.old.session (content event.now) (D.log driver.old) (D.log driver.new)) }
+        requires can { CanTake (trace_setup (setup_content setup.now)) (option_map (λ x. x.kept) self.old.session.started) (content event.now) call }
+        requires few { length (setup_content setup.now).drivers.list < 2 ^ 32 }
+        ensures ok { OnOk result (Advances (trace_setup (setup_content setup.now)) (option_map (λ x. x.kept) self.old.session.started) (option_map (λ x. x.kept) self.new.session.started) (content event.now) (D.log driver.old) (D.log driver.new) [] self.new.lines.items) }
+        ensures within { OnOk result (exceeds_layers (trace_setup (setup_content setup.now)) (content event.now) ≡ false) }
+        ensures err { OnErr result (MayTell (trace_setup (setup_content setup.now)) (option_map (λ x. x.kept) self.old.session.started) (content event.now) (D.log driver.old) (D.log driver.new)) }
+        ensures fault { IfErr result (IsLong (trace_setup (setup_content setup.now)) (content event.now)) }
         ensures state { self.new.state ≡ self.old.state }
-        ensures only { IfErr result (λ e. e ≡ SessionError.NoMemory) }
         ensures policy { D.answers_by driver.new ≡ D.answers_by driver.old }
     {
         self.lines.clear();
         match event {
             Event::Begin { .. } => {
                 self.session
-                    .begin(&mut self.calls, call, event, driver, &mut self.lines)
+                    .begin(call, event, setup, kit, driver, &mut self.lines)
             }
             Event::Return { thread } => {
-                self.session
-                    .finish(&mut self.calls, *thread, &mut self.lines)?;
+                self.session.finish(*thread, &mut self.lines)?;
                 Ok(())
             }
         }
     }
-
     // The event's lines are written before the next is looked at.
     fn step<K: Sink, D: Driver>(
         &mut self,
         call: u64,
         event: &Event,
+        setup: &Setup,
+        kit: &Kit,
         driver: &mut D,
         out: &mut K,
     ) -> Result<(), ReplayError>
-        requires { CanTake self.old.session (content event.now) call }
+        requires can { CanTake (trace_setup (setup_content setup.now)) (option_map (λ x. x.kept) self.old.session.started) (content event.now) call }
+        requires few { length (setup_content setup.now).drivers.list < 2 ^ 32 }
         ensures steps { let sink = changed (K.held out.old) (K.held out.new) (K.faults out.old) (K.faults out.new) in
             let traffic = traffic_of (D.log driver.old) (D.log driver.new) sink in
-            Steps (record { old = self.old.session; new = self.new.session; event = content event.now; traffic = traffic }) result }
-        ensures taken { OnOk result (HasTaken self.old.session self.new.session (content event.now) call) }
+            let old = option_map (λ x. x.kept) self.old.session.started in
+            let new = option_map (λ x. x.kept) self.new.session.started in
+            Steps (record { setup = trace_setup (setup_content setup.now); old = old; new = new; event = content event.now; traffic = traffic }) result }
         ensures policy { D.answers_by driver.new ≡ D.answers_by driver.old }
         ensures state { self.new.state ≡ self.old.state }
     {
-        match self.take(call, event, driver) {
-            Err(_) => Err(ReplayError::NoMemory),
+        match self.take(call, event, setup, kit, driver) {
+            Err(SessionError::Chain { .. }) => Err(ReplayError::Limit {
+                which: Which::Chain,
+            }),
+            Err(SessionError::NoMemory) => Err(ReplayError::NoMemory),
             Ok(()) => match put_all(out, &self.lines) {
                 Ok(()) => Ok(()),
                 Err(_) => Err(ReplayError::Write),
@@ -94,21 +106,24 @@ impl Player {
         }
     }
 
-    /// Replays the line with this number, from 1: reads its event, which must be in its place, tells the driver, and writes the
+    /// Replays the line with this number, from 1: reads its event, which must be in its place, tells the drivers, and writes the
     /// event's lines.
     pub fn play_line<K: Sink, D: Driver>(
         &mut self,
         text: &[u8],
         number: u64,
+        setup: &Setup,
+        kit: &Kit,
         driver: &mut D,
         out: &mut K,
     ) -> Result<(), ReplayError>
-        requires together { InStep self.old.state self.old.session }
-        requires few { self.old.session.calls + 2 ≤ number }
+        requires together { InStep (trace_setup (setup_content setup.now)) self.old.state (option_map (λ x. x.kept) self.old.session.started) number }
+        requires few { length (setup_content setup.now).drivers.list < 2 ^ 32 }
         ensures plays { let sink = changed (K.held out.old) (K.held out.new) (K.faults out.old) (K.faults out.new) in
             let traffic = traffic_of (D.log driver.old) (D.log driver.new) sink in
-            PlaysLine (record { text = text.now; number = number; old_state = self.old.state; state = self.new.state; old = self.old.session; new = self.new.session; traffic = traffic }) result }
-        ensures calls { OnOk result (self.new.session.calls ≤ self.old.session.calls + 1) }
+            let old = option_map (λ x. x.kept) self.old.session.started in
+            let new = option_map (λ x. x.kept) self.new.session.started in
+            PlaysLine (record { setup = trace_setup (setup_content setup.now); text = text.now; number = number; old_state = self.old.state; state = self.new.state; old = old; new = new; traffic = traffic }) result }
         ensures policy { D.answers_by driver.new ≡ D.answers_by driver.old }
     {
         let event = match self.events.parse(text) {
@@ -123,7 +138,7 @@ impl Player {
         };
         match self.state.accept(&event) {
             Ok(call) => {
-                let stepped = self.step(call, &event, driver, out);
+                let stepped = self.step(call, &event, setup, kit, driver, out);
                 self.events.give_back(event);
                 stepped
             }
@@ -139,7 +154,7 @@ impl Player {
     }
 
     pub fn into_session(self) -> Session
-        ensures { result ≡ self.session }
+        ensures { option_map (λ x. x.kept) result.started ≡ option_map (λ x. x.kept) self.session.started }
     {
         self.session
     }

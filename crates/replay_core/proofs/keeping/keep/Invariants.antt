@@ -1,7 +1,0 @@
-use Rattle.std.proofs.Common.{◌≡◌, ◌++◌, map, take}
-use Rattle.replay_model.specs.Past.{retrieval}
-use Rattle.replay_core.specs.Shown.{opened_of}
-use Rattle.replay_core.proofs.keeping.keep.Given as goal
-
-abbrev pub invariant-loop-b : goal.invariant-loop-b
-invariant-loop-b l = l.table ≡ l.initial.table ++ map (retrieval (opened_of l.call) l.owner) (take l.b-index l.made)

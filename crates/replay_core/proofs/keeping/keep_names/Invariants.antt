@@ -1,6 +1,0 @@
-use Rattle.std.proofs.Common.{◌≡◌, ◌++◌, map, take}
-use Rattle.replay_model.specs.Past.{named_of}
-use Rattle.replay_core.proofs.keeping.keep_names.Given as goal
-
-abbrev pub invariant-loop-b : goal.invariant-loop-b
-invariant-loop-b l = l.names ≡ l.initial.names ++ map named_of (take l.b-index l.made)
