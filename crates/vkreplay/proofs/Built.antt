@@ -1,16 +1,15 @@
 -- What comes of building a chain can be printed, and its lines are those of the outcome by which traces are judged.
-use Rattle.std.proofs.Common.{◌≡◌, ◌≤◌, ℕ, Bool, false, refl, arith, List, [], length}
+use Rattle.std.proofs.Common.{◌≡◌, ◌≤◌, ℕ, false, refl, arith, List, length}
 use Rattle.layer_search.specs.Paths.{most_paths}
 use Rattle.chain_build.specs.Answers.{answer_content}
 use Rattle.chain_build.specs.Chain.{Outcome, LayerNotPresent, NoDriver, TooLong, Unguarded, Built, chain_of}
 use Rattle.chain_build.specs.Setup.{SetupContent}
 use Rattle.chain_build.specs.declared.answers.ChainAnswer.{ChainAnswer}
 use Rattle.chain_build.specs.declared.answers.ChainAnswer.TheVariants as answer
-use Rattle.replay_model.specs.Setup.{outcome_text}
+use Rattle.replay_model.specs.Setup.{is_too_long, outcome_text}
 use Rattle.report_text.specs.Chains.{IsPrintable, answer_text}
 use Rattle.report_text.specs.Setups.{outcome_of}
 use Rattle.report_text.proofs.Printing.{built_is_printable}
-use Rattle.vkreplay.specs.Showing.{is_too_long}
 
 -- what was built is no chain that is too long
 pub no_excess : (a : ChainAnswer) → is_too_long (outcome_of (answer_content a)) ≡ false

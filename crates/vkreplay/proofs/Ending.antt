@@ -2,6 +2,7 @@
 use Rattle.std.proofs.Common.{◌≡◌, ◌∙◌, ℕ, ◌<◌, ◌≤◌, List, [], ◌++◌, length, Option, refl, ap, sym, subst, arith, append-nil, length-append, inl, inr}
 use Rattle.std.specs.Prelude.{◌≢◌, Some, None, Result, Ok, Err, cond, nat_le, nat_lt, Bool, true, false, ◌⊎◌, ◌==◌}
 use Rattle.std.specs.List.{concat}
+use Rattle.std.proofs.lemmas.Option.{none-some}
 use Rattle.layer_search.specs.Paths.{most_paths}
 use Rattle.chain_build.specs.Override.{most_met, setup_of}
 use Rattle.chain_build.specs.Setup.{SetupContent}
@@ -15,53 +16,88 @@ use Rattle.replay_base.specs.Files.{File}
 use Rattle.replay_base.specs.Lines.{lines_of}
 use Rattle.replay_base.specs.declared.limit.Which.TheVariants as which
 use Rattle.replay_base.proofs.Written.{grown_nil}
-use Rattle.replay_model.specs.Judged.{judged}
-use Rattle.replay_model.specs.Text.{reports_in}
+use Rattle.replay_model.specs.Setup.{Setup, is_too_long}
 use Rattle.replay_model.specs.declared.TheConstants.{MOST_BYTES}
-use Rattle.replay_model.specs.Stop.{Stop, Names, at_fault, events_in, events_of, stop, stop_in, too_large}
-use Rattle.replay_core.specs.Kept.{Kept}
-use Rattle.replay_core.specs.Replayed.{Run, Replays, Ended, StoppedAt, StoppedIn}
-use Rattle.replay_core.specs.Setups.{one_driver}
-use Rattle.replay_core.specs.Traffic.{text_of, end_line_of}
+use Rattle.trace_format.specs.declared.fault.TraceFault.{TraceFault}
+use Rattle.replay_model.specs.Stop.{Stop, Cause, Fault, Names, Layers, at_fault, events_of, stop, stop_in, too_large}
+use Rattle.report_text.specs.Setups.{trace_setup}
+use Rattle.chain_session.specs.declared.kept.Kept.{Kept}
+use Rattle.chain_session.specs.Standing.{Counts, ShowsOnce}
+use Rattle.session_model.specs.Session.{SessionKept}
+use Rattle.layer_search.specs.Causes.{ErrorHasCause, WhereTold}
+use Rattle.layer_search.specs.declared.errors.SearchError.{SearchError}
+use Rattle.layer_search.specs.declared.errors.SearchError.TheVariants as search-error
+use Rattle.chain_build.specs.Causes.{MeetsTooMany}
+use Rattle.replay_core.specs.Replayed.{Run, Ended, IsCutShort, StoppedAt, StoppedIn}
+use Rattle.replay_core.specs.Traffic.{text_of}
 use Rattle.replay_core.specs.declared.error.ReplayError.{ReplayError}
 use Rattle.replay_core.specs.declared.error.ReplayError.TheVariants as error
 use Rattle.replay_core.specs.declared.status.Status.{Status}
 use Rattle.replay_core.specs.declared.status.Status.TheVariants as status
-use Rattle.vkreplay.specs.Outcome.{Completed, DidNothing, EndsAs, EndsChain, EndsRun, Keeps, LeftTrace, Process, SaidOnly, ShowEnds, Tells, TellsFiles, TellsTrace}
-use Rattle.vkreplay.specs.Output.{Answer, IsAnswer, chain_output, end_status, manifests_output, output, output_at, output_of, run_output, shown_output, shown_so}
-use Rattle.vkreplay.specs.Said.{Said, IsSilent, limit_line, usage_line}
-use Rattle.vkreplay.specs.Showing.{ChainRun, MetTooMany, Shows, ShowsSetup, Writes, WroteAll, is_too_long, shown_lines, shown_outcome}
+use Rattle.vkreplay.specs.Outcome.{Completed, DidNothing, EndsAs, EndsBefore, EndsChain, EndsRun, EndsUnder, Keeps, LeftTrace, Process, ShowEnds, Tells, TellsFiles, TellsTrace, reports_kept}
+use Rattle.vkreplay.specs.Output.{Answer, IsAnswer, chain_output, end_status, large_output, manifests_output, output_at, output_of, replay_output, run_output, shown_output, shown_so, stopped_output}
+use Rattle.vkreplay.specs.Said.{Said, IsSilent, fault_line, limit_line}
+use Rattle.vkreplay.specs.Showing.{ChainRun, IsSetupOf, Search, Shows, ShowsSetup, WroteAll, WroteNothing, search_of, search_stop, shown_lines, shown_outcome}
 use Rattle.vkreplay.specs.Statuses.{line_of, status_of, words_line, words_status}
 
 -- ---- the causes
 
--- an error of a replay
-pub run_refused : (run : Run) (errs : Change) (e : ReplayError) (s : Status) → Replays run (Err e) → s ≡ status_of e → Said (line_of e) errs → EndsRun run errs s None
-run_refused run errs e s cut is said = subst (λ (t : Status). EndsRun run errs t None) (sym is) (go e cut said)
+-- an error of a replay under a setup
+pub under_refused : (s : Setup) (run : Run) (errs : Change) (e : ReplayError) (st : Status) → IsCutShort s run e → st ≡ status_of e → Said (line_of e) errs → EndsUnder s run errs st None
+under_refused s run errs e st cut is said = subst (λ (t : Status). EndsUnder s run errs t None) (sym is) (go e cut said)
   where
-    go : (e : ReplayError) → Replays run (Err e) → Said (line_of e) errs → EndsRun run errs (status_of e) None
+    go : (e : ReplayError) → IsCutShort s run e → Said (line_of e) errs → EndsUnder s run errs (status_of e) None
     go error.Read cut said = record { cut = cut; said = said }
     go error.Write cut said = record { cut = cut; said = said }
     go (error.Trace line fault) cut said = record { line = line; fault = fault; stopped = record { cut = cut; said = said } }
-    go (error.Limit which.Names) cut said = record { cut = cut; said = said }
+    go (error.Limit which.Names) cut said = inl (record { cut = cut; said = said })
+    go (error.Limit which.Chain) cut said = inr (record { cut = cut; said = said })
     go (error.Limit which.Manifests) cut said = absurd cut
     go (error.Limit which.Lines) cut said = absurd cut
     go (error.Limit which.LineBytes) cut said = absurd cut
-    go (error.Limit which.Chain) cut said = absurd cut
     go (error.Limit which.Events) cut said = absurd cut
     go (error.Limit which.Devices) cut said = absurd cut
     go error.NoMemory cut said = record { cut = cut; said = said }
 
--- a replay that ended
-pub run_completed : (run : Run) (errs : Change) (k : Kept) (s : Status) → Ended k run → s ≡ end_status k.reports → IsSilent errs → EndsRun run errs s (Some k)
-run_completed run errs k s ended is silent = subst (λ (t : Status). EndsRun run errs t (Some k)) (sym is) (go (k.reports == 0) refl)
+-- what a session has counted is what it keeps
+counted : (s : Setup) (x : Option Kept) (k : SessionKept) → ShowsOnce s x k → reports_kept x ≡ k.reports
+counted s None k is = sym (ap (λ (l : SessionKept). l.reports) is)
+counted s (Some x) k shows = shows.reports
+
+-- a replay under a setup that ended
+pub under_completed : (s : Setup) (run : Run) (errs : Change) (x : Option Kept) (calls skipped reports : ℕ) (st : Status) → Ended s x run → Counts x calls skipped reports
+    → st ≡ end_status reports → IsSilent errs → EndsUnder s run errs st (Some x)
+under_completed s run errs x calls skipped reports st ended counts is silent = subst (λ (t : Status). EndsUnder s run errs t (Some x)) (sym (is ∙ ap end_status same)) (go (reports_kept x == 0) refl)
   where
-    done : Completed k run errs
+    same : reports ≡ reports_kept x
+    same = (counts s ended.stands.kept ended.stands.shows).1.1 ∙ sym (counted s x ended.stands.kept ended.stands.shows)
+
+    done : Completed s x run errs
     done = record { ended = ended; silent = silent }
 
-    go : (b : Bool) → (k.reports == 0) ≡ b → EndsRun run errs (cond b status.Clean status.Reported) (Some k)
+    go : (b : Bool) → (reports_kept x == 0) ≡ b → EndsUnder s run errs (cond b status.Clean status.Reported) (Some x)
     go true none = (done, grind (arith, none))
     go false some = (done, grind (arith, some))
+
+-- a replay under the setup that was read
+pub run_under : (search : Search) (run : Run) (errs : Change) (st : Status) (session : Option (Option Kept)) (setup : SetupContent) → WhereTold search.tree.files (IsSetupOf search setup)
+    → search.tree.faults ≡ search.tree.faults_before → EndsUnder (trace_setup setup) run errs st session → EndsRun search run errs st session
+run_under search run errs st session setup told stood ends = inr (record { setup = setup; told = told; stood = stood; holds = ends })
+
+-- a search's error ends a run before its trace is read
+pub run_without : (search : Search) (run : Run) (errs : Change) (e : SearchError) (st : Status) → ErrorHasCause search.tree.faults_before search.tree.faults e
+    → WhereTold search.tree.files (λ files. MeetsTooMany (most_met files search.env search.root search.exe) e) → DidNothing run → st ≡ status_of (search_stop e) → Said (line_of (search_stop e)) errs
+    → EndsRun search run errs st None
+run_without search run errs e st cause many nothing is said = subst (λ (t : Status). EndsRun search run errs t None) (sym is) (inl (go e cause many said))
+  where
+    unwritten : WroteNothing run.traffic.sink
+    unwritten = record { same = nothing.untouched.sink; stood = nothing.untouched.stood }
+
+    go : (e : SearchError) → ErrorHasCause search.tree.faults_before search.tree.faults e → WhereTold search.tree.files (λ files. MeetsTooMany (most_met files search.env search.root search.exe) e)
+        → Said (line_of (search_stop e)) errs → EndsBefore search run errs (status_of (search_stop e)) None
+    go search-error.Tree cause many said = record { cause = record { failed = cause; nothing = unwritten }; only = record { nothing = nothing; said = said } }
+    go (search-error.TooMany count) cause many said = record { cause = record { told = many; stood = cause.0; nothing = unwritten }; only = record { nothing = nothing; said = said } }
+    go search-error.NoMemory cause many said = record { cause = cause; only = record { nothing = nothing; said = said } }
 
 -- a chain that was cut short
 pub chain_cut : (chain : ChainRun) (sink errs : Change) (e : ReplayError) (s : Status) → Shows chain sink (Err e) → s ≡ status_of e → Said (line_of e) errs → ShowEnds chain sink errs s
@@ -100,55 +136,74 @@ gave_some bs bytes (Some more) given =
 rose : (before now : ℕ) → now ≡ raised before → Rose before now
 rose before now failed = omega (arith, failed)
 
+module _ (s : Setup) (errs : Change) (bs : List ℕ) where
+  -- what isn't too large is answered by its stop
+  small_gives : (sink : Change) (st : Status) → length bs ≤ MOST_BYTES → IsAnswer (output_at s (stop s bs) (events_of s bs)) st sink errs → IsAnswer (replay_output s bs) st sink errs
+  small_gives sink st small gives =
+      let is : nat_lt MOST_BYTES (length bs) ≡ false = grind arith in
+      subst (λ (b : Bool). IsAnswer (cond b large_output (output_at s (stop s bs) (events_of s bs))) st sink errs) (sym is) gives
+
+  -- and what is too large is left
+  large_gives : (sink : Change) (st : Status) → MOST_BYTES < length bs → IsAnswer large_output st sink errs → IsAnswer (replay_output s bs) st sink errs
+  large_gives sink st large gives =
+      let is : nat_lt MOST_BYTES (length bs) ≡ true = grind arith in
+      subst (λ (b : Bool). IsAnswer (cond b large_output (output_at s (stop s bs) (events_of s bs))) st sink errs) (sym is) gives
+
+-- a trace that nothing stops isn't too large
+not_large : (s : Setup) (bs : List ℕ) → stop s bs ≡ None → length bs ≤ MOST_BYTES
+not_large s bs none = go (nat_lt MOST_BYTES (length bs)) refl
+  where
+    go : (b : Bool) → nat_lt MOST_BYTES (length bs) ≡ b → length bs ≤ MOST_BYTES
+    go false is = grind (arith, is)
+    go true is =
+        let stops : stop s bs ≡ Some too_large = ap (λ (b : Bool). cond b (Some too_large) (stop_in s (lines_of bs))) is in
+        absurd (none-some too_large (sym none ∙ stops))
+
 -- a replay that ended
-ended_gives : (run : Run) (errs : Change) (k : Kept) (bs : List ℕ) → run.source.old ≡ Some bs → Completed k run errs → IsAnswer (run_output bs) (end_status k.reports) run.traffic.sink errs
-ended_gives run errs k bs told done =
+ended_gives : (s : Setup) (run : Run) (errs : Change) (x : Option Kept) (bs : List ℕ) → run.source.old ≡ Some bs → Completed s x run errs → IsAnswer (replay_output s bs) (end_status (reports_kept x)) run.traffic.sink errs
+ended_gives s run errs x bs told done =
     let e = done.ended in
     let same : e.bytes ≡ bs = gave_all bs e.bytes run.source.new (sym told ∙ e.read.given) e.read.spent in
-    let none : stop bs ≡ None = ap stop (sym same) ∙ e.none in
-    let Whole : List ℕ → Type 0 = λ b. IsAnswer (output_at None (events_of b)) (end_status k.reports) run.traffic.sink errs in
-    subst (λ (o : Option Stop). IsAnswer (output_at o (events_of bs)) (end_status k.reports) run.traffic.sink errs) (sym none)
+    let none : stop s bs ≡ None = ap (stop s) (sym same) ∙ e.none in
+    let Whole : List ℕ → Type 0 = λ b. IsAnswer (output_at s None (events_of s b)) (end_status (reports_kept x)) run.traffic.sink errs in
+    small_gives s errs bs run.traffic.sink (end_status (reports_kept x)) (not_large s bs none)
+    (subst (λ (o : Option Stop). IsAnswer (output_at s o (events_of s bs)) (end_status (reports_kept x)) run.traffic.sink errs) (sym none)
     (subst Whole same (record {
-      status = ap end_status e.stands.reports;
+      status = ap end_status (counted s x e.stands.kept e.stands.shows ∙ e.stands.stands.reports);
       wrote = e.wrote;
       said = inl (record { stood = done.silent.stood; gained = done.silent.same ∙ sym (grown_nil errs.old) });
-    }))
+    })))
 
--- what is too large stops at its first line, and has no events
-stops_large : (bs : List ℕ) → MOST_BYTES < length bs → stop bs ≡ Some too_large
-stops_large bs large =
-    let is : nat_lt MOST_BYTES (length bs) ≡ true = grind arith in
-    ap (λ b. cond b (Some too_large) (stop_in (lines_of bs))) is
+-- a trace that was read whole isn't too large
+not_more : (s : Setup) (place : Stop) (run : Run) (stopped : StoppedIn s place run) → length stopped.bytes ≤ MOST_BYTES
+not_more s place run stopped = stopped.size
 
-no_events_large : (bs : List ℕ) → MOST_BYTES < length bs → events_of bs ≡ []
-no_events_large bs large =
-    let is : nat_lt MOST_BYTES (length bs) ≡ true = grind arith in
-    ap (λ b. cond b [] (events_in (lines_of bs))) is
+-- a replay that stopped is answered so
+stopped_gives : (s : Setup) (place : Stop) (run : Run) (errs : Change) (bs : List ℕ) (st : Status) → run.source.old ≡ Some bs → StoppedIn s place run
+    → st ≡ (stopped_output s place.line place.cause []).status → Said (stopped_output s place.line place.cause []).said errs → IsAnswer (replay_output s bs) st run.traffic.sink errs
+stopped_gives s place run errs bs st told stopped is said =
+    let same : stopped.bytes ≡ bs = gave_all bs stopped.bytes run.source.new (sym told ∙ stopped.read.given) stopped.read.spent in
+    let here : stop s bs ≡ Some place = ap (stop s) (sym same) ∙ stopped.here in
+    let wrote : Gained run.traffic.sink (text_of s (events_of s bs)) = stopped.wrote ∙ ap (λ b. grown run.traffic.sink.old (text_of s (events_of s b))) same in
+    let small : length bs ≤ MOST_BYTES = subst (λ (b : List ℕ). length b ≤ MOST_BYTES) same (not_more s place run stopped) in
+    small_gives s errs bs run.traffic.sink st small
+    (subst (λ (o : Option Stop). IsAnswer (output_at s o (events_of s bs)) st run.traffic.sink errs) (sym here) (go place.cause is said wrote))
+  where
+    go : (cause : Cause) → st ≡ (stopped_output s place.line cause []).status → Said (stopped_output s place.line cause []).said errs → Gained run.traffic.sink (text_of s (events_of s bs))
+        → IsAnswer (stopped_output s place.line cause (events_of s bs)) st run.traffic.sink errs
+    go (Fault f) is said wrote = record { status = is; wrote = wrote; said = said }
+    go Names is said wrote = record { status = is; wrote = wrote; said = said }
+    go Layers is said wrote = record { status = is; wrote = wrote; said = said }
 
--- where a replay stopped, there the trace stops, and what was written is the text before
-record StopsSo (place : Stop) (run : Run) (bs : List ℕ) : Type 0 where
-  here : stop bs ≡ Some place
-  wrote : Gained run.traffic.sink (text_of (events_of bs))
-
-stopped_in : (place : Stop) (run : Run) (bs : List ℕ) → run.source.old ≡ Some bs → StoppedIn place run → StopsSo place run bs
-stopped_in place run bs told s =
-    let same : s.bytes ≡ bs = gave_all bs s.bytes run.source.new (sym told ∙ s.read.given) s.read.spent in
-    record { here = ap stop (sym same) ∙ s.here; wrote = s.wrote ∙ ap (λ b. grown run.traffic.sink.old (text_of (events_of b))) same }
-
-stopped_at : (place : Stop) (run : Run) (bs : List ℕ) → run.source.old ≡ Some bs → StoppedAt place run → StopsSo place run bs
-stopped_at place run bs told (inl s) = stopped_in place run bs told s
-stopped_at place run bs told (inr s) =
-    let large : MOST_BYTES < length bs = omega (arith, s.large.large, gave_some bs s.large.bytes run.source.new (sym told ∙ s.large.given)) in
-    record {
-      here = stops_large bs large ∙ ap (λ x. Some x) (sym s.first);
-      wrote = s.untouched.sink ∙ (sym (grown_nil run.traffic.sink.old) ∙ ap (λ es. grown run.traffic.sink.old (text_of es)) (sym (no_events_large bs large)));
-    }
-
--- a stop is the answer that the definition gives
-stop_gives : (place : Stop) (run : Run) (errs : Change) (bs : List ℕ) (s : Status) → StopsSo place run bs
-    → ((sink : Change) → Gained sink (text_of (events_of bs)) → IsAnswer (output_at (Some place) (events_of bs)) s sink errs) → IsAnswer (run_output bs) s run.traffic.sink errs
-stop_gives place run errs bs s so gives =
-    subst (λ (o : Option Stop). IsAnswer (output_at o (events_of bs)) s run.traffic.sink errs) (sym so.here) (gives run.traffic.sink so.wrote)
+-- a fault is answered so
+fault_gives : (s : Setup) (line : ℕ) (fault : TraceFault) (run : Run) (errs : Change) (bs : List ℕ) → run.source.old ≡ Some bs → StoppedAt s (at_fault line fault) run
+    → Said (fault_line line fault) errs → IsAnswer (replay_output s bs) status.Malformed run.traffic.sink errs
+fault_gives s line fault run errs bs told (inl stopped) said = stopped_gives s (at_fault line fault) run errs bs status.Malformed told stopped refl said
+fault_gives s line fault run errs bs told (inr size) said =
+    let large : MOST_BYTES < length bs = omega (arith, size.large.large, gave_some bs size.large.bytes run.source.new (sym told ∙ size.large.given)) in
+    let same : fault_line line fault ≡ large_output.said = ap (λ (p : Stop). (stopped_output s p.line p.cause []).said) size.first in
+    large_gives s errs bs run.traffic.sink status.Malformed large
+    (record { status = refl; wrote = size.untouched.sink ∙ sym (grown_nil run.traffic.sink.old); said = subst (λ (l : List ℕ). Said l errs) same said })
 
 -- the reports of a session that ended, as a status
 clean : (n : ℕ) → n ≡ 0 → end_status n ≡ status.Clean
@@ -159,56 +214,85 @@ reported n some =
     let is : (n == 0) ≡ false = grind (arith, some) in
     ap (λ b. cond b status.Clean status.Reported) is
 
--- the answer to a trace is a function of its bytes
-run_gives : (p : Process) (s : Status) (session : Option Kept) → EndsRun p.run p.errs s session → (bs : List ℕ) → TellsTrace p bs
-    → IsAnswer (run_output bs) s p.run.traffic.sink p.errs ⊎ (s ≡ status.NoMemory)
-run_gives p status.Clean (Some k) done bs tells = inl (subst (λ (t : Status). IsAnswer (run_output bs) t p.run.traffic.sink p.errs) (clean k.reports done.1) (ended_gives p.run p.errs k bs tells.told done.0))
-run_gives p status.Reported (Some k) done bs tells = inl (subst (λ (t : Status). IsAnswer (run_output bs) t p.run.traffic.sink p.errs) (reported k.reports done.1) (ended_gives p.run p.errs k bs tells.told done.0))
-run_gives p status.Malformed None done bs tells =
-    inl (stop_gives (at_fault done.line done.fault) p.run p.errs bs status.Malformed (stopped_at _ p.run bs tells.told done.stopped.cut)
-    (λ sink wrote. record { status = refl; wrote = wrote; said = done.stopped.said }))
-run_gives p status.ReadFault None done bs tells = absurd (tells.source (rose p.run.source.faults_before p.run.source.faults done.cut.failed))
-run_gives p status.WriteFault None done bs tells = absurd (tells.sink (rose p.run.traffic.sink.faults_before p.run.traffic.sink.faults done.cut.failed))
-run_gives p status.Limit None done bs tells =
-    inl (stop_gives (record { line = done.cut.line; cause = Names }) p.run p.errs bs status.Limit (stopped_in _ p.run bs tells.told done.cut.stopped)
-    (λ sink wrote. record { status = refl; wrote = wrote; said = done.said }))
-run_gives p status.NoMemory None done bs tells = inr refl
-run_gives p other session done bs tells = absurd done
+-- the answer to a trace under a setup is a function of its bytes
+under_gives : (s : Setup) (p : Process) (st : Status) (session : Option (Option Kept)) → EndsUnder s p.run p.errs st session → (bs : List ℕ) → TellsTrace p bs
+    → IsAnswer (replay_output s bs) st p.run.traffic.sink p.errs ⊎ (st ≡ status.NoMemory)
+under_gives s p status.Clean (Some x) done bs tells =
+    inl (subst (λ (t : Status). IsAnswer (replay_output s bs) t p.run.traffic.sink p.errs) (clean (reports_kept x) done.1) (ended_gives s p.run p.errs x bs tells.told done.0))
+under_gives s p status.Reported (Some x) done bs tells =
+    inl (subst (λ (t : Status). IsAnswer (replay_output s bs) t p.run.traffic.sink p.errs) (reported (reports_kept x) done.1) (ended_gives s p.run p.errs x bs tells.told done.0))
+under_gives s p status.Malformed None done bs tells = inl (fault_gives s done.line done.fault p.run p.errs bs tells.told done.stopped.cut done.stopped.said)
+under_gives s p status.ReadFault None done bs tells = absurd (tells.source (rose p.run.source.faults_before p.run.source.faults done.cut.failed))
+under_gives s p status.WriteFault None done bs tells = absurd (tells.sink (rose p.run.traffic.sink.faults_before p.run.traffic.sink.faults done.cut.failed))
+under_gives s p status.Limit None (inl done) bs tells =
+    inl (stopped_gives s (record { line = done.cut.line; cause = Names }) p.run p.errs bs status.Limit tells.told done.cut.stopped refl done.said)
+under_gives s p status.Limit None (inr done) bs tells =
+    inl (stopped_gives s (record { line = done.cut.line; cause = Layers }) p.run p.errs bs status.Limit tells.told done.cut.stopped refl done.said)
+under_gives s p status.NoMemory None done bs tells = inr refl
+under_gives s p other session done bs tells = absurd done
+
+-- ---- the answer where manifests are read
+
+module _ (search : Search) (sink errs : Change) (files : List File) (answer : Answer) where
+  abbrev met : ℕ
+  met = most_met files search.env search.root search.exe
+
+  abbrev answers : Status → Type 0
+  answers st = IsAnswer (cond (nat_le met most_paths) answer manifests_output) st sink errs
+
+  within : met ≤ most_paths → (st : Status) → IsAnswer answer st sink errs → answers st
+  within few st gives =
+      let is : nat_le met most_paths ≡ true = grind arith in
+      subst (λ (b : Bool). IsAnswer (cond b answer manifests_output) st sink errs) (sym is) gives
+
+  too_many : most_paths < met → Gained sink [] → Said (limit_line which.Manifests) errs → answers status.Limit
+  too_many many wrote said =
+      let is : nat_le met most_paths ≡ false = grind arith in
+      subst (λ (b : Bool). IsAnswer (cond b answer manifests_output) status.Limit sink errs) (sym is) (record { status = refl; wrote = wrote; said = said })
+
+-- ---- the answer where a replay is asked for
+
+run_gives : (p : Process) (asked : RunAsked) (st : Status) (session : Option (Option Kept)) → EndsRun (search_of asked.root asked.exe p.env p.tree) p.run p.errs st session
+    → (files : List File) (bs : List ℕ) → TellsTrace p bs → TellsFiles p files → IsAnswer (run_output files p.env asked bs) st p.run.traffic.sink p.errs ⊎ (st ≡ status.NoMemory)
+run_gives p asked st session (inr under) files bs trace tells = go (under_gives (trace_setup under.setup) p st session under.holds bs trace)
+  where
+    search : Search
+    search = search_of asked.root asked.exe p.env p.tree
+
+    go : IsAnswer (replay_output (trace_setup under.setup) bs) st p.run.traffic.sink p.errs ⊎ (st ≡ status.NoMemory) → IsAnswer (run_output files p.env asked bs) st p.run.traffic.sink p.errs ⊎ (st ≡ status.NoMemory)
+    go (inr out) = inr out
+    go (inl gives) =
+        let has = under.told files tells.told in
+        inl (within search p.run.traffic.sink p.errs files (replay_output (trace_setup (setup_of files p.env asked.root asked.exe)) bs) has.within st
+        (subst (λ (c : SetupContent). IsAnswer (replay_output (trace_setup c) bs) st p.run.traffic.sink p.errs) has.is gives))
+run_gives p asked status.ReadFault None (inl cut) files bs trace tells = absurd (tells.tree (rose p.tree.faults_before p.tree.faults cut.cause.failed))
+run_gives p asked status.Limit None (inl cut) files bs trace tells =
+    inl (too_many (search_of asked.root asked.exe p.env p.tree) p.run.traffic.sink p.errs files (replay_output (trace_setup (setup_of files p.env asked.root asked.exe)) bs)
+    (cut.cause.told files tells.told) (cut.cause.nothing.same ∙ sym (grown_nil p.run.traffic.sink.old)) cut.only.said)
+run_gives p asked status.NoMemory None (inl cut) files bs trace tells = inr refl
+run_gives p asked other session (inl cut) files bs trace tells = absurd cut
 
 -- ---- the answer where a chain is asked for
 
 module _ (chain : ChainRun) (sink errs : Change) (files : List File) (told : chain.tree.files ≡ Some files) where
-  abbrev met : ℕ
-  met = most_met files chain.env chain.asked.root chain.asked.exe
+  abbrev search_shown : Search
+  search_shown = search_of chain.asked.root chain.asked.exe chain.env chain.tree
 
-  abbrev setup : SetupContent
-  setup = setup_of files chain.env chain.asked.root chain.asked.exe
-
-  abbrev answers : Status → Type 0
-  answers s = IsAnswer (chain_output files chain.env chain.asked) s sink errs
-
-  within : met ≤ most_paths → (s : Status) → IsAnswer (shown_output setup chain.asked) s sink errs → answers s
-  within few s gives =
-      let is : nat_le met most_paths ≡ true = grind arith in
-      subst (λ (b : Bool). IsAnswer (cond b (shown_output setup chain.asked) manifests_output) s sink errs) (sym is) gives
-
-  too_many : most_paths < met → IsAnswer manifests_output status.Limit sink errs → answers status.Limit
-  too_many many gives =
-      let is : nat_le met most_paths ≡ false = grind arith in
-      subst (λ (b : Bool). IsAnswer (cond b (shown_output setup chain.asked) manifests_output) status.Limit sink errs) (sym is) gives
+  abbrev answer_shown : Answer
+  answer_shown = shown_output (setup_of files chain.env chain.asked.root chain.asked.exe) chain.asked
 
   -- the setup that was read is that of the files, and its chain is too long or isn't
   shown : (s : Status) (result : Result Unit ReplayError) (long : Bool) (shows : ShowsSetup chain sink result)
       → WroteAll (shown_lines shows.setup chain.asked) sink → is_too_long (shown_outcome shows.setup chain.asked) ≡ long
-      → ((bytes : List ℕ) → Gained sink bytes → IsAnswer (shown_so long bytes) s sink errs) → answers s
+      → ((bytes : List ℕ) → Gained sink bytes → IsAnswer (shown_so long bytes) s sink errs) → IsAnswer (chain_output files chain.env chain.asked) s sink errs
   shown s result long shows wrote is gives =
       let has = shows.told files told in
-      within has.within s
+      within search_shown sink errs files answer_shown has.within s
       (subst (λ (c : SetupContent). IsAnswer (shown_output c chain.asked) s sink errs) has.is
       (subst (λ (b : Bool). IsAnswer (shown_so b (concat (shown_lines shows.setup chain.asked))) s sink errs) (sym is)
       (gives (concat (shown_lines shows.setup chain.asked)) wrote.wrote)))
 
-chain_gives : (p : Process) (asked : ChainAsked) (s : Status) (session : Option Kept)
+chain_gives : (p : Process) (asked : ChainAsked) (s : Status) (session : Option (Option Kept))
     → EndsChain (record { asked = asked; env = p.env; tree = p.tree }) p.run p.errs s session → (files : List File) → TellsFiles p files
     → IsAnswer (chain_output files p.env asked) s p.run.traffic.sink p.errs ⊎ (s ≡ status.NoMemory)
 chain_gives p asked status.Clean None done files tells =
@@ -220,8 +304,8 @@ chain_gives p asked status.ReadFault None done files tells = absurd (tells.tree 
 chain_gives p asked status.WriteFault None done files tells = absurd (tells.sink (rose p.run.traffic.sink.faults_before p.run.traffic.sink.faults done.1.shows.writes.failed))
 chain_gives p asked status.Limit None (left, inl cut) files tells =
     let chain : ChainRun = record { asked = asked; env = p.env; tree = p.tree } in
-    inl (too_many chain p.run.traffic.sink p.errs files tells.told (cut.shows.told files tells.told)
-    (record { status = refl; wrote = cut.shows.nothing.same ∙ sym (grown_nil p.run.traffic.sink.old); said = cut.said }))
+    inl (too_many (search_shown chain p.run.traffic.sink p.errs files tells.told) p.run.traffic.sink p.errs files (answer_shown chain p.run.traffic.sink p.errs files tells.told)
+    (cut.shows.told files tells.told) (cut.shows.nothing.same ∙ sym (grown_nil p.run.traffic.sink.old)) cut.said)
 chain_gives p asked status.Limit None (left, inr cut) files tells =
     let chain : ChainRun = record { asked = asked; env = p.env; tree = p.tree } in
     inl (shown chain p.run.traffic.sink p.errs files tells.told status.Limit (Err (error.Limit which.Chain)) true cut.shows cut.shows.writes.0 cut.shows.writes.1
@@ -235,7 +319,7 @@ chain_gives p asked s (Some session) done files tells = absurd done
 -- ---- the promises
 
 -- an end by what the words ask for
-keeps_as : (p : Process) (s : Status) (session : Option Kept) (asked : Option Asked) → words_ask p.words ≡ asked → EndsAs asked p s session → Keeps p s session
+keeps_as : (p : Process) (s : Status) (session : Option (Option Kept)) (asked : Option Asked) → words_ask p.words ≡ asked → EndsAs asked p s session → Keeps p s session
 keeps_as p s session asked is done = record {
   function = λ files bytes tells. subst (λ (o : Option Asked). IsAnswer (output_by o files bytes) s p.run.traffic.sink p.errs ⊎ (s ≡ status.NoMemory)) (sym is)
       (gives asked s session done files bytes (subst (λ (o : Option Asked). Tells o p files bytes) is tells));
@@ -245,17 +329,18 @@ keeps_as p s session asked is done = record {
     output_by : Option Asked → List File → List ℕ → Answer
     output_by o files bytes = output_of o p.env files bytes
 
-    gives : (o : Option Asked) (s : Status) (session : Option Kept) → EndsAs o p s session → (files : List File) (bytes : List ℕ) → Tells o p files bytes
+    gives : (o : Option Asked) (s : Status) (session : Option (Option Kept)) → EndsAs o p s session → (files : List File) (bytes : List ℕ) → Tells o p files bytes
         → IsAnswer (output_by o files bytes) s p.run.traffic.sink p.errs ⊎ (s ≡ status.NoMemory)
     gives None status.Usage None done files bytes tells =
         inl (record { status = refl; wrote = done.nothing.untouched.sink ∙ sym (grown_nil p.run.traffic.sink.old); said = done.said })
     gives None status.NoMemory None done files bytes tells = inr refl
     gives None other session done files bytes tells = absurd done
-    gives (Some (AsksRun asked)) s session done files bytes tells = run_gives p s session done bytes tells
+    gives (Some (AsksRun asked)) s session done files bytes tells = run_gives p asked s session done files bytes tells.0 tells.1
     gives (Some (AsksChain asked)) s session done files bytes tells = chain_gives p asked s session done files tells
 
 -- a replay was asked for
-pub keeps_run : (p : Process) (asked : RunAsked) (s : Status) (session : Option Kept) → words_ask p.words ≡ Some (AsksRun asked) → EndsRun p.run p.errs s session → Keeps p s session
+pub keeps_run : (p : Process) (asked : RunAsked) (s : Status) (session : Option (Option Kept)) → words_ask p.words ≡ Some (AsksRun asked)
+    → EndsRun (search_of asked.root asked.exe p.env p.tree) p.run p.errs s session → Keeps p s session
 keeps_run p asked s session is done = keeps_as p s session (Some (AsksRun asked)) is done
 
 -- a chain was asked for
@@ -270,7 +355,7 @@ keeps_words p e s usage stood is nothing said = subst (λ (t : Status). Keeps p 
   where
     no_memory : (o : Option Asked) → Said (words_line words.NoMemory) p.errs → EndsAs o p status.NoMemory None
     no_memory None said = record { nothing = nothing; said = said }
-    no_memory (Some (AsksRun asked)) said = record { cut = inl (record { untouched = nothing.untouched; stood = nothing.stood }); said = said }
+    no_memory (Some (AsksRun asked)) said = inl (record { cause = stood; only = record { nothing = nothing; said = said } })
     no_memory (Some (AsksChain asked)) said = (
       record { unread = nothing.unread; stood = nothing.stood; driver = nothing.untouched.driver },
       record { shows = inl (record { same = nothing.untouched.sink; stood = nothing.untouched.stood }, stood); said = said },

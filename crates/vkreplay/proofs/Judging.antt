@@ -1,5 +1,5 @@
 -- What `chain` shows is what a trace is judged by.
-use Rattle.std.proofs.Common.{◌≡◌, ◌∙◌, ℕ, refl, ap, sym, arith, true, List, [], ◌∷◌, ◌++◌, length, map, append-nil, append_assoc, Option, Some, None}
+use Rattle.std.proofs.Common.{◌≡◌, ◌∙◌, ℕ, refl, ap, arith, true, List, [], ◌∷◌, ◌++◌, length, map, append-nil, append_assoc, Option, Some, None}
 use Rattle.std.specs.Prelude.{is_some, find}
 use Rattle.std.specs.List.{concat}
 use Rattle.layer_search.specs.Contents.{DriverFound, NoteContent}

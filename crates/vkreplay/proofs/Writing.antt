@@ -1,14 +1,14 @@
 -- Pieces of text that are written one behind the other.
-use Rattle.std.proofs.Common.{◌≡◌, ◌∙◌, ◌+◌, ◌<◌, ◌≤◌, ℕ, Bool, true, false, refl, sym, ap, subst, arith, List, [], ◌∷◌, ◌++◌, length, map, take, drop, min, Option, append-nil, append_assoc, true≢false, inr}
+use Rattle.std.proofs.Common.{◌≡◌, ◌∙◌, ◌+◌, ◌<◌, ℕ, Bool, false, refl, sym, ap, subst, arith, List, [], ◌∷◌, ◌++◌, length, map, take, drop, min, Option, append-nil, append_assoc, true≢false, inr}
 use Rattle.std.specs.Prelude.{Result, Ok, Err}
 use Rattle.std.specs.List.{concat, slice_index_or}
 use Rattle.std.proofs.Math.Seq.{take-append-add}
 use Rattle.std.proofs.lemmas.List.{map-append, take-append-drop, take-append-le, take_min, take_more}
 use Rattle.replay_base.specs.Bytes.{grown, GrownByFront}
-use Rattle.replay_base.specs.Changes.{Change, changed, Gained}
+use Rattle.replay_base.specs.Changes.{Change, changed}
 use Rattle.replay_base.specs.Faults.{raised}
 use Rattle.replay_base.specs.declared.limit.Which.TheVariants as which
-use Rattle.replay_base.proofs.Written.{grown_nil, grown_grown}
+use Rattle.replay_base.proofs.Written.{grown_nil}
 use Rattle.replay_core.specs.declared.error.ReplayError.{ReplayError}
 use Rattle.replay_core.specs.declared.error.ReplayError.TheVariants as error
 use Rattle.vkreplay.proofs.SaidLemmas.{all_of_both, front_more, front_behind}

@@ -1,12 +1,11 @@
 -- The exit status of the process. Source: this project.
-use Rattle.std.specs.Prelude.{◌≡◌, ℕ, Option, None, List, Result, Ok, Err}
-use Rattle.env_filters.specs.Variables.{Variable}
+use Rattle.std.specs.Prelude.{◌≡◌, ℕ, Option, None, Result, Ok, Err}
+use Rattle.chain_session.specs.declared.kept.Kept.{Kept}
 use Rattle.model_driver.specs.declared.driver.Policy.{Policy}
 use Rattle.program_words.specs.Asked.{Asked, words_ask}
 use Rattle.program_words.specs.Content.{words_of}
 use Rattle.program_words.specs.declared.read.WordsError.{WordsError}
 use Rattle.replay_base.specs.Changes.{Change}
-use Rattle.replay_core.specs.Kept.{Kept}
 use Rattle.replay_core.specs.Replayed.{Run}
 use Rattle.replay_core.specs.Statuses.{status_code}
 use Rattle.replay_core.specs.declared.status.Status.{Status}
@@ -30,7 +29,7 @@ process_of given o = record { words = words_of given.words.items; env = given.en
 -- the exit status is the number of a status that keeps the promises of the program, and the driver is prepared by the words alone
 pub record ExitsWith (given : Invocation) (o : Outside) (code : ℕ) : Type 0 where
   pub status : Status
-  pub session : Option Kept
+  pub session : Option (Option Kept)
   pub keeps : Keeps (process_of given o) status session
   pub prepared : IsPrepared (words_ask (words_of given.words.items)) status o.policy_before o.policy
   pub is : code ≡ status_code status

@@ -1,26 +1,29 @@
 -- What the program writes, how it ends and what it says, as a function of its words, the variables, the files and the trace's bytes.
 -- Source: this project.
-use Rattle.std.specs.Prelude.{◌≡◌, ◌++◌, ◌==◌, nat_le, Bool, true, false, ℕ, if◌then◌else◌, Option, Some, None, List, []}
+use Rattle.std.specs.Prelude.{◌≡◌, ◌++◌, ◌==◌, nat_le, nat_lt, Bool, true, false, ℕ, if◌then◌else◌, Option, Some, None, List, [], length}
 use Rattle.std.specs.List.{concat}
 use Rattle.env_filters.specs.Variables.{Variable}
 use Rattle.layer_search.specs.Paths.{most_paths}
 use Rattle.chain_build.specs.Override.{most_met, setup_of}
 use Rattle.chain_build.specs.Setup.{SetupContent}
-use Rattle.program_words.specs.Asked.{Asked, AsksChain, AsksRun, ChainAsked, words_ask}
+use Rattle.program_words.specs.Asked.{Asked, AsksChain, AsksRun, ChainAsked, RunAsked, words_ask}
 use Rattle.program_words.specs.Words.{Word}
 use Rattle.replay_base.specs.Files.{File}
 use Rattle.trace_format.specs.Content.{TraceEvent}
+use Rattle.trace_format.specs.declared.fault.TraceFault.TheVariants as fault
 use Rattle.replay_base.specs.Changes.{Change, Gained}
 use Rattle.replay_base.specs.declared.limit.Which.TheVariants as which
+use Rattle.replay_model.specs.declared.TheConstants.{MOST_BYTES}
 use Rattle.replay_model.specs.Judged.{judged}
+use Rattle.replay_model.specs.Setup.{Setup, is_too_long}
 use Rattle.replay_model.specs.Text.{reports_in}
-use Rattle.replay_model.specs.Stop.{Stop, Cause, Fault, Names, stop, events_of}
-use Rattle.replay_core.specs.Setups.{one_driver}
+use Rattle.replay_model.specs.Stop.{Stop, Cause, Fault, Names, Layers, stop, events_of}
+use Rattle.report_text.specs.Setups.{trace_setup}
 use Rattle.replay_core.specs.Traffic.{text_of, end_line_of}
 use Rattle.replay_core.specs.declared.status.Status.{Status}
 use Rattle.replay_core.specs.declared.status.Status.TheVariants as status
 use Rattle.vkreplay.specs.Said.{Said, fault_line, limit_line, usage_line}
-use Rattle.vkreplay.specs.Showing.{is_too_long, shown_lines, shown_outcome}
+use Rattle.vkreplay.specs.Showing.{shown_lines, shown_outcome}
 
 -- the bytes that are written, the status, and the line on the error sink, which is empty where nothing is said
 pub record Answer : Type 0 where
@@ -32,27 +35,32 @@ pub record Answer : Type 0 where
 abbrev pub end_status : ℕ → Status
 end_status reports = if reports == 0 then status.Clean else status.Reported
 
--- a trace without a stop: its text and the end line
-abbrev pub whole_output : List TraceEvent → Answer
-whole_output events = record { bytes = text_of events ++ end_line_of events; status = end_status (reports_in (judged one_driver events)); said = [] }
+-- a trace without a stop under a setup: its text, which begins with the notes, and the end line
+abbrev pub whole_output : Setup → List TraceEvent → Answer
+whole_output s events = record { bytes = text_of s events ++ end_line_of s events; status = end_status (reports_in (judged s events)); said = [] }
 
 -- a trace with a stop: the text of the lines before it, and no end line
-abbrev pub stopped_output : ℕ → Cause → List TraceEvent → Answer
-stopped_output line (Fault f) events = record { bytes = text_of events; status = status.Malformed; said = fault_line line f }
-stopped_output line Names events = record { bytes = text_of events; status = status.Limit; said = limit_line which.Names }
+abbrev pub stopped_output : Setup → ℕ → Cause → List TraceEvent → Answer
+stopped_output s line (Fault f) events = record { bytes = text_of s events; status = status.Malformed; said = fault_line line f }
+stopped_output s line Names events = record { bytes = text_of s events; status = status.Limit; said = limit_line which.Names }
+stopped_output s line Layers events = record { bytes = text_of s events; status = status.Limit; said = limit_line which.Chain }
 
 -- the answer to a trace that stops here, or nowhere, with these events up to there
-abbrev pub output_at : Option Stop → List TraceEvent → Answer
-output_at None events = whole_output events
-output_at (Some s) events = stopped_output s.line s.cause events
+abbrev pub output_at : Setup → Option Stop → List TraceEvent → Answer
+output_at s None events = whole_output s events
+output_at s (Some place) events = stopped_output s place.line place.cause events
+
+-- the answer to a trace of more bytes than are replayed, which is left before the notes
+abbrev pub large_output : Answer
+large_output = record { bytes = []; status = status.Malformed; said = fault_line 1 fault.NotBuilt }
+
+-- the answer to a trace of these bytes under a setup
+abbrev pub replay_output : Setup → List ℕ → Answer
+replay_output s bytes = if nat_lt MOST_BYTES (length bytes) then large_output else output_at s (stop s bytes) (events_of s bytes)
 
 -- the answer to words that aren't understood
 abbrev pub usage_output : Answer
 usage_output = record { bytes = []; status = status.Usage; said = usage_line }
-
--- the answer to a trace of these bytes
-abbrev pub run_output : List ℕ → Answer
-run_output bytes = output_at (stop bytes) (events_of bytes)
 
 -- a chain is shown, or it is too long
 abbrev pub shown_so : Bool → List ℕ → Answer
@@ -72,10 +80,15 @@ abbrev pub chain_output : List File → List Variable → ChainAsked → Answer
 chain_output files env asked =
     if nat_le (most_met files env asked.root asked.exe) most_paths then shown_output (setup_of files env asked.root asked.exe) asked else manifests_output
 
+-- the answer where a replay is asked for
+abbrev pub run_output : List File → List Variable → RunAsked → List ℕ → Answer
+run_output files env asked bytes =
+    if nat_le (most_met files env asked.root asked.exe) most_paths then replay_output (trace_setup (setup_of files env asked.root asked.exe)) bytes else manifests_output
+
 -- the answer to what is asked for
 abbrev pub output_of : Option Asked → List Variable → List File → List ℕ → Answer
 output_of None env files bytes = usage_output
-output_of (Some (AsksRun asked)) env files bytes = run_output bytes
+output_of (Some (AsksRun asked)) env files bytes = run_output files env asked bytes
 output_of (Some (AsksChain asked)) env files bytes = chain_output files env asked
 
 -- the answer to these words, with these variables and files, and a trace of these bytes

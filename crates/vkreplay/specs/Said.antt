@@ -1,5 +1,5 @@
 -- What is said on the error sink. Source: this project.
-use Rattle.std.specs.Prelude.{◌≡◌, ◌⊎◌, ℕ, List, ◌++◌, codes, decimal}
+use Rattle.std.specs.Prelude.{◌⊎◌, ℕ, List, ◌++◌, codes, decimal}
 use Rattle.replay_base.specs.Bytes.{GrownByFront}
 use Rattle.replay_base.specs.Changes.{Change, Stood, FailedOnce, IsUnmoved, Gained}
 use Rattle.replay_base.specs.declared.limit.Which.{Which}

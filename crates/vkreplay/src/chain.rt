@@ -6,11 +6,11 @@ ghost use Rattle.chain_build.specs.Answers.{answer_content};
 ghost use Rattle.chain_build.specs.Chain.{chain_of};
 ghost use Rattle.chain_build.specs.Setup.{setup_content};
 ghost use Rattle.replay_base.specs.Changes.{changed};
-ghost use Rattle.replay_model.specs.Setup.{outcome_text};
+ghost use Rattle.replay_model.specs.Setup.{is_too_long, outcome_text};
 ghost use Rattle.report_text.specs.Chains.{IsPrintable};
 ghost use Rattle.report_text.specs.Notes.{note_text};
 ghost use Rattle.report_text.specs.Setups.{outcome_of};
-ghost use Rattle.vkreplay.specs.Showing.{Shows, Writes, chain_run, is_too_long, lines_with, search_stop, tree_seen};
+ghost use Rattle.vkreplay.specs.Showing.{Shows, Writes, chain_run, lines_with, search_stop, tree_seen};
 ghost use Rattle.program_words.specs.Meant.{chain_meant};
 
 use chain_build::{ChainAnswer, ChainError, Setup, build, read_setup};
@@ -119,8 +119,8 @@ fn show_setup<K: Sink>(
     put_chain(alloc, out, setup, layers, &mut line)
 }
 
-// A search's error.
-fn search_stop(error: SearchError) -> ReplayError
+/// A search's error.
+pub(crate) fn search_stop(error: SearchError) -> ReplayError
     ensures { result ≡ search_stop error }
 {
     match error {

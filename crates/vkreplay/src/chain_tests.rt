@@ -1,6 +1,5 @@
 // Chains that are shown: what each tree with its variables prints, says and answers.
-use crate::tests::{sink, words_of};
-use crate::top::replay_main;
+use crate::tests::{finished_of, sink, words_of};
 use env_filters::EnvList;
 use model_driver::ModelDriver;
 use replay_base::{MemSink, MemSource, MemTree};
@@ -189,18 +188,18 @@ pub struct Seen {
     pub errs: Vec<u8>,
 }
 
-// Runs the program over a tree with an empty trace.
+// Runs the program over a tree with this trace.
 fn run_over(
     alloc: Global,
     words: &[String],
     env: &EnvList,
     tree: &mut MemTree,
+    trace: &mut MemSource,
     out: &mut MemSink,
     errs: &mut MemSink,
 ) -> Status {
-    let mut trace = MemSource::new(Vec::new(alloc), Vec::new(alloc));
     let mut driver = ModelDriver::new(alloc);
-    replay_main(alloc, words, env, tree, &mut trace, out, errs, &mut driver).status
+    finished_of(alloc, words, env, tree, trace, out, errs, &mut driver).status
 }
 
 fn seen_of(alloc: Global, status: Status, out: &MemSink, errs: &MemSink) -> Result<Seen, Fail> {
@@ -216,10 +215,11 @@ fn seen_with(
     words: &[String],
     env: &EnvList,
     tree: &mut MemTree,
+    trace: &mut MemSource,
 ) -> Result<Seen, Fail> {
     let mut out = sink_of(alloc, 1_048_576)?;
     let mut errs = sink(alloc, 0)?;
-    let status = run_over(alloc, words, env, tree, &mut out, &mut errs);
+    let status = run_over(alloc, words, env, tree, trace, &mut out, &mut errs);
     seen_of(alloc, status, &out, &errs)
 }
 
@@ -238,7 +238,20 @@ pub fn seen_at(
     env: &EnvList,
     tree: &mut MemTree,
 ) -> Result<Seen, Fail> {
-    seen_with(alloc, &words_of(alloc, words)?, env, tree)
+    seen_over(alloc, words, env, tree, "")
+}
+
+// The same with a trace.
+pub fn seen_over(
+    alloc: Global,
+    words: &str,
+    env: &EnvList,
+    tree: &mut MemTree,
+    trace: &str,
+) -> Result<Seen, Fail> {
+    let bytes = Vec::from_slice(alloc, trace.as_bytes())?;
+    let mut trace = MemSource::new(bytes, Vec::new(alloc));
+    seen_with(alloc, &words_of(alloc, words)?, env, tree, &mut trace)
 }
 
 fn shown_of(alloc: Global, case: &Shown) -> Result<Seen, Fail> {
@@ -267,20 +280,25 @@ fn chains_are_shown_as_they_must_be(rt: HostRuntime) -> Result<(), Fail> {
     Ok(())
 }
 
-// A chain over a tree that fails at one of its calls.
-fn failed_at(alloc: Global, call: u64) -> Result<Seen, Fail> {
+// A command over a tree that fails at one of its calls.
+fn failed_at(alloc: Global, words: &str, call: u64) -> Result<Seen, Fail> {
     let mut tree = tree_of(alloc, &[DRIVER, VALIDATION])?;
     tree.fail_at(call).ok().ok_or("no memory")?;
-    seen_at(alloc, "chain", &variables(alloc, &[HOME])?, &mut tree)
+    let env = variables(alloc, &[HOME])?;
+    seen_over(alloc, words, &env, &mut tree, "vktrace 1")
+}
+
+fn shows_nothing(rt: &impl Abort, seen: &Seen) {
+    assert_eq!(rt; seen.status, Status::ReadFault);
+    assert!(rt; seen.out.is_empty());
+    assert!(rt; seen.errs.as_slice() == b"vkreplay: read fault\n".as_slice());
 }
 
 #[test]
 fn a_tree_that_fails_at_each_of_its_calls_shows_nothing(rt: HostRuntime) -> Result<(), Fail> {
     for call in 1..21 {
-        let seen = failed_at(rt.alloc(), call)?;
-        assert_eq!(rt; seen.status, Status::ReadFault);
-        assert!(rt; seen.out.is_empty());
-        assert!(rt; seen.errs.as_slice() == b"vkreplay: read fault\n".as_slice());
+        shows_nothing(&rt, &failed_at(rt.alloc(), "chain", call)?);
+        shows_nothing(&rt, &failed_at(rt.alloc(), "run", call)?);
     }
     Ok(())
 }

@@ -1,8 +1,8 @@
 // Runs over a source and a sink that move one byte a call and fail at one of their calls.
 ghost use Rattle.std.specs.Prelude.{None};
 
-use crate::tests::{TWICE, TWICE_TEXT, sink, words_of};
-use crate::top::replay_main;
+use crate::chain_tests::{DRIVER, tree_of};
+use crate::tests::{TWICE, TWICE_TEXT, finished_of, sink, words_of};
 use env_filters::EnvList;
 use model_driver::{Driver, ModelDriver, RecordingDriver};
 use replay_base::{Failed, MemSink, MemTree, Sink, Source};
@@ -83,16 +83,17 @@ fn source_at(alloc: Global, fails_at: usize) -> Result<ByteSource, AllocError> {
 fn cut_with<D: Driver>(
     alloc: Global,
     words: &[String],
+    tree: &mut MemTree,
     trace: &mut ByteSource,
     out: &mut ByteSink,
     errs: &mut MemSink,
     driver: &mut D,
 ) -> Status {
-    replay_main(
+    finished_of(
         alloc,
         words,
         &EnvList::new(alloc),
-        &mut MemTree::new(alloc),
+        tree,
         trace,
         out,
         errs,
@@ -104,6 +105,7 @@ fn cut_with<D: Driver>(
 fn cut_of(
     alloc: Global,
     words: &[String],
+    mut tree: MemTree,
     mut trace: ByteSource,
     mut errs: MemSink,
     fails_at: usize,
@@ -114,7 +116,15 @@ fn cut_of(
         faults: 0,
     };
     let mut driver = RecordingDriver::new(alloc, ModelDriver::new(alloc));
-    let status = cut_with(alloc, words, &mut trace, &mut out, &mut errs, &mut driver);
+    let status = cut_with(
+        alloc,
+        words,
+        &mut tree,
+        &mut trace,
+        &mut out,
+        &mut errs,
+        &mut driver,
+    );
     let told = driver.log().len();
     Cut {
         status,
@@ -125,9 +135,10 @@ fn cut_of(
 
 fn cut_run(alloc: Global, read: usize, written: usize) -> Result<Cut, Fail> {
     let words = words_of(alloc, "run")?;
+    let tree = tree_of(alloc, &[DRIVER])?;
     let trace = source_at(alloc, read)?;
     let errs = sink(alloc, 0)?;
-    Ok(cut_of(alloc, &words, trace, errs, written))
+    Ok(cut_of(alloc, &words, tree, trace, errs, written))
 }
 
 #[test]
@@ -141,10 +152,10 @@ fn a_source_that_fails_leaves_nothing(rt: HostRuntime) -> Result<(), Fail> {
     Ok(())
 }
 
-// The driver is told a call before its line is written, and four calls in all.
+// The driver is told a call before its line is written, the first before the two lines of the chain, and four calls in all.
 fn told_behind(text: &[u8]) -> usize {
     let lines = text.iter().filter(|byte| **byte == b'\n').count();
-    lines.saturating_add(1).min(4)
+    lines.saturating_sub(1).max(1).min(4)
 }
 
 #[test]

@@ -1,5 +1,5 @@
-//! `vkreplay run` replays a recorded Vulkan trace from standard input against a model driver, and `vkreplay chain` shows which
-//! layers and drivers the manifests on this machine come to.
+//! `vkreplay chain` shows which layers and drivers the manifests on this machine come to, and `vkreplay run` replays a recorded Vulkan
+//! trace from standard input through such a chain to model drivers.
 //! Its public call `replay_main` has the promises; `main` hands it the process's words, variables and streams.
 //! What a trace means, how it is replayed and how a chain is built is left to the crates below.
 #![tactic(auto)]
@@ -23,15 +23,20 @@ mod size_tests;
 mod tests;
 mod top;
 
+use dispatch_chain::Kit;
 use environment::variables_of;
+use lifetime_layer::LifeState;
 use model_driver::ModelDriver;
 use process::{Invocation, exit_status};
 use program_words::WordsError;
 use replay_base::{FsTree, ReadSource, WriteSink};
+use replay_core::Session;
 use std::alloc::Global;
 use std::env;
 use std::io::ErrorKind;
 use std::process::ExitCode;
+use thread_layer::UseState;
+use unique_layer::UniqueState;
 
 // The process's words without the program's name. A word that isn't UTF-8 is one that isn't understood.
 fn process_words(rt: &HostRuntime, alloc: Global) -> Result<Vec<String>, WordsError> {
@@ -62,9 +67,19 @@ fn main(rt: HostRuntime) -> ExitCode {
     let mut out = WriteSink::new(rt.stdout());
     let mut errs = WriteSink::new(rt.stderr());
     let mut driver = ModelDriver::new(alloc);
+    let kit = Kit::new(
+        UniqueState::enter,
+        UniqueState::leave,
+        LifeState::enter,
+        LifeState::leave,
+        UseState::enter,
+        UseState::leave,
+    );
     ExitCode::from(exit_status(
         alloc,
         given,
+        Session::new(alloc, &kit),
+        &kit,
         &mut tree,
         &mut trace,
         &mut out,

@@ -1,4 +1,6 @@
 // From what the process was started with to its exit status.
+ghost use Rattle.std.specs.Prelude.{◌≡◌, None};
+ghost use Rattle.std.specs.Option.{option_map};
 ghost use Rattle.replay_base.specs.Changes.{changed};
 ghost use Rattle.replay_core.specs.Replayed.{run_of};
 ghost use Rattle.vkreplay.specs.Exits.{Exits, asked_by};
@@ -6,10 +8,12 @@ ghost use Rattle.vkreplay.specs.Outcome.{IsLeftBy};
 ghost use Rattle.vkreplay.specs.Showing.{tree_seen};
 
 use crate::top::{refuse_words, replay_main};
+use dispatch_chain::Kit;
 use env_filters::EnvList;
 use model_driver::Driver;
 use program_words::WordsError;
 use replay_base::{Sink, Source, Tree};
+use replay_core::Session;
 use std::alloc::Global;
 
 /// What the process was started with: its words without the program's name, and its variables.
@@ -25,12 +29,15 @@ pub struct Invocation {
 pub fn exit_status<T: Tree, S: Source, K: Sink, L: Sink, D: Driver>(
     alloc: Global,
     given: Result<Invocation, WordsError>,
+    session: Session,
+    kit: &Kit,
     tree: &mut T,
     trace: &mut S,
     out: &mut K,
     errs: &mut L,
     driver: &mut D,
 ) -> u8
+    requires fresh { option_map (λ x. x.kept) session.started ≡ None }
     ensures exits { let seen = tree_seen (T.files tree.old) (T.faults tree.old) (T.faults tree.new) in
         let source = changed (S.left trace.old) (S.left trace.new) (S.faults trace.old) (S.faults trace.new) in
         let sink = changed (K.held out.old) (K.held out.new) (K.faults out.old) (K.faults out.new) in
@@ -45,6 +52,8 @@ pub fn exit_status<T: Tree, S: Source, K: Sink, L: Sink, D: Driver>(
                 alloc,
                 &given.words,
                 &given.env,
+                session,
+                kit,
                 tree,
                 trace,
                 out,

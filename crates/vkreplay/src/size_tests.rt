@@ -1,12 +1,17 @@
 // Chains of the most layers, meta-layers of the most levels, and searches of the most and the largest manifest files.
 use crate::chain_tests::{
-    DRIVER, HOME, Seen, VALIDATION, VALIDATION_TEXT, put, seen_at, set, tree_of, variables,
+    DRIVER, HOME, Seen, VALIDATION, VALIDATION_TEXT, put, seen_at, seen_over, set, tree_of,
+    variables,
 };
+use env_filters::EnvList;
 use replay_base::MemTree;
 use replay_core::Status;
 use std::alloc::{AllocError, Global};
 use std::process::Abort;
 use std::test::Fail;
+
+// A trace that makes an instance.
+const INSTANCE: &str = "vktrace 1\nb 1 vkCreateInstance = %1.1 VK_SUCCESS\nr 1\n";
 
 const DRIVER_LINE: &str = "driver 1 /etc/vulkan/icd.d/a.json libvulkan_a.so\n";
 
@@ -135,12 +140,19 @@ fn plain_text(alloc: Global, count: u32) -> Result<String, AllocError> {
     Ok(text)
 }
 
-// A chain of so many layers that the environment names.
-fn plain_seen(alloc: Global, count: u32) -> Result<Seen, Fail> {
+// Variables that name so many layers.
+fn plain_variables(alloc: Global, count: u32) -> Result<EnvList, Fail> {
     let mut env = variables(alloc, &[HOME])?;
     let asked = names(alloc, count, ":")?;
     set(&mut env, "VK_INSTANCE_LAYERS", asked.as_str())?;
-    seen_at(alloc, "chain", &env, &mut plain(alloc, count)?)
+    Ok(env)
+}
+
+// What a command with a trace makes of them.
+fn plain_seen(alloc: Global, count: u32, words: &str, trace: &str) -> Result<Seen, Fail> {
+    let env = plain_variables(alloc, count)?;
+    let mut tree = plain(alloc, count)?;
+    seen_over(alloc, words, &env, &mut tree, trace)
 }
 
 // A limit was reached, and nothing was shown.
@@ -158,14 +170,21 @@ fn is_shown(rt: &impl Abort, seen: &Seen, text: &str) {
 
 #[test]
 fn a_chain_has_64_layers(rt: HostRuntime) -> Result<(), Fail> {
-    let seen = plain_seen(rt.alloc(), 64)?;
+    let seen = plain_seen(rt.alloc(), 64, "chain", "")?;
     is_shown(&rt, &seen, plain_text(rt.alloc(), 64)?.as_str());
     Ok(())
 }
 
 #[test]
 fn a_chain_has_no_more_layers(rt: HostRuntime) -> Result<(), Fail> {
-    let seen = plain_seen(rt.alloc(), 65)?;
+    let seen = plain_seen(rt.alloc(), 65, "chain", "")?;
+    is_limited(&rt, &seen, b"vkreplay: limit Chain 64\n");
+    Ok(())
+}
+
+#[test]
+fn a_run_has_no_chain_of_more_layers(rt: HostRuntime) -> Result<(), Fail> {
+    let seen = plain_seen(rt.alloc(), 65, "run", INSTANCE)?;
     is_limited(&rt, &seen, b"vkreplay: limit Chain 64\n");
     Ok(())
 }
@@ -184,10 +203,10 @@ fn empty_manifests(alloc: Global, count: u32) -> Result<MemTree, Fail> {
     Ok(tree)
 }
 
-// A chain over them.
-fn empty_seen(alloc: Global, count: u32) -> Result<Seen, Fail> {
+// What a command makes of them.
+fn empty_seen(alloc: Global, count: u32, words: &str) -> Result<Seen, Fail> {
     let env = variables(alloc, &[HOME])?;
-    seen_at(alloc, "chain", &env, &mut empty_manifests(alloc, count)?)
+    seen_at(alloc, words, &env, &mut empty_manifests(alloc, count)?)
 }
 
 // What is shown of them.
@@ -202,14 +221,21 @@ fn empty_text(alloc: Global, count: u32) -> Result<String, AllocError> {
 
 #[test]
 fn a_search_has_4096_manifests(rt: HostRuntime) -> Result<(), Fail> {
-    let seen = empty_seen(rt.alloc(), 4_096)?;
+    let seen = empty_seen(rt.alloc(), 4_096, "chain")?;
     is_shown(&rt, &seen, empty_text(rt.alloc(), 4_096)?.as_str());
     Ok(())
 }
 
 #[test]
 fn a_search_has_no_more_manifests(rt: HostRuntime) -> Result<(), Fail> {
-    let seen = empty_seen(rt.alloc(), 4_097)?;
+    let seen = empty_seen(rt.alloc(), 4_097, "chain")?;
+    is_limited(&rt, &seen, b"vkreplay: limit Manifests 4096\n");
+    Ok(())
+}
+
+#[test]
+fn a_search_of_a_run_has_no_more_manifests(rt: HostRuntime) -> Result<(), Fail> {
+    let seen = empty_seen(rt.alloc(), 4_097, "run")?;
     is_limited(&rt, &seen, b"vkreplay: limit Manifests 4096\n");
     Ok(())
 }

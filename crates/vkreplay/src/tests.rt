@@ -1,39 +1,75 @@
 // Whole runs over memory: what each prints, says and asks the driver.
+use crate::chain_tests::{DRIVER, Pairs, VALIDATION, tree_of, variables};
 use crate::top::{Finished, replay_main};
 use command_tables::CommandId;
+use dispatch_chain::Kit;
 use env_filters::EnvList;
+use lifetime_layer::LifeState;
 use model_driver::{AdverseDriver, Driver, DriverCall, DriverReply, ModelDriver, RecordingDriver};
-use replay_base::{MemSink, MemSource, MemTree, NoMemory};
-use replay_core::Status;
+use replay_base::{MemSink, MemSource, MemTree, NoMemory, Sink, Source, Tree};
+use replay_core::{Session, Status};
 use std::alloc::{AllocError, Global};
 use std::process::Abort;
 use std::test::Fail;
+use thread_layer::UseState;
+use unique_layer::UniqueState;
 
 const FIRST: &str =
     "vktrace 1\nb 1 vkCreateInstance = %1.1 VK_SUCCESS\nr 1\nb 1 vkEnumeratePhysicalDevices %1.1 = %1.2 VK_SUCCESS\nr 1\nb 1 vkCreateDevice %1.2 = %1.3 VK_SUCCESS\nr 1\nb 1 vkDestroyDevice %1.3 void\nr 1\nb 1 vkDestroyInstance %1.1 void\nr 1\n";
 
 const FIRST_TEXT: &str =
-    "ret 1 vkCreateInstance VK_SUCCESS born=1\nret 2 vkEnumeratePhysicalDevices VK_SUCCESS born=1\nret 3 vkCreateDevice VK_SUCCESS born=1\nret 4 vkDestroyDevice void\nret 5 vkDestroyInstance void\nend calls=5 skipped=0 reports=0\n";
+    "chain 1 ok layers=0 parts=0 drivers=1\ndriver 1 /etc/vulkan/icd.d/a.json libvulkan_a.so\nret 1 vkCreateInstance VK_SUCCESS born=1\nret 2 vkEnumeratePhysicalDevices VK_SUCCESS born=1\nret 3 vkCreateDevice VK_SUCCESS born=1\nret 4 vkDestroyDevice void\nret 5 vkDestroyInstance void\nend calls=5 skipped=0 reports=0\n";
 
 // A device that is destroyed twice.
 pub const TWICE: &str =
     "vktrace 1\nb 1 vkCreateInstance = %1.1 VK_SUCCESS\nr 1\nb 1 vkEnumeratePhysicalDevices %1.1 = %1.2 VK_SUCCESS\nr 1\nb 1 vkCreateDevice %1.2 = %1.3 VK_SUCCESS\nr 1\nb 1 vkDestroyDevice %1.3 void\nr 1\nb 1 vkDestroyDevice %1.3 void\nr 1\n";
 
 pub const TWICE_TEXT: &str =
-    "ret 1 vkCreateInstance VK_SUCCESS born=1\nret 2 vkEnumeratePhysicalDevices VK_SUCCESS born=1\nret 3 vkCreateDevice VK_SUCCESS born=1\nret 4 vkDestroyDevice void\nreport 5 0 VUID-vkDestroyDevice-device-parameter %1.3\nret 5 vkDestroyDevice void\nend calls=5 skipped=1 reports=1\n";
+    "chain 1 ok layers=0 parts=0 drivers=1\ndriver 1 /etc/vulkan/icd.d/a.json libvulkan_a.so\nret 1 vkCreateInstance VK_SUCCESS born=1\nret 2 vkEnumeratePhysicalDevices VK_SUCCESS born=1\nret 3 vkCreateDevice VK_SUCCESS born=1\nret 4 vkDestroyDevice void\nreport 5 0 VUID-vkDestroyDevice-device-parameter %1.3\nret 5 vkDestroyDevice void\nend calls=5 skipped=1 reports=1\n";
+
+// A buffer and then its device are used behind their ends.
+const DEAD: &str =
+    "vktrace 1\nb 1 vkCreateInstance = %1.1 VK_SUCCESS\nr 1\nb 1 vkEnumeratePhysicalDevices %1.1 = %1.2 VK_SUCCESS\nr 1\nb 1 vkCreateDevice %1.2 = %1.3 VK_SUCCESS\nr 1\nb 1 vkCreateBuffer %1.3 = %1.4 VK_SUCCESS\nr 1\nb 1 vkDestroyBuffer %1.3 %1.4 void\nr 1\nb 1 vkDestroyBuffer %1.3 %1.4 void\nr 1\nb 1 vkDestroyDevice %1.3 void\nr 1\nb 1 vkDestroyDevice %1.3 void\nr 1\n";
+
+const DEAD_TEXT: &str =
+    "chain 1 ok layers=1 parts=3 drivers=1\nlayer 1 VK_LAYER_KHRONOS_validation /usr/share/vulkan/explicit_layer.d/v.json\npart 1 threads VK_LAYER_KHRONOS_validation\npart 2 lifetimes VK_LAYER_KHRONOS_validation\npart 3 unique VK_LAYER_KHRONOS_validation\ndriver 1 /etc/vulkan/icd.d/a.json libvulkan_a.so\nret 1 vkCreateInstance VK_SUCCESS born=1\nret 2 vkEnumeratePhysicalDevices VK_SUCCESS born=1\nret 3 vkCreateDevice VK_SUCCESS born=1\nret 4 vkCreateBuffer VK_SUCCESS born=1\nret 5 vkDestroyBuffer void\nreport 6 2 VUID-vkDestroyBuffer-buffer-parameter %1.4\nret 6 vkDestroyBuffer void\nret 7 vkDestroyDevice void\nreport 8 0 VUID-vkDestroyDevice-device-parameter %1.3\nret 8 vkDestroyDevice void\nend calls=8 skipped=2 reports=2\n";
 
 // A command pool is destroyed while another thread's call allocates of it.
 const POOL: &str =
     "vktrace 1\nb 1 vkCreateInstance = %1.1 VK_SUCCESS\nr 1\nb 1 vkEnumeratePhysicalDevices %1.1 = %1.2 VK_SUCCESS\nr 1\nb 1 vkCreateDevice %1.2 = %1.3 VK_SUCCESS\nr 1\nb 1 vkCreateCommandPool %1.3 = %1.4 VK_SUCCESS\nr 1\nb 1 vkAllocateCommandBuffers %1.3 %1.4 = %1.5 VK_SUCCESS\nb 2 vkDestroyCommandPool %1.3 %1.4 void\nr 2\nr 1\nb 1 vkBeginCommandBuffer %1.5 VK_SUCCESS\nr 1\n";
 
 const POOL_TEXT: &str =
-    "ret 1 vkCreateInstance VK_SUCCESS born=1\nret 2 vkEnumeratePhysicalDevices VK_SUCCESS born=1\nret 3 vkCreateDevice VK_SUCCESS born=1\nret 4 vkCreateCommandPool VK_SUCCESS born=1\nret 6 vkDestroyCommandPool void\nret 5 vkAllocateCommandBuffers VK_SUCCESS born=0\nreport 7 0 VUID-vkBeginCommandBuffer-commandBuffer-parameter %1.5\nret 7 vkBeginCommandBuffer VK_ERROR_VALIDATION_FAILED_EXT\nend calls=7 skipped=1 reports=1\n";
+    "chain 1 ok layers=0 parts=0 drivers=1\ndriver 1 /etc/vulkan/icd.d/a.json libvulkan_a.so\nret 1 vkCreateInstance VK_SUCCESS born=1\nret 2 vkEnumeratePhysicalDevices VK_SUCCESS born=1\nret 3 vkCreateDevice VK_SUCCESS born=1\nret 4 vkCreateCommandPool VK_SUCCESS born=1\nret 6 vkDestroyCommandPool void\nret 5 vkAllocateCommandBuffers VK_SUCCESS born=0\nreport 7 0 VUID-vkBeginCommandBuffer-commandBuffer-parameter %1.5\nret 7 vkBeginCommandBuffer VK_ERROR_VALIDATION_FAILED_EXT\nend calls=7 skipped=1 reports=1\n";
 
-// The words, the trace, how many letters follow it, and the numbers of the first call of the source and the sink that
-// fails; and what the run must answer, print and say.
+// The same under the validation layer, whose threads part reports the destroy.
+const POOL_CHECKED_TEXT: &str =
+    "chain 1 ok layers=1 parts=3 drivers=1\nlayer 1 VK_LAYER_KHRONOS_validation /usr/share/vulkan/explicit_layer.d/v.json\npart 1 threads VK_LAYER_KHRONOS_validation\npart 2 lifetimes VK_LAYER_KHRONOS_validation\npart 3 unique VK_LAYER_KHRONOS_validation\ndriver 1 /etc/vulkan/icd.d/a.json libvulkan_a.so\nret 1 vkCreateInstance VK_SUCCESS born=1\nret 2 vkEnumeratePhysicalDevices VK_SUCCESS born=1\nret 3 vkCreateDevice VK_SUCCESS born=1\nret 4 vkCreateCommandPool VK_SUCCESS born=1\nreport 6 1 VKR-vkDestroyCommandPool-commandPool-overlap %1.4 with=5\nret 6 vkDestroyCommandPool void\nret 5 vkAllocateCommandBuffers VK_SUCCESS born=0\nreport 7 0 VUID-vkBeginCommandBuffer-commandBuffer-parameter %1.5\nret 7 vkBeginCommandBuffer VK_ERROR_VALIDATION_FAILED_EXT\nend calls=7 skipped=1 reports=2\n";
+
+// An instance alone.
+const ONE: &str = "vktrace 1\nb 1 vkCreateInstance = %1.1 VK_SUCCESS\nr 1\n";
+
+// The lines of a chain without layers at the first call.
+const BARE_CHAIN: &str =
+    "chain 1 ok layers=0 parts=0 drivers=1\ndriver 1 /etc/vulkan/icd.d/a.json libvulkan_a.so\n";
+
+// A manifest of a driver without a version.
+const UNVERSIONED: (&str, &str) = ("/etc/vulkan/icd.d/c.json", "{}");
+
+// A driver's manifest below another root.
+const ELSEWHERE: (&str, &str) = (
+    "/m/etc/vulkan/icd.d/a.json",
+    r#"{"file_format_version":"1.0.1","ICD":{"library_path":"libvulkan_a.so","api_version":"1.3.275"}}"#,
+);
+
+const CHECKED: (&str, &str) = ("VK_INSTANCE_LAYERS", "VK_LAYER_KHRONOS_validation");
+
+// The words, the files and the variables, the trace, how many letters follow it, and the numbers of the first call of the
+// source and the sink that fails; and what the run must answer, print and say.
 #[derive(Clone, Copy)]
 struct Run<'a> {
     words: &'a str,
+    files: Pairs,
+    env: Pairs,
     trace: &'a str,
     letters: usize,
     read_fails: u64,
@@ -45,6 +81,8 @@ struct Run<'a> {
 
 const CLEAN: Run<'static> = Run {
     words: "run",
+    files: &[DRIVER],
+    env: &[],
     trace: FIRST,
     letters: 0,
     read_fails: 0,
@@ -60,7 +98,7 @@ const MALFORMED: Run<'static> = Run {
     ..CLEAN
 };
 
-static RUNS: [Run<'static>; 23] = [
+static RUNS: [Run<'static>; 31] = [
     CLEAN,
     Run {
         trace: "vktrace 1",
@@ -70,7 +108,7 @@ static RUNS: [Run<'static>; 23] = [
     Run {
         write_fails: 2,
         status: Status::WriteFault,
-        out: "ret 1 vkCreateInstance VK_SUCCESS born=1\n",
+        out: BARE_CHAIN,
         errs: "vkreplay: write fault\n",
         ..CLEAN
     },
@@ -111,12 +149,13 @@ static RUNS: [Run<'static>; 23] = [
     // A begin in place of a return that is due, and a trace that ends where one is due.
     Run {
         trace: "vktrace 1\nb 1 vkCreateInstance = %1.1 VK_SUCCESS\nb 1 vkEnumeratePhysicalDevices %1.1 = %1.2 VK_SUCCESS\nr 1\n",
+        out: BARE_CHAIN,
         errs: "vkreplay: line 3: Busy\n",
         ..MALFORMED
     },
     Run {
         trace: "vktrace 1\nb 1 vkCreateInstance = %1.1 VK_SUCCESS\nr 1\nb 1 vkEnumeratePhysicalDevices %1.1 = %1.2 VK_SUCCESS\nr 1\nb 1 vkCreateDevice %1.2 = %1.3 VK_SUCCESS\n",
-        out: "ret 1 vkCreateInstance VK_SUCCESS born=1\nret 2 vkEnumeratePhysicalDevices VK_SUCCESS born=1\n",
+        out: "chain 1 ok layers=0 parts=0 drivers=1\ndriver 1 /etc/vulkan/icd.d/a.json libvulkan_a.so\nret 1 vkCreateInstance VK_SUCCESS born=1\nret 2 vkEnumeratePhysicalDevices VK_SUCCESS born=1\n",
         errs: "vkreplay: line 7: OpenAtEnd\n",
         ..MALFORMED
     },
@@ -158,23 +197,86 @@ static RUNS: [Run<'static>; 23] = [
     },
     Run {
         trace: "vktrace 1\nb 1 vkCreateInstance = %1.1 VK_SUCCESS\nb 1 vkCreateInstance = %1.4194304 VK_SUCCESS\n",
+        out: BARE_CHAIN,
         errs: "vkreplay: line 3: Busy\n",
         ..MALFORMED
     },
     Run {
         trace: "vktrace 1\nb 1 vkCreateInstance = %1.1 VK_SUCCESS\nb 1 vkCreateInstance = %1.4194305 VK_SUCCESS\n",
+        out: BARE_CHAIN,
         errs: "vkreplay: line 3: Results\n",
         ..MALFORMED
     },
     Run {
         trace: "vktrace 1\nb 1 vkCreateInstance = %1.1 VK_SUCCESS\nb 1 vkDestroyDevice %1.4194304 void\n",
+        out: BARE_CHAIN,
         errs: "vkreplay: line 3: Busy\n",
         ..MALFORMED
     },
     Run {
         trace: "vktrace 1\nb 1 vkCreateInstance = %1.1 VK_SUCCESS\nb 1 vkDestroyDevice %1.4194305 void\n",
+        out: BARE_CHAIN,
         errs: "vkreplay: line 3: Argument\n",
         ..MALFORMED
+    },
+    // Uses behind their objects' ends, which the loader and the lifetimes part report, and a use that overlaps another.
+    Run {
+        files: &[DRIVER, VALIDATION],
+        env: &[CHECKED],
+        trace: DEAD,
+        status: Status::Reported,
+        out: DEAD_TEXT,
+        ..CLEAN
+    },
+    Run {
+        files: &[DRIVER, VALIDATION],
+        env: &[CHECKED],
+        trace: POOL,
+        status: Status::Reported,
+        out: POOL_CHECKED_TEXT,
+        ..CLEAN
+    },
+    // No driver: the instance is refused.
+    Run {
+        files: &[],
+        trace: ONE,
+        out: "chain 1 no-driver\nret 1 vkCreateInstance VK_ERROR_INCOMPATIBLE_DRIVER born=0\nend calls=1 skipped=1 reports=0\n",
+        ..CLEAN
+    },
+    // A manifest with a fault is noted before the trace, also where the trace stops at once, but not where it is too large.
+    Run {
+        files: &[DRIVER, UNVERSIONED],
+        trace: ONE,
+        out: "note NoVersion /etc/vulkan/icd.d/c.json\nchain 1 ok layers=0 parts=0 drivers=1\ndriver 1 /etc/vulkan/icd.d/a.json libvulkan_a.so\nret 1 vkCreateInstance VK_SUCCESS born=1\nend calls=1 skipped=0 reports=0\n",
+        ..CLEAN
+    },
+    Run {
+        files: &[DRIVER, UNVERSIONED],
+        trace: "",
+        out: "note NoVersion /etc/vulkan/icd.d/c.json\n",
+        errs: "vkreplay: line 1: Header\n",
+        ..MALFORMED
+    },
+    Run {
+        files: &[DRIVER, UNVERSIONED],
+        trace: "vktrace 1\n",
+        letters: 1_048_567,
+        errs: "vkreplay: line 1: NotBuilt\n",
+        ..MALFORMED
+    },
+    // The manifests are those of the words' root.
+    Run {
+        words: "run --root /m",
+        files: &[ELSEWHERE],
+        trace: ONE,
+        out: "chain 1 ok layers=0 parts=0 drivers=1\ndriver 1 /etc/vulkan/icd.d/a.json libvulkan_a.so\nret 1 vkCreateInstance VK_SUCCESS born=1\nend calls=1 skipped=0 reports=0\n",
+        ..CLEAN
+    },
+    Run {
+        words: "run --root /m",
+        trace: ONE,
+        out: "chain 1 no-driver\nret 1 vkCreateInstance VK_ERROR_INCOMPATIBLE_DRIVER born=0\nend calls=1 skipped=1 reports=0\n",
+        ..CLEAN
     },
     // 1,048,576 bytes are read line by line, and one more isn't.
     Run {
@@ -216,16 +318,23 @@ pub fn sink(alloc: Global, fails: u64) -> Result<MemSink, Fail> {
 // What goes in and out of a run over memory.
 #[derive(Drop)]
 pub struct Streams {
+    pub tree: MemTree,
     pub trace: MemSource,
     pub out: MemSink,
     pub errs: MemSink,
 }
 
 fn streams_of(alloc: Global, run: &Run) -> Result<Streams, Fail> {
+    let tree = tree_of(alloc, run.files)?;
     let out = sink(alloc, run.write_fails)?;
     let errs = sink(alloc, 0)?;
     let trace = source_of(alloc, run)?;
-    Ok(Streams { trace, out, errs })
+    Ok(Streams {
+        tree,
+        trace,
+        out,
+        errs,
+    })
 }
 
 fn source_of(alloc: Global, run: &Run) -> Result<MemSource, AllocError> {
@@ -238,18 +347,52 @@ pub fn streams_at(alloc: Global, trace: &str) -> Result<Streams, Fail> {
     streams_of(alloc, &Run { trace, ..CLEAN })
 }
 
-// Runs the program over an empty tree without variables.
-pub fn run_of<D: Driver>(
+// Runs the program with a kit of the layers' own calls.
+pub fn finished_of<T: Tree, S: Source, K: Sink, L: Sink, D: Driver>(
     alloc: Global,
     words: &[String],
-    streams: &mut Streams,
+    env: &EnvList,
+    tree: &mut T,
+    trace: &mut S,
+    out: &mut K,
+    errs: &mut L,
     driver: &mut D,
 ) -> Finished {
+    let kit = Kit::new(
+        UniqueState::enter,
+        UniqueState::leave,
+        LifeState::enter,
+        LifeState::leave,
+        UseState::enter,
+        UseState::leave,
+    );
     replay_main(
         alloc,
         words,
-        &EnvList::new(alloc),
-        &mut MemTree::new(alloc),
+        env,
+        Session::new(alloc, &kit),
+        &kit,
+        tree,
+        trace,
+        out,
+        errs,
+        driver,
+    )
+}
+
+// Runs the program over memory.
+fn run_of<D: Driver>(
+    alloc: Global,
+    words: &[String],
+    env: &EnvList,
+    streams: &mut Streams,
+    driver: &mut D,
+) -> Finished {
+    finished_of(
+        alloc,
+        words,
+        env,
+        &mut streams.tree,
         &mut streams.trace,
         &mut streams.out,
         &mut streams.errs,
@@ -257,14 +400,26 @@ pub fn run_of<D: Driver>(
     )
 }
 
-// The same with words that are read first.
+// The same with words and variables that are made first.
+fn run_set<D: Driver>(
+    alloc: Global,
+    words: &str,
+    env: Pairs,
+    streams: &mut Streams,
+    driver: &mut D,
+) -> Result<Finished, Fail> {
+    let env = variables(alloc, env)?;
+    Ok(run_of(alloc, &words_of(alloc, words)?, &env, streams, driver))
+}
+
+// The same without variables.
 pub fn run_with<D: Driver>(
     alloc: Global,
     words: &str,
     streams: &mut Streams,
     driver: &mut D,
 ) -> Result<Finished, Fail> {
-    Ok(run_of(alloc, &words_of(alloc, words)?, streams, driver))
+    run_set(alloc, words, &[], streams, driver)
 }
 
 fn is_written(rt: &impl Abort, streams: &Streams, run: &Run) {
@@ -278,7 +433,8 @@ fn is_written(rt: &impl Abort, streams: &Streams, run: &Run) {
 
 fn ends_as_it_must(rt: &impl Abort, alloc: Global, run: &Run) -> Result<(), Fail> {
     let mut streams = streams_of(alloc, run)?;
-    let finished = run_with(alloc, run.words, &mut streams, &mut ModelDriver::new(alloc))?;
+    let mut driver = ModelDriver::new(alloc);
+    let finished = run_set(alloc, run.words, run.env, &mut streams, &mut driver)?;
     assert_eq!(rt; finished.status, run.status);
     is_written(rt, &streams, run);
     let ended = run.status == Status::Clean || run.status == Status::Reported;
@@ -372,5 +528,22 @@ fn a_second_device_is_a_sixth_call(rt: HostRuntime) -> Result<(), Fail> {
     let end = "end calls=6 skipped=0 reports=0\n";
     let calls = told_by(&rt, alloc, trace, adverse(alloc)?, end)?;
     assert_eq!(rt; calls.len(), 6);
+    Ok(())
+}
+
+// A driver that answers 1 always gives the same text.
+fn answers_one_handle(rt: &impl Abort, alloc: Global, run: &Run) -> Result<(), Fail> {
+    let mut streams = streams_of(alloc, run)?;
+    let mut driver = AdverseDriver::new(Vec::from_slice(alloc, &[1])?);
+    run_set(alloc, run.words, run.env, &mut streams, &mut driver)?;
+    is_written(rt, &streams, run);
+    Ok(())
+}
+
+#[test]
+fn a_driver_of_one_handle_changes_no_text(rt: HostRuntime) -> Result<(), Fail> {
+    for run in RUNS.iter() {
+        answers_one_handle(&rt, rt.alloc(), run)?;
+    }
     Ok(())
 }

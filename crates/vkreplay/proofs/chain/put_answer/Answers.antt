@@ -1,10 +1,10 @@
 use Rattle.std.proofs.Common.{◌≡◌, ◌∙◌, Bool, ℕ, List, [], ◌∷◌, arith, sym, subst}
 use Rattle.chain_build.specs.Answers.{answer_content}
 use Rattle.replay_base.specs.Changes.{Change, changed}
-use Rattle.replay_model.specs.Setup.{outcome_text}
+use Rattle.replay_model.specs.Setup.{is_too_long, outcome_text}
 use Rattle.report_text.specs.Chains.{answer_text}
 use Rattle.report_text.specs.Setups.{outcome_of}
-use Rattle.vkreplay.specs.Showing.{Writes, is_too_long}
+use Rattle.vkreplay.specs.Showing.{Writes}
 use Rattle.vkreplay.proofs.Built.{no_excess, same_text}
 use Rattle.vkreplay.proofs.chain.put_answer.Goals as goal
 

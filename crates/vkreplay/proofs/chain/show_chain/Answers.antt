@@ -4,9 +4,10 @@ use Rattle.env_filters.specs.Entries.{layer_names_of}
 use Rattle.chain_build.specs.Chain.{chain_of}
 use Rattle.chain_build.specs.Setup.{setup_content}
 use Rattle.replay_base.specs.Changes.{Change, changed}
+use Rattle.replay_model.specs.Setup.{is_too_long}
 use Rattle.report_text.specs.Setups.{outcome_of}
 use Rattle.program_words.specs.Meant.{chain_meant}
-use Rattle.vkreplay.specs.Showing.{Writes, chain_run, is_too_long, lines_with, tree_seen}
+use Rattle.vkreplay.specs.Showing.{Writes, chain_run, lines_with, tree_seen}
 use Rattle.vkreplay.proofs.Writing.{shows_setup}
 use Rattle.vkreplay.proofs.chain.show_chain.Goals as goal
 

@@ -7,10 +7,10 @@ use Rattle.chain_build.specs.Chain.{chain_of}
 use Rattle.chain_build.specs.Setup.{setup_content}
 use Rattle.replay_base.specs.Changes.{Change}
 use Rattle.replay_core.specs.declared.error.ReplayError.{ReplayError}
-use Rattle.replay_model.specs.Setup.{outcome_text}
+use Rattle.replay_model.specs.Setup.{is_too_long, outcome_text}
 use Rattle.report_text.specs.Notes.{note_text}
 use Rattle.report_text.specs.Setups.{outcome_of}
-use Rattle.vkreplay.specs.Showing.{WroteAll, Writes, is_too_long}
+use Rattle.vkreplay.specs.Showing.{WroteAll, Writes}
 use Rattle.vkreplay.proofs.Writing.{all_four, cut_before, cut_second, cut_third}
 use Rattle.vkreplay.proofs.chain.show_setup.Goals as goal
 

@@ -1,4 +1,4 @@
-use Rattle.std.proofs.Common.{◌≡◌, ◌∙◌, arith, length, List, None, Option, Some, ℕ, subst, sym}
+use Rattle.std.proofs.Common.{◌≡◌, arith, length, List, None, Option, Some, ℕ, subst, sym}
 use Rattle.std.proofs.lemmas.Bool.Decides.{nat_tests}
 use Rattle.env_filters.specs.Variables.{Variable}
 use Rattle.vkreplay.specs.Environment.{variable_in}

@@ -6,4 +6,4 @@ use Rattle.vkreplay.proofs.top.replay_main.Goals as goal
 
 pub returns-in-Ok-Run-clause-promises : goal.returns-in-Ok-Run-clause-promises
 returns-in-Ok-Run-clause-promises g c =
-    keeps_run _ (run_meant c.in-Ok-Run.run') _ _ (c.in-Ok-Run.ensures ∙ ap (λ (r : Request). Some (meant r)) c.in-Ok-Run.field-0-is) c.replay_with.ensures.ends
+    keeps_run _ (run_meant c.in-Ok-Run.asked) _ _ (c.in-Ok-Run.ensures ∙ ap (λ (r : Request). Some (meant r)) c.in-Ok-Run.field-0-is) c.run.ensures.ends
