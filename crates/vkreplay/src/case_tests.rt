@@ -112,7 +112,10 @@ fn put_number(text: &mut Vec<u8>, number: u64) -> Result<(), AllocError> {
 
 fn put_handles(text: &mut Vec<u8>, handles: &[u64]) -> Result<(), AllocError> {
     text.extend_from_slice(b"[")?;
-    for handle in handles {
+    for (i, handle) in handles.iter().enumerate() {
+        if i > 0 {
+            text.extend_from_slice(b",")?;
+        }
         put_number(text, *handle)?;
     }
     text.extend_from_slice(b"]")
@@ -178,7 +181,7 @@ fn is_written(rt: &impl Abort, streams: &Streams, case: &Case) {
     );
 }
 
-fn all_calls(alloc: Global, log: &[(DriverCall, DriverReply)]) -> Result<Vec<u8>, AllocError> {
+pub fn all_calls(alloc: Global, log: &[(DriverCall, DriverReply)]) -> Result<Vec<u8>, AllocError> {
     let mut calls = Vec::new(alloc);
     for (call, reply) in log {
         put_call(&mut calls, call, reply)?;

@@ -45,7 +45,7 @@ const SWITCHED: (&str, &str) = (
 );
 
 // An explicit layer that checks and wraps nothing.
-const LIFETIMES: (&str, &str) = (
+pub const LIFETIMES: (&str, &str) = (
     "/usr/share/vulkan/explicit_layer.d/l.json",
     r#"{"file_format_version":"1.2.0","layer":{"name":"VK_LAYER_own_life","type":"GLOBAL","library_path":"libVkLayer_object_lifetimes.so","api_version":"1.3.275","implementation_version":"1","description":"own"}}"#,
 );

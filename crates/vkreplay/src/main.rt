@@ -16,6 +16,10 @@ mod environment_tests;
 mod fault_tests;
 mod laws;
 mod process;
+#[cfg(test)]
+mod row_table;
+#[cfg(test)]
+mod row_tests;
 mod say;
 #[cfg(test)]
 mod size_tests;

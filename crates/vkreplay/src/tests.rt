@@ -53,7 +53,7 @@ const BARE_CHAIN: &str =
     "chain 1 ok layers=0 parts=0 drivers=1\ndriver 1 /etc/vulkan/icd.d/a.json libvulkan_a.so\n";
 
 // A manifest of a driver without a version.
-const UNVERSIONED: (&str, &str) = ("/etc/vulkan/icd.d/c.json", "{}");
+pub const UNVERSIONED: (&str, &str) = ("/etc/vulkan/icd.d/c.json", "{}");
 
 // A driver's manifest below another root.
 const ELSEWHERE: (&str, &str) = (
@@ -343,8 +343,20 @@ fn source_of(alloc: Global, run: &Run) -> Result<MemSource, AllocError> {
 }
 
 // The streams of a run that doesn't fail.
+pub fn streams_over(alloc: Global, files: Pairs, trace: &str) -> Result<Streams, Fail> {
+    streams_of(
+        alloc,
+        &Run {
+            files,
+            trace,
+            ..CLEAN
+        },
+    )
+}
+
+// The same over one driver.
 pub fn streams_at(alloc: Global, trace: &str) -> Result<Streams, Fail> {
-    streams_of(alloc, &Run { trace, ..CLEAN })
+    streams_over(alloc, &[DRIVER], trace)
 }
 
 // Runs the program with a kit of the layers' own calls.
@@ -401,7 +413,7 @@ fn run_of<D: Driver>(
 }
 
 // The same with words and variables that are made first.
-fn run_set<D: Driver>(
+pub fn run_set<D: Driver>(
     alloc: Global,
     words: &str,
     env: Pairs,
