@@ -5,6 +5,8 @@
 
 mod checks;
 mod finding;
+#[cfg(test)]
+mod marks;
 mod rules;
 mod state;
 #[cfg(test)]

@@ -38,7 +38,7 @@ children_more living o bs i = ap (λ n. length (children_in (take n bs) living o
 abbrev pub is_owned : ObjectType → Object → Birth → Bool
 is_owned t o b = same_type b.object.ty t && is_owned_by o b
 
-owned_next : (t : ObjectType) (o : Object) (bs : List Birth) (i : ℕ) → owned_in (take (suc i) bs) t o ≡ owned_in (take i bs) t o ++ owned_at bs t o i
+pub owned_next : (t : ObjectType) (o : Object) (bs : List Birth) (i : ℕ) → owned_in (take (suc i) bs) t o ≡ owned_in (take i bs) t o ++ owned_at bs t o i
 owned_next t o [] zero = refl
 owned_next t o [] (suc i) = refl
 owned_next t o (b ∷ bs) zero = go (is_owned t o b)

@@ -12,3 +12,4 @@ pub mod Once
 pub mod Walked
 pub mod Below
 pub mod Sweeping
+pub mod Listing

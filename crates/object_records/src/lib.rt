@@ -7,6 +7,7 @@ mod births;
 mod ends;
 mod kept_owner;
 mod links;
+mod living;
 mod look_ups;
 mod passed;
 mod reading;

@@ -220,7 +220,7 @@ pub(crate) fn count_children(table: &RecordTable, object: Object) -> usize
 
 // The object of the record at a place is noted where it has this type and owner.
 #[tactic(auto, using(crate::proofs::Kept::owner_low))]
-fn note_owned(
+pub(crate) fn note_owned(
     table: &RecordTable,
     place: usize,
     ty: ObjectType,
@@ -257,7 +257,7 @@ fn list_among_all(
 }
 
 // An object is noted where it has this type.
-fn note_of_type(object: Object, ty: ObjectType, out: &mut Vec<Object>) -> Result<(), NoMemory>
+pub(crate) fn note_of_type(object: Object, ty: ObjectType, out: &mut Vec<Object>) -> Result<(), NoMemory>
     ensures { OnOk result (out.new.items ≡ out.old.items ++ alone_if ty object) }
 {
     if is_type(object.ty, ty) {
@@ -286,7 +286,7 @@ fn add_linked(
 }
 
 // What stands from here on is turned round.
-fn reverse_from(objects: &mut [Object], start: usize)
+pub(crate) fn reverse_from(objects: &mut [Object], start: usize)
     requires { start ≤ length objects.old }
     ensures before { take start objects.new ≡ take start objects.old }
     ensures reversed { drop start objects.new ≡ reverse (drop start objects.old) }

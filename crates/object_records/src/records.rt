@@ -1,5 +1,5 @@
 //! What a checking part keeps of the objects that it was told of.
-ghost use Rattle.std.specs.Prelude.{◌≡◌, ◌++◌, [], length, map, OnErr, OnOk};
+ghost use Rattle.std.specs.Prelude.{◌≡◌, ◌++◌, [], filter, length, map, OnErr, OnOk};
 ghost use Rattle.command_tables.specs.Table.{row_of};
 ghost use Rattle.command_tables.specs.Tests.{same_type};
 ghost use Rattle.object_model.specs.Objects.{is_in};
@@ -11,6 +11,7 @@ ghost use Rattle.object_records.specs.Shape.{AreNewOnce, HasParams, arguments_of
 
 use crate::births::{add_births, owner_for};
 use crate::ends::{end_objects, may_end};
+use crate::living;
 use crate::look_ups;
 use crate::record_table::RecordTable;
 use command_tables::{Effect, LayerCall, NoMemory, ObjectType, OwnerOf, row};
@@ -101,6 +102,19 @@ impl ObjectRecords {
         ensures { OnOk result (out.new.items ≡ out.old.items ++ owned_in self.now.births ty owner) }
     {
         look_ups::list_owned(&self.table, ty, owner, out)
+    }
+
+    /// Adds the living objects of a type whose owner is this object to a list. Those that were dead when a call last ended what the
+    /// owner owns aren't looked at, if what it owns owned nothing.
+    pub fn list_living(
+        &self,
+        ty: ObjectType,
+        owner: Object,
+        out: &mut Vec<Object>,
+    ) -> Result<(), NoMemory>
+        ensures { OnOk result (out.new.items ≡ out.old.items ++ filter (λ o. is_in self.now.living o) (owned_in self.now.births ty owner)) }
+    {
+        living::list_living(&self.table, ty, owner, out)
     }
 
     /// How many objects live.

@@ -165,6 +165,69 @@ fn what_an_object_owns_is_listed_behind_the_rest(rt: HostRuntime) -> Result<(), 
     Ok(())
 }
 
+// What of a pool's sets is listed as living, behind the device.
+fn is_listed(
+    alloc: Global,
+    records: &ObjectRecords,
+    pool: Object,
+    sets: &[Object],
+) -> Result<bool, Fail> {
+    let mut listed = Vec::new(alloc);
+    listed.push(DEVICE)?;
+    records
+        .list_living(ObjectType::DescriptorSet, pool, &mut listed)
+        .ok()
+        .ok_or("memory")?;
+    Ok(listed.first() == Some(&DEVICE) && &listed[1..] == sets)
+}
+
+#[test]
+fn the_living_sets_of_a_pool_are_listed(rt: HostRuntime) -> Result<(), Fail> {
+    let mut records = small_history(rt.alloc())?;
+    assert!(rt; is_listed(rt.alloc(), &records, POOL, &[FIRST_SET, SECOND_SET])?);
+    assert!(rt; is_listed(rt.alloc(), &records, OTHER_POOL, &[])?);
+    end(
+        rt.alloc(),
+        &mut records,
+        CommandId::FreeDescriptorSets,
+        &[&[3], &[4], &[5]],
+    )?;
+    assert!(rt; is_listed(rt.alloc(), &records, POOL, &[SECOND_SET])?);
+    end(
+        rt.alloc(),
+        &mut records,
+        CommandId::ResetDescriptorPool,
+        &[&[3], &[4]],
+    )?;
+    assert!(rt; is_listed(rt.alloc(), &records, POOL, &[])?);
+    bear(
+        rt.alloc(),
+        &mut records,
+        CommandId::AllocateDescriptorSets,
+        &[&[3], &[4], &[7]],
+        9,
+    )?;
+    assert!(rt; is_listed(rt.alloc(), &records, POOL, &[OTHER_SET])?);
+    Ok(())
+}
+
+// A pool that wasn't born has no record, so its sets are looked for among all.
+#[test]
+fn the_living_sets_of_a_pool_that_nothing_gave_are_listed(rt: HostRuntime) -> Result<(), Fail> {
+    let mut records = with_device(rt.alloc())?;
+    bear_sets(rt.alloc(), &mut records)?;
+    assert!(rt; is_listed(rt.alloc(), &records, POOL, &[FIRST_SET, SECOND_SET])?);
+    assert!(rt; is_listed(rt.alloc(), &records, OTHER_POOL, &[])?);
+    end(
+        rt.alloc(),
+        &mut records,
+        CommandId::ResetDescriptorPool,
+        &[&[3], &[4]],
+    )?;
+    assert!(rt; is_listed(rt.alloc(), &records, POOL, &[])?);
+    Ok(())
+}
+
 #[test]
 fn a_reset_ends_the_sets_alone(rt: HostRuntime) -> Result<(), Fail> {
     let mut records = small_history(rt.alloc())?;
@@ -332,6 +395,52 @@ fn a_free_passes_over_nulls_and_repeats(rt: HostRuntime) -> Result<(), Fail> {
     assert!(rt; !records.is_alive(FIRST_SET) && !records.is_alive(SECOND_SET));
     assert!(rt; records.is_alive(POOL) && records.is_alive(OTHER_SET));
     assert_eq!(rt; records.live_count(), 7);
+    Ok(())
+}
+
+// A destroy, and which of instance, device, pool and a set live after it.
+#[derive(Clone, Copy)]
+struct Ended(CommandId, &'static [&'static [u64]], [bool; 4]);
+
+// What is owned at depth 1, at depths 1 and 2, and at depths 1 to 3 ends with its owner.
+const AT_DEPTHS: &[Ended] = &[
+    Ended(
+        CommandId::DestroyDescriptorPool,
+        &[&[3], &[4]],
+        [true, true, false, false],
+    ),
+    Ended(
+        CommandId::DestroyDevice,
+        &[&[3]],
+        [true, false, false, false],
+    ),
+    Ended(
+        CommandId::DestroyInstance,
+        &[&[1]],
+        [false, false, false, false],
+    ),
+];
+
+fn lives_as(alloc: Global, row: &Ended) -> Result<bool, Fail> {
+    if row.1.len() > 6 {
+        return Err("too many parameters".into());
+    }
+    let mut records = small_history(alloc)?;
+    end(alloc, &mut records, row.0, row.1)?;
+    let alive = [
+        records.is_alive(INSTANCE),
+        records.is_alive(DEVICE),
+        records.is_alive(POOL),
+        records.is_alive(FIRST_SET),
+    ];
+    Ok(alive == row.2 && records.is_alive(FIRST_SET) == records.is_alive(SECOND_SET))
+}
+
+#[test]
+fn what_is_owned_ends_at_each_depth(rt: HostRuntime) -> Result<(), Fail> {
+    for i in 0..AT_DEPTHS.len() {
+        assert!(rt; lives_as(rt.alloc(), &AT_DEPTHS[i])?, "at {i}");
+    }
     Ok(())
 }
 

@@ -5,6 +5,8 @@
 
 mod conflicts;
 mod gathering;
+#[cfg(test)]
+mod marks;
 mod object_use;
 mod open_call;
 mod state;

@@ -1,5 +1,5 @@
 // What an argument uses.
-ghost use Rattle.std.specs.Prelude.{◌≡◌, ◌++◌, ◌∷◌, [], filter, map, true, OnOk, Some};
+ghost use Rattle.std.specs.Prelude.{◌≡◌, ◌++◌, ◌∷◌, [], map, true, OnOk, Some};
 ghost use Rattle.command_tables.specs.declared.types.Implied.TheVariants as imp;
 ghost use Rattle.command_tables.specs.Table.{ParamSpec, seen_param};
 ghost use Rattle.object_model.specs.Objects.{is_in, object_of};
@@ -16,13 +16,6 @@ use object_records::{ObjectRecords, object_of};
 pub(crate) struct ArgumentPlace {
     pub param: u8,
     pub index: u32,
-}
-
-// The dead leave the list.
-fn keep_alive(records: &ObjectRecords, objects: &mut Vec<Object>)
-    ensures { objects.new.items ≡ filter (λ o. is_in records.now.living o) objects.old.items }
-{
-    objects.retain(|o| records.is_alive(*o));
 }
 
 fn list_owner(
@@ -52,11 +45,7 @@ fn list_implied(
         Implied::None => Ok(()),
         Implied::PoolOf => list_owner(records, object, objects),
         Implied::QueuesOf => records.list_owned(ObjectType::Queue, object, objects),
-        Implied::SetsOf => {
-            records.list_owned(ObjectType::DescriptorSet, object, objects)?;
-            keep_alive(records, objects);
-            Ok(())
-        }
+        Implied::SetsOf => records.list_living(ObjectType::DescriptorSet, object, objects),
     }
 }
 
