@@ -1,5 +1,5 @@
 -- What walks pass over.
-use Rattle.std.proofs.Common.{◌≡◌, ◌≤◌, ◌<◌, ◌∙◌, ◌+◌, ℕ, zero, suc, cond, Bool, true, false, Option, Some, None, List, [], ◌∷◌, ◌++◌, length, get_or, refl, sym, ap, arith, length-append}
+use Rattle.std.proofs.Common.{◌≡◌, ◌≤◌, ◌<◌, ◌∙◌, ◌+◌, ℕ, zero, suc, cond, Bool, true, false, Option, Some, None, List, [], ◌∷◌, ◌++◌, length, get_or, take, refl, sym, ap, arith, length-append}
 use Rattle.std.specs.Prelude.{nat_lt, slice_get}
 use Rattle.std.specs.Option.{option_map_or}
 use Rattle.std.proofs.Math.ListN.{set}
@@ -8,9 +8,11 @@ use Rattle.std.proofs.lemmas.Option.{same_Some, slice_get-get_or}
 use Rattle.object_records.specs.declared.kept_owner.KeptOwner.{KeptOwner}
 use Rattle.object_records.specs.declared.kept_owner.KeptOwner.TheVariants.{Nobody, At, Unborn}
 use Rattle.object_records.specs.declared.record.ObjectRecord.{ObjectRecord}
-use Rattle.object_records.specs.Links.{is_owner_at, last_link}
-use Rattle.object_records.specs.Passed.{ArePassed, IsPassed, limited, limited_at, reopened}
+use Rattle.object_records.specs.Links.{IsPrevious, is_owner_at, last_link, link_by}
+use Rattle.object_records.specs.Passed.{ArePassed, IsDeadAt, IsPassed, limited, limited_at, reopened}
 use Rattle.object_records.specs.Table.{AreOwnersBefore, before_owned, ended_at}
+use Rattle.object_records.proofs.Below.{past_last, take_get}
+use Rattle.object_records.proofs.Owned.{past}
 use Rattle.object_records.proofs.Walked.{is_at}
 use Rattle.object_records.proofs.Linking.{ended_length, get_front, get_last, get_low, last_ended, last_snoc, not_same, owner_before, suc_same, was_record}
 
@@ -193,3 +195,34 @@ ended_passed rs passed at are = record {
     leaf = λ m r less f is. let was = was_record rs at m r f in last_ended 0 0 m at rs ∙ old.leaf m was.old less was.here (ap (λ w. is_owner_at place w) was.owner ∙ is);
   };
 }
+
+-- ---- a front of what is owned
+
+-- a dead record that owns nothing can be passed over, where all before it that has its owner is
+pub front_passed : (rs : List ObjectRecord) (above place link before : ℕ) → place < length rs → IsPassed rs above before → IsPrevious rs place link → link ≤ before → IsDeadAt rs place above → last_link rs place ≡ 0 → IsPassed rs above (place + 1)
+front_passed rs above place link before low old previous under dead leaf = go (slice_get rs place) refl
+  where
+    go : (x : Option ObjectRecord) → slice_get rs place ≡ x → IsPassed rs above (place + 1)
+    go None e = absurd (past rs place low e)
+    go (Some r) here = record { within = omega (arith, low); dead = λ n x less e is. (each n x less e is).0; leaf = λ n x less e is. (each n x less e is).1 }
+      where
+        last : link ≡ last_link (take place rs) above
+        last = previous r here ∙ ap (λ (w : KeptOwner). link_by (take place rs) w) (dead r here).0
+
+        each : (n : ℕ) (x : ObjectRecord) → n < place + 1 → slice_get rs n ≡ Some x → is_owner_at above x.owner ≡ true → (x.lives ≡ false) × (last_link rs n ≡ 0)
+        each n x less e is = first (nat_lt n before) refl
+          where
+            second : (u : Bool) → before ≤ n → nat_lt n place ≡ u → (x.lives ≡ false) × (last_link rs n ≡ 0)
+            second true high lt =
+                let front : n < place = ltb-true n place lt in
+                let none : is_owner_at above x.owner ≡ false = past_last (take place rs) above n x (omega (arith, last, under, high)) (take_get rs place n x front e) in
+                cc (sym is ∙ none)
+            second false high lt =
+                let least : place ≤ n = grind (arith, lt) in
+                let at : n ≡ place = omega (arith, least, less) in
+                let same : r ≡ x = same_Some r x (sym here ∙ (ap (λ m. slice_get rs m) (sym at) ∙ e)) in
+                (ap (λ (y : ObjectRecord). y.lives) (sym same) ∙ (dead r here).1, ap (λ m. last_link rs m) at ∙ leaf)
+
+            first : (u : Bool) → nat_lt n before ≡ u → (x.lives ≡ false) × (last_link rs n ≡ 0)
+            first true lt = let low_there : n < before = ltb-true n before lt in (old.dead n x low_there e is, old.leaf n x low_there e is)
+            first false lt = let high : before ≤ n = grind (arith, lt) in second (nat_lt n place) high refl

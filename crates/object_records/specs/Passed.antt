@@ -12,6 +12,10 @@ pub record IsPassed (rs : List ObjectRecord) (place before : ℕ) : Type 0 where
   pub dead : (n : ℕ) (r : ObjectRecord) → n < before → slice_get rs n ≡ Some r → is_owner_at place r.owner ≡ true → r.lives ≡ false
   pub leaf : (n : ℕ) (r : ObjectRecord) → n < before → slice_get rs n ≡ Some r → is_owner_at place r.owner ≡ true → last_link rs n ≡ 0
 
+-- the object of the record at a place is dead, and its owner stands at another
+abbrev pub IsDeadAt : List ObjectRecord → ℕ → ℕ → Type 0
+IsDeadAt rs place above = (r : ObjectRecord) → slice_get rs place ≡ Some r → (r.owner ≡ At above) × (r.lives ≡ false)
+
 -- what is kept at each record fits the records
 pub record ArePassed (rs : List ObjectRecord) (passed : List ℕ) : Type 0 where
   pub count : length passed ≡ length rs

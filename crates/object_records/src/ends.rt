@@ -6,11 +6,12 @@ ghost use Rattle.command_tables.specs.Handles.{list_at};
 ghost use Rattle.object_model.specs.Objects.{is_in, object_of, objects_in};
 ghost use Rattle.object_model.specs.History.{ends_by, ends_with, owners_in};
 ghost use Rattle.object_records.specs.Links.{has_strays_in, last_link};
-ghost use Rattle.object_records.specs.Passed.{IsPassed};
+ghost use Rattle.object_records.specs.Passed.{IsDeadAt, IsPassed};
 ghost use Rattle.object_records.specs.Records.{births_kept, living_kept, swept, DoesNotEnd, EndsThere, IsEndedBelow, PassesOnly};
 ghost use Rattle.object_records.specs.Shape.{HasParams, arguments_of};
 ghost use Rattle.object_records.specs.Table.{ended_at};
 
+use crate::kept_owner::KeptOwner;
 use crate::look_ups::{is_created, is_owned, is_same};
 use crate::reading::{argument_at, count_places, object_of};
 use crate::record_table::RecordTable;
@@ -141,6 +142,38 @@ fn end_among_all(table: &mut RecordTable, effect: Effect, call: &LayerCall) -> u
     ended
 }
 
+// Whether what is owned at a place can be passed over up to the record at another, which is dead and owned there.
+fn is_front(table: &RecordTable, place: usize, above: usize) -> bool
+    requires place { place < length table.now.records }
+    requires above { above < length table.now.records }
+    requires dead { IsDeadAt table.now.records place above }
+    ensures { result ≡ true → IsPassed table.now.records above (place + 1) }
+{
+    let link = table.previous(place);
+    let before = table.passed(above);
+    table.last_owned(place) == 0 && link <= before
+}
+
+// Further walks pass over the record at a place, where they pass over all before it that has the same owner.
+fn pass_front(table: &mut RecordTable, place: usize)
+    requires { place < length table.old.records }
+    ensures { table.new.records ≡ table.old.records }
+{
+    let _count = table.len();
+    let kept = table.record(place);
+    if kept.lives {
+        return;
+    }
+    match kept.owner {
+        KeptOwner::Nobody | KeptOwner::Unborn(_) => {}
+        KeptOwner::At(above) => {
+            if is_front(table, place, above) {
+                table.pass_over(above, place + 1);
+            }
+        }
+    }
+}
+
 // The object of the record at a place lives no longer. Tells whether it lived until then, by 1 or 0.
 #[tactic(auto, using(crate::proofs::Owned::lives_there, crate::proofs::Swept::one_less))]
 fn end_record(table: &mut RecordTable, place: usize) -> usize
@@ -153,6 +186,7 @@ fn end_record(table: &mut RecordTable, place: usize) -> usize
         return 0;
     }
     table.end_at(place);
+    pass_front(table, place);
     1
 }
 
@@ -171,7 +205,7 @@ fn pass_leaves(table: &mut RecordTable, are_leaves: bool, place: usize)
     ensures { table.new.records ≡ table.old.records }
 {
     if are_leaves {
-        table.pass_over(place);
+        table.pass_over(place, table.len());
     }
 }
 

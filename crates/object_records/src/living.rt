@@ -47,11 +47,7 @@ fn list_among_all(
 }
 
 // The object of a record is noted where it lives and has this type.
-fn note_living(
-    kept: ObjectRecord,
-    ty: ObjectType,
-    out: &mut Vec<Object>,
-) -> Result<(), NoMemory>
+fn note_living(kept: ObjectRecord, ty: ObjectType, out: &mut Vec<Object>) -> Result<(), NoMemory>
     ensures { OnOk result (out.new.items ≡ out.old.items ++ (if kept.lives then alone_if ty kept.object else [])) }
 {
     if kept.lives {

@@ -257,7 +257,11 @@ fn list_among_all(
 }
 
 // An object is noted where it has this type.
-pub(crate) fn note_of_type(object: Object, ty: ObjectType, out: &mut Vec<Object>) -> Result<(), NoMemory>
+pub(crate) fn note_of_type(
+    object: Object,
+    ty: ObjectType,
+    out: &mut Vec<Object>,
+) -> Result<(), NoMemory>
     ensures { OnOk result (out.new.items ≡ out.old.items ++ alone_if ty object) }
 {
     if is_type(object.ty, ty) {

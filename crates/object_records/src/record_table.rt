@@ -182,13 +182,13 @@ impl RecordTable {
         self.passed[place]
     }
 
-    /// Nothing that the object of the record at a place owns lives, or owns anything itself.
-    pub fn pass_over(&mut self, place: usize)
+    /// Before a place nothing that the object of the record at another owns lives, or owns anything itself.
+    pub fn pass_over(&mut self, place: usize, before: usize)
         requires place { place < length self.old.records }
-        requires passed { IsPassed self.old.records place (length self.old.records) }
+        requires passed { IsPassed self.old.records place before }
         ensures records { self.new.records ≡ self.old.records }
         ensures spare { self.new.spare ≡ self.old.spare }
     {
-        self.passed[place] = self.records.len();
+        self.passed[place] = before;
     }
 }

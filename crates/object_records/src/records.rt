@@ -11,9 +11,8 @@ ghost use Rattle.object_records.specs.Shape.{AreNewOnce, HasParams, arguments_of
 
 use crate::births::{add_births, owner_for};
 use crate::ends::{end_objects, may_end};
-use crate::living;
-use crate::look_ups;
 use crate::record_table::RecordTable;
+use crate::{living, look_ups};
 use command_tables::{Effect, LayerCall, NoMemory, ObjectType, OwnerOf, row};
 use object_model::Object;
 use std::alloc::Global;
