@@ -38,16 +38,8 @@ const WORLD: &[Made] = &[
     Made(CommandId::GetDeviceQueue, &[&[3]], 16),
     Made(CommandId::CreateDescriptorPool, &[&[3]], 17),
     Made(CommandId::CreateDescriptorPool, &[&[3]], 37),
-    Made(
-        CommandId::AllocateDescriptorSets,
-        &[&[3], &[17], &[]],
-        18,
-    ),
-    Made(
-        CommandId::AllocateDescriptorSets,
-        &[&[3], &[37], &[]],
-        38,
-    ),
+    Made(CommandId::AllocateDescriptorSets, &[&[3], &[17], &[]], 18),
+    Made(CommandId::AllocateDescriptorSets, &[&[3], &[37], &[]], 38),
     Made(CommandId::CreateXcbSurfaceKHR, &[&[1]], 5),
     Made(CommandId::CreateSwapchainKHR, &[&[3], &[5], &[0]], 6),
     Made(CommandId::GetSwapchainImagesKHR, &[&[3], &[6]], 7),
@@ -67,11 +59,7 @@ const OR_NULL: &[Judged] = &[
         &[(1, 0, Rule::Parameter)],
     ),
     Judged(CommandId::QueueSubmit, &[&[16], &[], &[], &[], &[0]], &[]),
-    Judged(
-        CommandId::CmdBindVertexBuffers,
-        &[&[13], &[0, 10, 0]],
-        &[],
-    ),
+    Judged(CommandId::CmdBindVertexBuffers, &[&[13], &[0, 10, 0]], &[]),
     Judged(
         CommandId::QueueSubmit,
         &[&[16], &[], &[], &[], &[31]],
@@ -119,11 +107,7 @@ const SAME_DEVICE: &[Judged] = &[
         &[],
     ),
     Judged(CommandId::CreateImageView, &[&[3], &[7]], &[]),
-    Judged(
-        CommandId::CreateSwapchainKHR,
-        &[&[4], &[5], &[6]],
-        &[],
-    ),
+    Judged(CommandId::CreateSwapchainKHR, &[&[4], &[5], &[6]], &[]),
 ];
 
 // An object is owned by the object of another parameter, and not by what that owns.
@@ -149,16 +133,8 @@ const OWNED_BY: &[Judged] = &[
         &[(1, 0, Rule::Parent)],
     ),
     Judged(CommandId::BindImageMemory, &[&[3], &[14], &[15]], &[]),
-    Judged(
-        CommandId::FreeCommandBuffers,
-        &[&[3], &[12], &[0, 13]],
-        &[],
-    ),
-    Judged(
-        CommandId::FreeDescriptorSets,
-        &[&[3], &[37], &[38]],
-        &[],
-    ),
+    Judged(CommandId::FreeCommandBuffers, &[&[3], &[12], &[0, 13]], &[]),
+    Judged(CommandId::FreeDescriptorSets, &[&[3], &[37], &[38]], &[]),
     Judged(CommandId::DestroyImage, &[&[3], &[14]], &[]),
 ];
 

@@ -31,11 +31,7 @@ const WORLD: &[Made] = &[
     Made(CommandId::AllocateDescriptorSets, &[&[3], &[8], &[]], 9),
     Made(CommandId::AllocateDescriptorSets, &[&[3], &[8], &[]], 10),
     Made(CommandId::CreateDescriptorPool, &[&[3]], 18),
-    Made(
-        CommandId::AllocateDescriptorSets,
-        &[&[3], &[18], &[]],
-        19,
-    ),
+    Made(CommandId::AllocateDescriptorSets, &[&[3], &[18], &[]], 19),
     Made(CommandId::CreateBuffer, &[&[3]], 30),
     Made(CommandId::AllocateMemory, &[&[3]], 31),
     Made(CommandId::CreateFence, &[&[3]], 32),
