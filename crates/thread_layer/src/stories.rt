@@ -1,5 +1,7 @@
 //! Calls that are open beside each other, on one part.
-use crate::tests::{begin, end, is_found, on, overlap, with_command_pool, with_queue, with_set};
+use crate::tests::{
+    begin, end, is_found, make, on, overlap, with_command_pool, with_queue, with_set,
+};
 use command_tables::CommandId;
 use std::test::Fail;
 
@@ -433,5 +435,26 @@ fn a_call_is_open_until_its_results_come(rt: HostRuntime) -> Result<(), Fail> {
         CommandId::BeginCommandBuffer,
         &[&[6]],
     )?;
+    Ok(())
+}
+
+// That a buffer is dead is for a lifetimes part to say.
+#[test]
+fn a_dead_buffer_is_destroyed_by_two_threads(rt: HostRuntime) -> Result<(), Fail> {
+    let alloc = rt.alloc();
+    let mut state = with_queue(alloc)?;
+    make(alloc, &mut state, CommandId::CreateBuffer, &[&[3]], 5)?;
+    let destroy = CommandId::DestroyBuffer;
+    make(alloc, &mut state, destroy, &[&[3], &[5]], 0)?;
+    begin(alloc, &mut state, on(1, 6), destroy, &[&[3], &[5]])?;
+    let found = is_found(
+        alloc,
+        &mut state,
+        on(2, 7),
+        destroy,
+        &[&[3], &[5]],
+        &[overlap(1, 0, 6)],
+    )?;
+    assert!(rt; found);
     Ok(())
 }
