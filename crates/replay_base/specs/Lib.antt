@@ -4,3 +4,4 @@ pub mod Files
 pub mod Lines
 pub mod Memory
 pub mod Changes
+pub mod Reader

@@ -1,5 +1,8 @@
 // The limits of a run.
 
+/// The most bytes that a line may have, without its LF.
+pub const MOST_LINE_BYTES: usize = 65_536;
+
 /// A limit that a run reached.
 #[derive(Clone, Copy, Debug, PartialEq, Eq)]
 pub enum Which {
