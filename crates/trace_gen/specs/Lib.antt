@@ -1,0 +1,6 @@
+pub mod Turns
+pub mod Text
+pub mod Left
+pub mod Writing
+pub mod Given
+pub mod Rows
