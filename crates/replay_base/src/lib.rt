@@ -30,7 +30,7 @@ pub use limit::{MOST_LINE_BYTES, Which};
 pub use line::{Line, LineError};
 pub use lines::{Split, facts_of_lines, split_line};
 pub use memory_sink::MemSink;
-pub use memory_source::{MemSource, PlainSource};
+pub use memory_source::{MemSource, PlainSource, give};
 pub use memory_tree::MemTree;
 pub use reader::LineReader;
 pub use sink::{Sink, put_all};

@@ -19,9 +19,9 @@ fn copy_some(bytes: &[u8], buf: &mut [u8]) -> usize
     count
 }
 
-// The same of the bytes from a place on.
+/// Copies as many of the bytes from a place on as fit into `buf`, to its front, and says how many.
 #[tactic(auto, using(crate::proofs::Written::given_front))]
-fn give(bytes: &[u8], at: usize, buf: &mut [u8]) -> usize
+pub fn give(bytes: &[u8], at: usize, buf: &mut [u8]) -> usize
     requires { at ≤ length bytes.now }
     ensures within { at + result ≤ length bytes.now }
     ensures whole { result ≡ min (length bytes.now - at) (length buf.old) }

@@ -109,7 +109,7 @@ impl<S> LineReader<S> {
 }
 
 impl<S: Source + Drop> LineReader<S> {
-    ghost use Rattle.std.specs.Prelude.{◌≡◌, ◌≢◌, ◌+◌, ◌≤◌, ◌<◌, length, take, drop, ℕ, IfOk, IfErr, OnOk, OnErr, Err, None, Some, false};
+    ghost use Rattle.std.specs.Prelude.{◌≡◌, ◌≢◌, ◌+◌, ◌≤◌, ◌<◌, length, take, drop, ℕ, IfOk, OnOk, OnErr, MatchOption, Err, None, Some, false};
     ghost use Rattle.replay_base.specs.Bytes.{IsSpent};
     ghost use Rattle.replay_base.specs.Faults.{HasCause, raised};
     ghost use Rattle.replay_base.specs.Lines.{HasNoFeed};
@@ -117,7 +117,7 @@ impl<S: Source + Drop> LineReader<S> {
 
     #[tactic(auto, using(crate::proofs::ReaderLemmas::before_nil))]
     pub fn new(alloc: Global, source: S) -> Result<LineReader<S>, NoMemory>
-        ensures fresh { IfOk result (λ reader. rest (state_of S.left S.faults reader) ≡ S.left source × state_of S.left S.faults reader ≡ fresh (S.left source) (S.faults source)) }
+        ensures fresh { IfOk result (λ reader. (rest (state_of S.left S.faults reader) ≡ S.left source) × (state_of S.left S.faults reader ≡ fresh (S.left source) (S.faults source))) }
         ensures same { IfOk result (λ reader. S.loan reader.source ≡ S.loan source) }
     {
         let buffer = vec![in alloc; 0u8; MOST_LINE_BYTES + 1]?;
@@ -204,6 +204,29 @@ impl<S: Source + Drop> LineReader<S> {
         self.finished = !end.ended;
         self.place = self.place.saturating_add(count as u64);
         if count == 0 { Line::End } else { Line::Text }
+    }
+
+    /// What `advance` answers, where a whole line is kept, at the end or after an error; else none, and nothing is changed. It never asks
+    /// the source, so a caller that would do something before the source lets it wait can do it at none.
+    pub fn advance_kept(&mut self) -> Option<Result<Line, LineError>>
+        ensures kept { MatchOption result ((self.new ≡ self.old) × HasNoFeed (kept_of self.old)) (λ found. Reads (state_of S.left S.faults self.old) (state_of S.left S.faults self.new) found (line_of self.new)) }
+        ensures source { self.new.source ≡ self.old.source }
+        ensures ahead { length (kept_of self.new) ≤ MOST + 1 }
+    {
+        if let Some(error) = self.error {
+            return Some(Err(error));
+        }
+        if self.finished {
+            self.line_from = self.line_to;
+            return Some(Ok(Line::End));
+        }
+        match find_feed(&self.buffer[self.from..self.to], 0) {
+            Some(length) => Some(Ok(self.take_line(LineEnd {
+                length,
+                ended: true,
+            }))),
+            None => None,
+        }
     }
 
     /// Finds the next line, which `line` then lends. After an error it answers that error from then on; it takes no memory.

@@ -121,6 +121,22 @@ fn an_error_stays(rt: HostRuntime) -> Result<(), Fail> {
     Ok(())
 }
 
+#[test]
+fn what_was_read_is_at_hand(rt: HostRuntime) -> Result<(), Fail> {
+    let alloc = rt.alloc();
+    let source = PlainSource::new(b"a\nb\nc".to_vec(alloc)?);
+    let mut reader = LineReader::new(alloc, source).ok().ok_or("memory")?;
+    assert_eq!(rt; reader.advance_kept(), None);
+    assert_eq!(rt; reader.advance(), Ok(Line::Text));
+    assert_eq!(rt; reader.advance_kept(), Some(Ok(Line::Text)));
+    assert_eq!(rt; reader.line(), b"b".as_slice());
+    assert_eq!(rt; reader.advance_kept(), None);
+    assert_eq!(rt; reader.advance(), Ok(Line::Text));
+    assert_eq!(rt; reader.line(), b"c".as_slice());
+    assert_eq!(rt; reader.advance_kept(), Some(Ok(Line::End)));
+    Ok(())
+}
+
 // A line of so many bytes behind a short one, and what comes for it.
 fn check_long(
     rt: &impl Abort,

@@ -1,3 +1,4 @@
 pub mod TurnLemmas
 pub mod TextLemmas
 pub mod WriteLemmas
+pub mod AcceptedLemmas

@@ -1,5 +1,5 @@
 -- One turn of a generator.
-use Rattle.std.proofs.Common.{◌≡◌, ◌∷◌, ◌+◌, ◌∙◌, ℕ, add-one, refl}
+use Rattle.std.proofs.Common.{◌≡◌, ◌∷◌, ◌+◌, ℕ, add-one, refl}
 use Rattle.trace_gen.specs.declared.call.Call.{Call}
 use Rattle.trace_gen.specs.declared.turns.Stage.{Stage}
 use Rattle.trace_gen.specs.declared.turns.Stage.TheVariants as stage

@@ -1,7 +1,7 @@
 -- What a generator has still to give. Source: this project.
 use Rattle.std.specs.Prelude.{ℕ, List, [], ◌∷◌, drop}
 use Rattle.trace_gen.specs.declared.call.Call.{Call}
-use Rattle.trace_gen.specs.declared.call.Call.TheVariants.{CreateInstance, EnumeratePhysicalDevices, CreateDevice, DestroyDevice, DestroyInstance}
+use Rattle.trace_gen.specs.declared.call.Call.TheVariants.{CreateInstance, EnumeratePhysicalDevices, CreateDevice, DestroyInstance}
 use Rattle.trace_gen.specs.declared.turns.Stage.{Stage}
 use Rattle.trace_gen.specs.declared.turns.Stage.TheVariants as stage
 use Rattle.trace_gen.specs.declared.turns.Generator.{Generator}

@@ -4,3 +4,4 @@ pub mod Left
 pub mod Writing
 pub mod Given
 pub mod Rows
+pub mod Accepted

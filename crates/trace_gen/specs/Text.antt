@@ -8,7 +8,7 @@ use Rattle.command_tables.specs.declared.types.Code.TheVariants.{Success}
 use Rattle.replay_base.specs.Lines.{line_text}
 use Rattle.trace_format.specs.declared.event.Name.{Name}
 use Rattle.trace_format.specs.Accepting.{header}
-use Rattle.trace_format.specs.Content.{Arg, BeginEvent, TraceEvent, Begin, Return}
+use Rattle.trace_format.specs.Content.{Arg, TraceEvent, Begin, Return}
 use Rattle.trace_format.specs.Grammar.{spelling}
 use Rattle.trace_gen.specs.declared.call.Call.{Call}
 use Rattle.trace_gen.specs.declared.call.Call.TheVariants.{CreateInstance, EnumeratePhysicalDevices, CreateDevice, CreateBuffer, GetBufferMemoryRequirements, DestroyBuffer, DestroyDevice, DestroyInstance}

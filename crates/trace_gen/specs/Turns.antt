@@ -1,6 +1,6 @@
 -- Which calls a generated trace makes. Source: this project; the numbers are those of Knuth's MMIX generator ("The Art of Computer Programming", volume 2,
 -- section 3.3.4).
-use Rattle.std.specs.Prelude.{ℕ, zero, suc, ◌+◌, ◌*◌, ◌^◌, ◌/◌, ◌%◌, ◌==◌, ◌||◌, Bool, if◌then◌else◌, List, [], ◌∷◌, ◌++◌, map, length, slice_index}
+use Rattle.std.specs.Prelude.{ℕ, zero, suc, ◌+◌, ◌*◌, ◌^◌, ◌/◌, ◌%◌, ◌==◌, ◌||◌, if◌then◌else◌, List, [], ◌∷◌, ◌++◌, map, length, slice_index}
 use Rattle.std.specs.List.{remove}
 use Rattle.trace_gen.specs.declared.call.Call.{Call}
 use Rattle.trace_gen.specs.declared.call.Call.TheVariants.{CreateInstance, EnumeratePhysicalDevices, CreateDevice, CreateBuffer, GetBufferMemoryRequirements, DestroyBuffer, DestroyDevice, DestroyInstance}

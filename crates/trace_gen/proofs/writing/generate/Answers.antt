@@ -1,7 +1,6 @@
-use Rattle.std.proofs.Common.{◌++◌, ◌∙◌, List, ℕ, ap, codes, subst, sym}
-use Rattle.std.specs.Prelude.{Ok, Err}
+use Rattle.std.proofs.Common.{List, ℕ, ap, codes, subst}
+use Rattle.std.specs.Prelude.{Err}
 use Rattle.replay_base.specs.Changes.{changed}
-use Rattle.trace_gen.specs.Left.{calls_left}
 use Rattle.trace_gen.specs.Text.{calls_text}
 use Rattle.trace_gen.specs.Turns.{calls_of}
 use Rattle.trace_gen.specs.Writing.{Puts}
