@@ -1,5 +1,5 @@
 // The replayer as a plain Rust program with std's hash maps and no proofs, to measure the proved one beside it. It makes the traces of
-// `vkreplay gen`, and replays traces of the plain form, with one driver and either no layers or the parts of the validation layer. A trace
+// `crates/trace_gen`, and replays traces of the plain form, with one driver and either no layers or the parts of the validation layer. A trace
 // that isn't well formed ends it; nothing is said of limits.
 //
 //     baseline gen NUMBER CALLS | baseline run [--validate]

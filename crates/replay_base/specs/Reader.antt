@@ -98,6 +98,7 @@ pub record IsTooLong (old new : ReaderState) (place : ℕ) : Type 0 where
   pub no_feed : HasNoFeed new.kept
   pub count : length new.kept ≡ MOST_LINE_BYTES + 1
   pub first : place ≡ old.place
+  pub unfinished : old.finished ≡ false
   pub stood : new.faults ≡ old.faults
 
 -- a line, the end, or why there is neither

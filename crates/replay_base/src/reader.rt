@@ -115,23 +115,32 @@ impl<S: Source + Drop> LineReader<S> {
     ghost use Rattle.replay_base.specs.Lines.{HasNoFeed};
     ghost use Rattle.replay_base.specs.Reader.{EndsLine, IsAtEnd, Reads, TakesLine, fresh, kept_of, line_of, rest, state_of};
 
-    #[tactic(auto, using(crate::proofs::ReaderLemmas::before_nil))]
-    pub fn new(alloc: Global, source: S) -> Result<LineReader<S>, NoMemory>
-        ensures fresh { IfOk result (λ reader. (rest (state_of S.left S.faults reader) ≡ S.left source) × (state_of S.left S.faults reader ≡ fresh (S.left source) (S.faults source))) }
-        ensures same { IfOk result (λ reader. S.loan reader.source ≡ S.loan source) }
+    /// A reader over a buffer that is there, of 65,537 bytes: it takes no memory.
+    pub fn with_buffer(source: S, buffer: Vec<u8>) -> LineReader<S>
+        requires { length buffer.items ≡ MOST + 1 }
+        ensures fresh { state_of S.left S.faults result ≡ fresh (S.left source) (S.faults source) }
+        ensures same { S.loan result.source ≡ S.loan source }
     {
-        let buffer = vec![in alloc; 0u8; MOST_LINE_BYTES + 1]?;
-        Ok(LineReader {
+        LineReader {
             source,
             buffer,
             line_from: 0,
             line_to: 0,
             from: 0,
             to: 0,
-            finished: false,
             place: 0,
+            finished: false,
             error: None,
-        })
+        }
+    }
+
+    #[tactic(auto, using(crate::proofs::ReaderLemmas::before_nil))]
+    pub fn new(alloc: Global, source: S) -> Result<LineReader<S>, NoMemory>
+        ensures fresh { IfOk result (λ reader. (rest (state_of S.left S.faults reader) ≡ S.left source) × (state_of S.left S.faults reader ≡ fresh (S.left source) (S.faults source))) }
+        ensures same { IfOk result (λ reader. S.loan reader.source ≡ S.loan source) }
+    {
+        let buffer = vec![in alloc; 0u8; MOST_LINE_BYTES + 1]?;
+        Ok(LineReader::with_buffer(source, buffer))
     }
 
     // Reads behind what is kept, and says how many bytes: none only at the source's end.

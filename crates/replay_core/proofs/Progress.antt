@@ -1,8 +1,12 @@
 -- How far a replay has come in the lines of a trace.
-use Rattle.std.proofs.Common.{◌≡◌, ◌∙◌, ℕ, ◌+◌, ◌≤◌, Bool, true, false, cond, Option, Some, None, List, [], ◌∷◌, ◌++◌, refl, sym, ap, subst, append_assoc, inl, inr, arith}
-use Rattle.std.specs.Prelude.{Result, Ok, Err}
+use Rattle.std.proofs.Common.{◌≡◌, ◌∙◌, ℕ, ◌+◌, ◌≤◌, ◌<◌, Bool, true, false, cond, Option, Some, None, List, [], ◌∷◌, ◌++◌, length, refl, sym, ap, subst, append_assoc, append-nil, inl, inr, arith}
+use Rattle.std.specs.Prelude.{◌⊎◌, Result, Ok, Err}
 use Rattle.std.specs.Option.{option_map}
-use Rattle.replay_base.specs.Changes.{Stood}
+use Rattle.std.proofs.lemmas.List.{length-append}
+use Rattle.replay_base.specs.Changes.{Change, Gave, Stood, changed}
+use Rattle.replay_base.specs.Lines.{lines_of}
+use Rattle.replay_base.specs.Reader.{IsAtEnd, ReaderState, TakesLine}
+use Rattle.replay_base.specs.declared.limit.TheConstants.{MOST_LINE_BYTES}
 use Rattle.replay_base.specs.declared.limit.Which.TheVariants as which
 use Rattle.trace_format.specs.declared.fault.TraceFault.{TraceFault}
 use Rattle.trace_format.specs.Accepting.{calls_begun, exceeds_names, fault_at_end, fault_after}
@@ -11,36 +15,60 @@ use Rattle.trace_format.specs.Grammar.{IsEvent}
 use Rattle.trace_format.specs.Reading.{read_line}
 use Rattle.trace_format.specs.State.{Accepted, SumsUp, TraceSeen}
 use Rattle.replay_model.specs.Setup.{Setup}
-use Rattle.replay_model.specs.Stop.{Cause, Fault, Names, Layers, at_fault, events_from, events_or, exceeds_layers, line_after, stop_from}
-use Rattle.replay_model.proofs.Stops.{events_here, events_next, line_exceeding, line_faulty, line_layered, line_misplaced, line_placed, stop_here, stop_next}
+use Rattle.replay_model.specs.Stop.{Stop, Cause, Fault, LineBytes, Lines, Names, Layers, at_fault, cause_before, events_from, events_in, events_of, events_or, exceeds_layers, line_after, line_at, placed_in, stop, stop_from, stop_in}
+use Rattle.replay_model.proofs.Stops.{events_here, events_next, events_placed, line_barred, line_exceeding, line_faulty, line_layered, line_looked, line_misplaced, line_placed, placed_more, stop_here, stop_placed}
 use Rattle.chain_model.specs.Traces.{IsTrace}
 use Rattle.chain_session.specs.declared.kept.Kept.{Kept}
 use Rattle.replay_core.specs.declared.error.ReplayError.{ReplayError}
 use Rattle.replay_core.specs.declared.error.ReplayError.TheVariants as error
-use Rattle.replay_core.specs.Plays.{Behind, InStep, LineCut, LinePlayed, LineRanOut, LineStep, LineStops, Plays, PlaysLine, PlayedAll, PlayedTo, Step, Steps, script_from}
-use Rattle.replay_core.specs.Traffic.{Traffic, Start, upto, through, Played, WentOut, IsFront, RanOut, RanOutBehind}
+use Rattle.replay_core.specs.Given.{EndsBehind, FinishesAt, GoesOn, Halts, HasGiven, IsBarred, StopsAt, StopsByLimit, TakesHeader, TakesLineOr, TakesNext, source_of}
+use Rattle.replay_core.specs.Plays.{Behind, InStep, LineCut, LinePlayed, LineRanOut, LineStep, LineStops, Plays, PlaysLine, PlayedAll, PlayedTo, RanOut, Step, Steps}
+use Rattle.replay_core.specs.Traffic.{Traffic, Start, upto, through, Played, WentOut, IsFront, RanOutBehind}
 use Rattle.replay_core.proofs.Playing.{played_none, went_out, still_out, ran_out_before}
+use Rattle.replay_core.proofs.Reading.{Given, LongNext, all_lines, behind_of, gave_all, gave_lines, gave_so_many, given_next, given_start, has_given, long_next, own_lines}
 use Rattle.replay_core.proofs.Sessions.{trace_next}
 
 -- ---- where the replay is
 
--- The events so far were replayed, the state and the session stand for them, and what follows them is what the rest of the lines has.
-pub record SoFar (s : Setup) (state : TraceSeen) (x : Option Kept) (n : ℕ) (all rest : List (List ℕ)) (t : Traffic) : Type 0 where
+-- Of a source that had these bytes left, and had failed so often, these lines were read, and their events were replayed; the state and the session stand
+-- for them, and the next line has this number.
+pub record SoFar (s : Setup) (left : Option (List ℕ)) (faults : ℕ) (r : ReaderState) (state : TraceSeen) (x : Option Kept) (n : ℕ) (t : Traffic) : Type 0 where
+  pub first : List ℕ
+  pub lines : List (List ℕ)
   pub events : List TraceEvent
+  pub given : Given left r (first ∷ lines)
+  pub placed : placed_in s (first ∷ lines) ≡ Some events
+  pub number : n ≡ 2 + length lines
+  pub size : length lines ≡ length events
   pub state_stands : SumsUp state events
-  pub stop : stop_from s 2 [] all ≡ stop_from s n events rest
-  pub same : events_from s [] all ≡ events_from s events rest
   pub few : calls_begun events + 2 ≤ n
   pub played : Played s x events t
+  pub stood : r.faults ≡ faults
 
--- before the first line
-pub far_start : (s : Setup) (state : TraceSeen) (x : Option Kept) (all : List (List ℕ)) (t : Traffic) → SumsUp state [] → x ≡ None → t.log ≡ t.old_log → t.sink.new ≡ t.sink.old → SoFar s state x 2 all all t
-far_start s state x all t state_stands none log held =
-    record { events = []; state_stands = state_stands; stop = refl; same = refl; few = omega arith; played = played_none s x t none log held }
+-- what went on in the source of a reader since it had these bytes left, and had failed so often
+abbrev pub since : Option (List ℕ) → ℕ → ReaderState → Change
+since left faults r = changed left r.left faults r.faults
+
+-- behind the header
+pub far_start : (s : Setup) (old r : ReaderState) (state : TraceSeen) (x : Option Kept) (t : Traffic) → old.finished ≡ false → old.kept ≡ [] → TakesHeader s old r → SumsUp state [] → x ≡ None → t.log ≡ t.old_log → t.sink.new ≡ t.sink.old
+    → SoFar s old.left old.faults r state x 2 t
+far_start s old r state x t unread kept takes state_stands none log held = record {
+  first = takes.line;
+  lines = [];
+  events = [];
+  given = given_next old.left old r [] takes.line (given_start old.left old unread kept refl) takes.takes;
+  placed = takes.placed;
+  number = refl;
+  size = refl;
+  state_stands = state_stands;
+  few = omega arith;
+  played = played_none s x t none log held;
+  stood = takes.takes.stood;
+}
 
 -- so the next line finds both in step
-pub in_step : (s : Setup) (state : TraceSeen) (x : Option Kept) (n : ℕ) (all rest : List (List ℕ)) (t : Traffic) → SoFar s state x n all rest t → InStep s state x n
-in_step s state x n all rest t far =
+pub in_step : (s : Setup) (left : Option (List ℕ)) (faults : ℕ) (r : ReaderState) (state : TraceSeen) (x : Option Kept) (n : ℕ) (t : Traffic) → SoFar s left faults r state x n t → InStep s state x n
+in_step s left faults r state x n t far =
     record { events = far.events; replies = far.played.replies; state_stands = far.state_stands; session_stands = far.played.stands; trace = far.played.trace; few = far.few }
 
 -- an event begins one call at most
@@ -48,104 +76,264 @@ one_call : (e : TraceEvent) (events : List TraceEvent) → calls_begun (e ∷ ev
 one_call (Begin b) events = omega arith
 one_call (Return thread) events = omega arith
 
+-- the line's event, by its number
+here_at : (s : Setup) (lines : List (List ℕ)) (n : ℕ) (events : List TraceEvent) (text : List ℕ) (r : Result TraceEvent Cause) → n ≡ 2 + length lines → cause_before n text ≡ None → line_after s events text ≡ r → line_at s (2 + length lines) events text ≡ r
+here_at s lines n events text r number looked here = ap (λ k. line_at s k events text) (sym number) ∙ (line_looked s n events text looked ∙ here)
+
 -- one line more
-pub far_next : (l : LineStep) (start : Start) (all more rest : List (List ℕ)) → SoFar l.setup l.old_state l.old l.number all rest (upto start l.traffic) → rest ≡ l.text ∷ more
-    → PlaysLine l (Ok tt) → SoFar l.setup l.state l.new (l.number + 1) all more (through start l.traffic)
-far_next l start all more rest far split plays =
+pub far_next : (l : LineStep) (start : Start) (left : Option (List ℕ)) (faults : ℕ) (r new : ReaderState) → SoFar l.setup left faults r l.old_state l.old l.number (upto start l.traffic) → TakesNext r new l.number l.text
+    → PlaysLine l (Ok tt) → SoFar l.setup left faults new l.state l.new (l.number + 1) (through start l.traffic)
+far_next l start left faults r new far takes plays =
     let done : LinePlayed l far.events (through start l.traffic) = plays.0 start far.events far.state_stands far.played in
     let one : calls_begun (done.event ∷ far.events) ≤ calls_begun far.events + 1 = one_call done.event far.events in
     let few : calls_begun far.events + 2 ≤ l.number = far.few in
+    let longer : length (far.lines ++ l.text ∷ []) ≡ length far.lines + 1 = length-append far.lines (l.text ∷ []) in
     record {
+      first = far.first;
+      lines = far.lines ++ l.text ∷ [];
       events = done.event ∷ far.events;
+      given = given_next left r new (far.first ∷ far.lines) l.text far.given takes.takes;
+      placed = placed_more l.setup far.first far.lines far.events l.text done.event far.placed (here_at l.setup far.lines l.number far.events l.text (Ok done.event) far.number takes.looked done.here);
+      number = omega (arith, longer, far.number);
+      size = omega (arith, longer, far.size);
       state_stands = done.stands;
-      stop = far.stop ∙ (ap (stop_from l.setup l.number far.events) split ∙ stop_next l.setup l.number far.events l.text more done.event done.here);
-      same = far.same ∙ (ap (events_from l.setup far.events) split ∙ events_next l.setup far.events l.text more done.event done.here);
       few = omega (arith, one, few);
       played = done.played;
+      stood = takes.takes.stood ∙ far.stood;
     }
 
 -- ---- where it ends
 
 -- the lines behind these events add their own to them
-more_events : (s : Setup) (before : List TraceEvent) (lines : List (List ℕ)) → IsFront (events_from s before lines) before
-more_events s before [] = record { later = []; are = refl }
-more_events s before (line ∷ lines) = go (line_after s before line) (λ e. more_events s (e ∷ before) lines)
+more_events : (s : Setup) (n : ℕ) (before : List TraceEvent) (lines : List (List ℕ)) → IsFront (events_from s n before lines) before
+more_events s n before [] = record { later = []; are = refl }
+more_events s n before (line ∷ lines) = go (line_at s n before line) (λ e. more_events s (n + 1) (e ∷ before) lines)
   where
-    go : (r : Result TraceEvent Cause) → ((e : TraceEvent) → IsFront (events_from s (e ∷ before) lines) (e ∷ before)) → IsFront (events_or before r (λ e. events_from s (e ∷ before) lines)) before
+    go : (r : Result TraceEvent Cause) → ((e : TraceEvent) → IsFront (events_from s (n + 1) (e ∷ before) lines) (e ∷ before)) → IsFront (events_or before r (λ e. events_from s (n + 1) (e ∷ before) lines)) before
     go (Err c) more = record { later = []; are = refl }
     go (Ok e) more = record { later = (more e).later ++ e ∷ []; are = (more e).are ∙ sym (append_assoc (more e).later (e ∷ []) before) }
 
 front_same : (all same events : List TraceEvent) → all ≡ same → IsFront same events → IsFront all events
 front_same all same events is front = record { later = front.later; are = is ∙ front.are }
 
--- the events so far are a front of all
-so_far : (s : Setup) (state : TraceSeen) (x : Option Kept) (n : ℕ) (all rest : List (List ℕ)) (t : Traffic) (far : SoFar s state x n all rest t) → IsFront (events_from s [] all) far.events
-so_far s state x n all rest t far = front_same (events_from s [] all) (events_from s far.events rest) far.events far.same (more_events s far.events rest)
+-- how often a source had failed before its last line was taken
+stood_by : (faults : ℕ) (r new : ReaderState) (line : List ℕ) → TakesLine r new line → r.faults ≡ faults → new.faults ≡ faults
+stood_by faults r new line takes stood = takes.stood ∙ stood
 
--- and so they are with the event of the next line
-and_next : (l : LineStep) (all more rest : List (List ℕ)) (t : Traffic) (far : SoFar l.setup l.old_state l.old l.number all rest t) (e : TraceEvent) → rest ≡ l.text ∷ more → line_after l.setup far.events l.text ≡ Ok e
-    → IsFront (events_from l.setup [] all) (e ∷ far.events)
-and_next l all more rest t far e split here =
-    front_same (events_from l.setup [] all) (events_from l.setup (e ∷ far.events) more) (e ∷ far.events)
-    (far.same ∙ (ap (events_from l.setup far.events) split ∙ events_next l.setup far.events l.text more e here)) (more_events l.setup (e ∷ far.events) more)
+-- the lines of all bytes, where the text was taken last
+lines_with : (left : Option (List ℕ)) (new : ReaderState) (first : List ℕ) (lines : List (List ℕ)) (text : List ℕ) (g : Given left new (first ∷ (lines ++ text ∷ []))) → lines_of (g.bytes ++ behind_of new) ≡ first ∷ (lines ++ text ∷ lines_of (behind_of new))
+lines_with left new first lines text g =
+    all_lines left new (first ∷ (lines ++ text ∷ [])) g ∙ ap (λ ls. first ∷ ls) (append_assoc lines (text ∷ []) (lines_of (behind_of new)))
+
+-- a trace with these lines stops at the text
+stop_with : (s : Setup) (bytes first : List ℕ) (lines more : List (List ℕ)) (events : List TraceEvent) (n : ℕ) (text : List ℕ) (c : Cause) → lines_of bytes ≡ first ∷ (lines ++ text ∷ more) → placed_in s (first ∷ lines) ≡ Some events → n ≡ 2 + length lines
+    → line_at s (2 + length lines) events text ≡ Err c → stop s bytes ≡ Some (record { line = n; cause = c })
+stop_with s bytes first lines more events n text c are placed number here =
+    ap (stop_in s) are
+    ∙ (stop_placed s first lines (text ∷ more) events placed
+    ∙ (stop_here s (2 + length lines) events text more c here ∙ ap (λ k. Some (record { line = k; cause = c })) (sym number)))
+
+events_with : (s : Setup) (bytes first : List ℕ) (lines more : List (List ℕ)) (events : List TraceEvent) (text : List ℕ) (c : Cause) → lines_of bytes ≡ first ∷ (lines ++ text ∷ more) → placed_in s (first ∷ lines) ≡ Some events
+    → line_at s (2 + length lines) events text ≡ Err c → events_of s bytes ≡ events
+events_with s bytes first lines more events text c are placed here =
+    ap (events_in s) are ∙ (events_placed s first lines (text ∷ more) events placed ∙ events_here s (2 + length lines) events text more c here)
 
 -- a line that stops
-stops : (l : LineStep) (start : Start) (all more rest : List (List ℕ)) (far : SoFar l.setup l.old_state l.old l.number all rest (upto start l.traffic)) (c : Cause) → rest ≡ l.text ∷ more
-    → LineStops l c far.events (through start l.traffic) → Stood (through start l.traffic).sink → PlayedTo l.setup (record { line = l.number; cause = c }) (script_from l.setup 2 [] all) (through start l.traffic)
-stops l start all more rest far c split halt stood = record {
-  stop = far.stop ∙ (ap (stop_from l.setup l.number far.events) split ∙ stop_here l.setup l.number far.events l.text more c halt.here);
-  went = subst (λ (es : List TraceEvent). WentOut l.setup es (through start l.traffic)) (sym (far.same ∙ (ap (events_from l.setup far.events) split ∙ events_here l.setup far.events l.text more c halt.here))) halt.went;
+stops_at : (s : Setup) (left : Option (List ℕ)) (faults : ℕ) (r new : ReaderState) (state : TraceSeen) (x : Option Kept) (n : ℕ) (t : Traffic) (far : SoFar s left faults r state x n t) (text : List ℕ) (c : Cause) → TakesLine r new text → length new.kept ≤ MOST_LINE_BYTES + 1
+    → line_at s (2 + length far.lines) far.events text ≡ Err c → StopsAt s (record { line = n; cause = c }) far.events (since left faults new)
+stops_at s left faults r new state x n t far text c takes ahead here =
+    let g : Given left new (far.first ∷ (far.lines ++ text ∷ [])) = given_next left r new (far.first ∷ far.lines) text far.given takes in
+    let are = lines_with left new far.first far.lines text g in
+    let longer : length (far.lines ++ text ∷ []) ≡ length far.lines + 1 = length-append far.lines (text ∷ []) in
+    record {
+      bytes = g.bytes ++ behind_of new;
+      read = has_given (since left faults new) new (far.first ∷ (far.lines ++ text ∷ [])) n g refl (omega (arith, longer, far.number)) ahead;
+      here = stop_with s (g.bytes ++ behind_of new) far.first far.lines (lines_of (behind_of new)) far.events n text c are far.placed far.number here;
+      are = events_with s (g.bytes ++ behind_of new) far.first far.lines (lines_of (behind_of new)) far.events text c are far.placed here;
+      stood = stood_by faults r new text takes far.stood;
+    }
+
+-- the events so far, where the text was taken last
+goes_on : (s : Setup) (left : Option (List ℕ)) (faults : ℕ) (r new : ReaderState) (state : TraceSeen) (x : Option Kept) (n : ℕ) (t : Traffic) (far : SoFar s left faults r state x n t) (text : List ℕ) → TakesLine r new text → length new.kept ≤ MOST_LINE_BYTES + 1
+    → GoesOn s far.events (length far.events + 2) (since left faults new)
+goes_on s left faults r new state x n t far text takes ahead =
+    let g : Given left new (far.first ∷ (far.lines ++ text ∷ [])) = given_next left r new (far.first ∷ far.lines) text far.given takes in
+    let are = lines_with left new far.first far.lines text g in
+    let longer : length (far.lines ++ text ∷ []) ≡ length far.lines + 1 = length-append far.lines (text ∷ []) in
+    record {
+      bytes = g.bytes ++ behind_of new;
+      read = has_given (since left faults new) new (far.first ∷ (far.lines ++ text ∷ [])) (length far.events + 2) g refl (omega (arith, longer, far.size)) ahead;
+      front = front_same (events_of s (g.bytes ++ behind_of new)) (events_from s (2 + length far.lines) far.events (text ∷ lines_of (behind_of new))) far.events
+          (ap (events_in s) are ∙ events_placed s far.first far.lines (text ∷ lines_of (behind_of new)) far.events far.placed)
+          (more_events s (2 + length far.lines) far.events (text ∷ lines_of (behind_of new)));
+      stood = stood_by faults r new text takes far.stood;
+    }
+
+-- and with the event of that line
+goes_on_with : (s : Setup) (left : Option (List ℕ)) (faults : ℕ) (r new : ReaderState) (state : TraceSeen) (x : Option Kept) (n : ℕ) (t : Traffic) (far : SoFar s left faults r state x n t) (text : List ℕ) (e : TraceEvent) → TakesLine r new text
+    → length new.kept ≤ MOST_LINE_BYTES + 1 → line_at s (2 + length far.lines) far.events text ≡ Ok e → GoesOn s (e ∷ far.events) (length far.events + 2) (since left faults new)
+goes_on_with s left faults r new state x n t far text e takes ahead here =
+    let g : Given left new (far.first ∷ (far.lines ++ text ∷ [])) = given_next left r new (far.first ∷ far.lines) text far.given takes in
+    let are = all_lines left new (far.first ∷ (far.lines ++ text ∷ [])) g in
+    let longer : length (far.lines ++ text ∷ []) ≡ length far.lines + 1 = length-append far.lines (text ∷ []) in
+    record {
+      bytes = g.bytes ++ behind_of new;
+      read = has_given (since left faults new) new (far.first ∷ (far.lines ++ text ∷ [])) (length far.events + 2) g refl (omega (arith, longer, far.size)) ahead;
+      front = front_same (events_of s (g.bytes ++ behind_of new)) (events_from s (2 + length (far.lines ++ text ∷ [])) (e ∷ far.events) (lines_of (behind_of new))) (e ∷ far.events)
+          (ap (events_in s) are ∙ events_placed s far.first (far.lines ++ text ∷ []) (lines_of (behind_of new)) (e ∷ far.events) (placed_more s far.first far.lines far.events text e far.placed here))
+          (more_events s (2 + length (far.lines ++ text ∷ [])) (e ∷ far.events) (lines_of (behind_of new)));
+      stood = stood_by faults r new text takes far.stood;
+    }
+
+-- the trace stops at the line
+stops : (l : LineStep) (start : Start) (left : Option (List ℕ)) (faults : ℕ) (r new : ReaderState) (far : SoFar l.setup left faults r l.old_state l.old l.number (upto start l.traffic)) (c : Cause) → TakesNext r new l.number l.text
+    → length new.kept ≤ MOST_LINE_BYTES + 1 → LineStops l c far.events (through start l.traffic) → Stood (through start l.traffic).sink → PlayedTo l.setup (record { line = l.number; cause = c }) (since left faults new) (through start l.traffic)
+stops l start left faults r new far c takes ahead halt stood = record {
+  events = far.events;
+  stops = stops_at l.setup left faults r new l.old_state l.old l.number (upto start l.traffic) far l.text c takes.takes ahead (here_at l.setup far.lines l.number far.events l.text (Err c) far.number takes.looked halt.here);
+  went = halt.went;
   stood = stood;
 }
 
 -- memory ran out at a line
-ran_out : (l : LineStep) (start : Start) (all more rest : List (List ℕ)) (far : SoFar l.setup l.old_state l.old l.number all rest (upto start l.traffic)) → rest ≡ l.text ∷ more
-    → LineRanOut l far.events (through start l.traffic) → RanOut l.setup (events_from l.setup [] all) (through start l.traffic)
-ran_out l start all more rest far split (inl cut) =
-    record { events = far.events; next = None; front = so_far l.setup l.old_state l.old l.number all rest (upto start l.traffic) far; cut = cut }
-ran_out l start all more rest far split (inr at) =
-    record { events = far.events; next = Some at.event; front = and_next l all more rest (upto start l.traffic) far at.event split at.here; cut = at.cut }
+ran_out : (l : LineStep) (start : Start) (left : Option (List ℕ)) (faults : ℕ) (r new : ReaderState) (far : SoFar l.setup left faults r l.old_state l.old l.number (upto start l.traffic)) → TakesNext r new l.number l.text
+    → length new.kept ≤ MOST_LINE_BYTES + 1 → LineRanOut l far.events (through start l.traffic) → Stood (through start l.traffic).sink → RanOut l.setup (since left faults new) (through start l.traffic)
+ran_out l start left faults r new far takes ahead (inl cut) stood =
+    record { events = far.events; next = None; goes = goes_on l.setup left faults r new l.old_state l.old l.number (upto start l.traffic) far l.text takes.takes ahead; cut = cut; stood = stood }
+ran_out l start left faults r new far takes ahead (inr at) stood = record {
+  events = far.events;
+  next = Some at.event;
+  goes = goes_on_with l.setup left faults r new l.old_state l.old l.number (upto start l.traffic) far l.text at.event takes.takes ahead
+      (here_at l.setup far.lines l.number far.events l.text (Ok at.event) far.number takes.looked at.here);
+  cut = at.cut;
+  stood = stood;
+}
 
 -- the line at which the replay ends, over a sink that hadn't failed before
-pub far_ends : (l : LineStep) (e : ReplayError) (start : Start) (all more rest : List (List ℕ)) → SoFar l.setup l.old_state l.old l.number all rest (upto start l.traffic) → rest ≡ l.text ∷ more
-    → l.traffic.sink.faults_before ≡ start.faults → PlaysLine l (Err e) → Plays l.setup (script_from l.setup 2 [] all) l.new (through start l.traffic) (Err e)
-far_ends l (error.Trace line f) start all more rest far split stood plays =
-    subst (λ (n : ℕ). PlayedTo l.setup (at_fault n f) (script_from l.setup 2 [] all) (through start l.traffic)) (sym plays.2)
-    (stops l start all more rest far (Fault f) split (plays.0 start far.events far.state_stands far.played) (plays.1 ∙ stood))
-far_ends l (error.Limit which.Names) start all more rest far split stood plays =
-    record { line = l.number; played = stops l start all more rest far Names split (plays.0 start far.events far.state_stands far.played) (plays.1 ∙ stood) }
-far_ends l (error.Limit which.Chain) start all more rest far split stood plays =
-    record { line = l.number; played = stops l start all more rest far Layers split (plays.0 start far.events far.state_stands far.played) (plays.1 ∙ stood) }
-far_ends l error.Write start all more rest far split stood plays =
+pub far_ends : (l : LineStep) (e : ReplayError) (start : Start) (left : Option (List ℕ)) (faults : ℕ) (r new : ReaderState) → SoFar l.setup left faults r l.old_state l.old l.number (upto start l.traffic) → TakesNext r new l.number l.text
+    → length new.kept ≤ MOST_LINE_BYTES + 1 → l.traffic.sink.faults_before ≡ start.faults → PlaysLine l (Err e) → Plays l.setup l.new (since left faults new) (through start l.traffic) (Err e)
+far_ends l (error.Trace line f) start left faults r new far takes ahead stood plays =
+    subst (λ (n : ℕ). PlayedTo l.setup (at_fault n f) (since left faults new) (through start l.traffic)) (sym plays.2)
+    (stops l start left faults r new far (Fault f) takes ahead (plays.0 start far.events far.state_stands far.played) (plays.1 ∙ stood))
+far_ends l (error.Limit which.Names) start left faults r new far takes ahead stood plays =
+    record { line = l.number; played = stops l start left faults r new far Names takes ahead (plays.0 start far.events far.state_stands far.played) (plays.1 ∙ stood) }
+far_ends l (error.Limit which.Chain) start left faults r new far takes ahead stood plays =
+    record { line = l.number; played = stops l start left faults r new far Layers takes ahead (plays.0 start far.events far.state_stands far.played) (plays.1 ∙ stood) }
+far_ends l error.Write start left faults r new far takes ahead stood plays =
     let cut : LineCut l far.events (through start l.traffic) = plays.0 start far.events far.state_stands far.played in
-    (record { events = far.events; event = cut.event; front = and_next l all more rest (upto start l.traffic) far cut.event split cut.here; cut = cut.cut }, grind (arith, plays.1, stood))
-far_ends l error.NoMemory start all more rest far split stood plays = (ran_out l start all more rest far split (plays.0 start far.events far.state_stands far.played), plays.1 ∙ stood)
-far_ends l error.Read start all more rest far split stood plays = absurd plays
-far_ends l (error.Limit which.Manifests) start all more rest far split stood plays = absurd plays
-far_ends l (error.Limit which.Lines) start all more rest far split stood plays = absurd plays
-far_ends l (error.Limit which.LineBytes) start all more rest far split stood plays = absurd plays
-far_ends l (error.Limit which.Events) start all more rest far split stood plays = absurd plays
-far_ends l (error.Limit which.Devices) start all more rest far split stood plays = absurd plays
+    record {
+      events = far.events;
+      event = cut.event;
+      goes = goes_on_with l.setup left faults r new l.old_state l.old l.number (upto start l.traffic) far l.text cut.event takes.takes ahead
+          (here_at l.setup far.lines l.number far.events l.text (Ok cut.event) far.number takes.looked cut.here);
+      cut = cut.cut;
+      failed = grind (arith, plays.1, stood);
+    }
+far_ends l error.NoMemory start left faults r new far takes ahead stood plays = ran_out l start left faults r new far takes ahead (plays.0 start far.events far.state_stands far.played) (plays.1 ∙ stood)
+far_ends l error.Read start left faults r new far takes ahead stood plays = absurd plays
+far_ends l (error.Limit which.Manifests) start left faults r new far takes ahead stood plays = absurd plays
+far_ends l (error.Limit which.Lines) start left faults r new far takes ahead stood plays = absurd plays
+far_ends l (error.Limit which.LineBytes) start left faults r new far takes ahead stood plays = absurd plays
+far_ends l (error.Limit which.Events) start left faults r new far takes ahead stood plays = absurd plays
+far_ends l (error.Limit which.Devices) start left faults r new far takes ahead stood plays = absurd plays
+
+-- ---- a line that isn't looked at
+
+-- the trace stops at it
+barred : (s : Setup) (left : Option (List ℕ)) (faults : ℕ) (r new : ReaderState) (state : TraceSeen) (x : Option Kept) (n : ℕ) (t : Traffic) (far : SoFar s left faults r state x n t) (line : List ℕ) (c : Cause) → length new.kept ≤ MOST_LINE_BYTES + 1
+    → IsBarred r new n line c → StopsAt s (record { line = n; cause = c }) far.events (since left faults new)
+barred s left faults r new state x n t far line c ahead (inl bars) =
+    stops_at s left faults r new state x n t far line c bars.takes ahead (line_barred s (2 + length far.lines) far.events line c (ap (λ k. cause_before k line) (sym far.number) ∙ bars.cause))
+barred s left faults r new state x n t far line c ahead (inr meets) =
+    let count : length (far.first ∷ far.lines) ≤ n = omega (arith, far.number) in
+    let next : LongNext (since left faults new) (far.first ∷ far.lines) n = long_next (since left faults new) r new (far.first ∷ far.lines) n meets.place far.given refl count meets.long in
+    let cause : line_at s (2 + length far.lines) far.events next.line ≡ Err c = line_barred s (2 + length far.lines) far.events next.line c (ap (λ k. cause_before k next.line) (sym far.number) ∙ meets.cause next.line next.long) in
+    record {
+      bytes = next.bytes;
+      read = next.read;
+      here = stop_with s next.bytes far.first far.lines next.more far.events n next.line c next.are far.placed far.number cause;
+      are = events_with s next.bytes far.first far.lines next.more far.events next.line c next.are far.placed cause;
+      stood = meets.long.stood ∙ far.stood;
+    }
+
+-- there is no line that may be looked at
+pub far_halts : (s : Setup) (left : Option (List ℕ)) (faults : ℕ) (r new : ReaderState) (state : TraceSeen) (x : Option Kept) (n : ℕ) (t : Traffic) (line : List ℕ) (e : ReplayError) → SoFar s left faults r state x n t → length new.kept ≤ MOST_LINE_BYTES + 1 → Stood t.sink
+    → TakesLineOr r new n line (Err e) → Plays s x (since left faults new) t (Err e)
+far_halts s left faults r new state x n t line error.Read far ahead stood breaks = record {
+  events = far.events;
+  breaks = record { lines = far.first ∷ far.lines; gave = gave_lines (since left faults new) r new (far.first ∷ far.lines) far.given refl breaks; placed = far.placed; failed = grind (arith, breaks.failed, far.stood) };
+  went = went_out s x far.events t far.played;
+  stood = stood;
+}
+far_halts s left faults r new state x n t line (error.Limit which.Lines) far ahead stood bars =
+    record { line = n; played = record { events = far.events; stops = barred s left faults r new state x n t far line Lines ahead bars; went = went_out s x far.events t far.played; stood = stood } }
+far_halts s left faults r new state x n t line (error.Limit which.LineBytes) far ahead stood bars =
+    record { line = n; played = record { events = far.events; stops = barred s left faults r new state x n t far line LineBytes ahead bars; went = went_out s x far.events t far.played; stood = stood } }
+far_halts s left faults r new state x n t line error.Write far ahead stood bars = absurd bars
+far_halts s left faults r new state x n t line error.NoMemory far ahead stood bars = absurd bars
+far_halts s left faults r new state x n t line (error.Trace l f) far ahead stood bars = absurd bars
+far_halts s left faults r new state x n t line (error.Limit which.Manifests) far ahead stood bars = absurd bars
+far_halts s left faults r new state x n t line (error.Limit which.Names) far ahead stood bars = absurd bars
+far_halts s left faults r new state x n t line (error.Limit which.Chain) far ahead stood bars = absurd bars
+far_halts s left faults r new state x n t line (error.Limit which.Events) far ahead stood bars = absurd bars
+far_halts s left faults r new state x n t line (error.Limit which.Devices) far ahead stood bars = absurd bars
 
 -- ---- behind the last line
 
--- the end of the lines without a fault
-pub all_played : (s : Setup) (state : TraceSeen) (x : Option Kept) (n : ℕ) (all rest : List (List ℕ)) (t : Traffic) → (far : SoFar s state x n all rest t) → rest ≡ [] → fault_at_end far.events ≡ None → Stood t.sink
-    → PlayedAll s (script_from s 2 [] all) x t
-all_played s state x n all rest t far none is stood = record {
-  none = far.stop ∙ (ap (stop_from s n far.events) none ∙ ap (option_map (at_fault n)) is);
-  played = subst (λ (es : List TraceEvent). Played s x es t) (sym (far.same ∙ ap (events_from s far.events) none)) far.played;
-  stood = stood;
-}
+-- the source was read to its end, and what it had are the lines so far
+read_whole : (s : Setup) (left : Option (List ℕ)) (faults : ℕ) (r new : ReaderState) (state : TraceSeen) (x : Option Kept) (n : ℕ) (t : Traffic) (far : SoFar s left faults r state x n t) → (lines_of far.given.bytes ≡ far.first ∷ (far.lines ++ []))
+read_whole s left faults r new state x n t far = own_lines left r (far.first ∷ far.lines) far.given ∙ ap (λ ls. far.first ∷ ls) (sym (append-nil far.lines))
 
--- the fault at the end of the lines
-pub at_end : (s : Setup) (state : TraceSeen) (x : Option Kept) (n : ℕ) (all rest : List (List ℕ)) (t : Traffic) (f : TraceFault) → (far : SoFar s state x n all rest t) → rest ≡ [] → fault_at_end far.events ≡ Some f → Stood t.sink
-    → PlayedTo s (at_fault n f) (script_from s 2 [] all) t
-at_end s state x n all rest t f far none is stood = record {
-  stop = far.stop ∙ (ap (stop_from s n far.events) none ∙ ap (option_map (at_fault n)) is);
-  went = subst (λ (es : List TraceEvent). WentOut s es t) (sym (far.same ∙ ap (events_from s far.events) none)) (went_out s x far.events t far.played);
-  stood = stood;
-}
+-- how the trace ends
+pub far_finishes : (s : Setup) (left : Option (List ℕ)) (faults : ℕ) (r new : ReaderState) (state : TraceSeen) (x : Option Kept) (n : ℕ) (t : Traffic) (line : List ℕ) (result : Result (Unit {0}) ReplayError) → SoFar s left faults r state x n t → Stood t.sink
+    → IsAtEnd r new line → ((events : List TraceEvent) → SumsUp state events → FinishesAt events n result) → Plays s x (since left faults new) t result
+far_finishes s left faults r new state x n t line result far stood end finishes = go result (finishes far.events far.state_stands)
+  where
+    bytes : List ℕ
+    bytes = far.given.bytes
+
+    are : lines_of bytes ≡ far.first ∷ (far.lines ++ [])
+    are = read_whole s left faults r new state x n t far
+
+    stop_is : (o : Option TraceFault) → fault_at_end far.events ≡ o → stop s bytes ≡ option_map (at_fault n) o
+    stop_is o is =
+        ap (stop_in s) are
+        ∙ (stop_placed s far.first far.lines [] far.events far.placed ∙ (ap (λ k. option_map (at_fault k) (fault_at_end far.events)) (sym far.number) ∙ ap (option_map (at_fault n)) is))
+
+    events_are : events_of s bytes ≡ far.events
+    events_are = ap (events_in s) are ∙ events_placed s far.first far.lines [] far.events far.placed
+
+    count : length (lines_of bytes) ≡ length far.events + 1
+    count = let same : length (lines_of bytes) ≡ length (far.first ∷ far.lines) = ap length (own_lines left r (far.first ∷ far.lines) far.given) in omega (arith, same, far.size)
+
+    gave : Gave (since left faults new) bytes
+    gave = gave_all (since left faults new) r new (far.first ∷ far.lines) line far.given refl end
+
+    go : (result : Result (Unit {0}) ReplayError) → FinishesAt far.events n result → Plays s x (since left faults new) t result
+    go (Ok done) none = record {
+      events = far.events;
+      ends = record { bytes = bytes; read = gave; none = stop_is None none; are = events_are; count = count; stood = end.stood ∙ far.stood };
+      played = far.played;
+      stood = stood;
+    }
+    go (Err (error.Trace l f)) is =
+        subst (λ (k : ℕ). PlayedTo s (at_fault k f) (since left faults new) t) (sym is.0)
+        (record {
+          events = far.events;
+          stops = record {
+            bytes = bytes;
+            read = gave_so_many (since left faults new) bytes n gave (omega (arith, count, far.number, far.size));
+            here = stop_is (Some f) is.1;
+            are = events_are;
+            stood = end.stood ∙ far.stood;
+          };
+          went = went_out s x far.events t far.played;
+          stood = stood;
+        })
+    go (Err error.Read) is = absurd is
+    go (Err error.Write) is = absurd is
+    go (Err error.NoMemory) is = absurd is
+    go (Err (error.Limit w)) is = absurd is
 
 -- ---- the event of a line
 

@@ -1,5 +1,5 @@
--- A whole replay, of the bytes that were read, behind the notes.
-use Rattle.std.proofs.Common.{◌≡◌, ◌∙◌, ℕ, ◌+◌, Option, Some, None, List, [], ◌∷◌, ◌++◌, refl, sym, ap, subst, append_assoc, append-nil, inl, inr}
+-- A whole replay behind the notes.
+use Rattle.std.proofs.Common.{◌≡◌, ◌∙◌, ℕ, ◌+◌, Option, Some, None, List, [], ◌∷◌, ◌++◌, refl, sym, ap, subst, append_assoc, append-nil, inl, inr, arith}
 use Rattle.std.specs.Prelude.{◌⊎◌, Bool, ◌&&◌, true, false, length, Result, Ok, Err}
 use Rattle.std.specs.Option.{is_none}
 use Rattle.std.proofs.lemmas.List.{length-append, length-map}
@@ -8,7 +8,7 @@ use Rattle.model_driver.specs.Logs.{Log, logged}
 use Rattle.trace_format.specs.Accepting.{fault_after, are_accepted}
 use Rattle.trace_format.specs.Content.{TraceEvent}
 use Rattle.replay_base.specs.Bytes.{GrownByFront, grown}
-use Rattle.replay_base.specs.Changes.{Change, Gained, GainedFront}
+use Rattle.replay_base.specs.Changes.{Change, Gained, GainedFront, Stood}
 use Rattle.replay_base.specs.Faults.{raised}
 use Rattle.replay_base.proofs.Written.{grown_grown}
 use Rattle.replay_base.specs.declared.limit.Which.TheVariants as which
@@ -17,24 +17,23 @@ use Rattle.replay_model.specs.Past.{Past, Began, Returned, calls_in}
 use Rattle.replay_model.specs.Judged.{judged}
 use Rattle.replay_model.specs.Direct.{before_call, valued, driver_call, driver_calls, direct, exchanges, sends_in}
 use Rattle.replay_model.specs.Less.{less, no_layers}
-use Rattle.replay_model.specs.Stop.{Stop, Names, Layers, at_fault, events_of}
+use Rattle.replay_model.specs.Stop.{Stop, LineBytes, Lines, Names, Layers, at_fault, events_of}
 use Rattle.replay_model.specs.Text.{end_line, skipped_in}
 use Rattle.replay_model.proofs.Accepted.{begins-idle}
 use Rattle.replay_model.proofs.LessLemmas.{less-alike}
-use Rattle.replay_model.proofs.Stops.{trace-accepted}
+use Rattle.replay_model.proofs.Stops.{placed-accepted, trace-accepted}
 use Rattle.chain_session.specs.declared.kept.Kept.{Kept}
-use Rattle.chain_session.specs.Standing.{Counts}
+use Rattle.chain_session.specs.Standing.{Counts, StandsFor}
 use Rattle.chain_session.specs.Telling.{FrontAsked}
 use Rattle.chain_session.proofs.Told.{logged_nothing, none_asked}
 use Rattle.replay_core.specs.declared.error.ReplayError.{ReplayError}
 use Rattle.replay_core.specs.declared.error.ReplayError.TheVariants as error
-use Rattle.replay_core.specs.declared.read.Unread.{Unread}
-use Rattle.replay_core.specs.declared.read.Unread.TheVariants as unread
-use Rattle.replay_core.specs.Errors.{unread_error}
-use Rattle.replay_core.specs.Ending.{GaveAll, PutsText, Reads}
-use Rattle.replay_core.specs.Plays.{CutAtEnd, PlayedAll, PlayedTo, PlayedWhole, PlaysWhole, Script, script_of}
-use Rattle.replay_core.specs.Replayed.{BrokeIn, Ended, Heard, HeardBefore, IsCutShort, IsUntouched, RanOutIn, Run, StoppedIn, heard_log}
-use Rattle.replay_core.specs.Traffic.{BrokeInLines, IsFront, RanOut, Start, Told, Traffic, end_line_of, lines_of_events, next_calls, text_of, through, with_next}
+use Rattle.replay_core.specs.Ending.{PutsText}
+use Rattle.replay_core.specs.Given.{EndsBehind, GoesOn, HasGiven}
+use Rattle.replay_core.specs.Plays.{BrokeInLines, CutAtEnd, PlayedAll, PlayedPiece, PlayedTo, PlayedWhole, Plays, PlaysWhole, RanOut}
+use Rattle.replay_core.specs.Replayed.{BrokeIn, Ended, Heard, HeardBefore, IsCutShort, IsUntouched, NotRead, RanOutIn, Run, StoppedAt, heard_log}
+use Rattle.replay_core.specs.Traffic.{IsFront, Start, Told, Traffic, end_line_of, lines_of_events, next_calls, text_of, through, with_next}
+use Rattle.replay_core.proofs.Reading.{gave_none, gave_so_many, told}
 
 -- ---- the calls less those that were skipped
 
@@ -92,13 +91,9 @@ heard_accepted s start t events replies accepted noted told =
       told = told.told ∙ (ap (logged t.old_log) (sym (same.told replies)) ∙ ap (λ l. heard_log s events replies l) noted.log);
     }
 
-heard_front : (s : Setup) (start : Start) (t : Traffic) (bytes : List ℕ) (events : List TraceEvent) (replies : List ReplyContent) → IsFront (events_of s bytes) events → Noted s start t → Told s events replies t → Heard s events replies (through start t)
-heard_front s start t bytes events replies front noted told =
-    heard_accepted s start t events replies (front_accepted front.later events (ap are_accepted (sym front.are) ∙ trace-accepted s bytes)) noted told
-
--- and those of the whole trace
-heard : (s : Setup) (start : Start) (t : Traffic) (bytes : List ℕ) (replies : List ReplyContent) → Noted s start t → Told s (events_of s bytes) replies t → Heard s (events_of s bytes) replies (through start t)
-heard s start t bytes replies noted told = heard_front s start t bytes (events_of s bytes) replies (record { later = []; are = refl }) noted told
+-- those of a front of the events of a trace
+accepted_front : (s : Setup) (bytes : List ℕ) (events : List TraceEvent) → IsFront (events_of s bytes) events → are_accepted events ≡ true
+accepted_front s bytes events front = front_accepted front.later events (ap are_accepted (sym front.are) ∙ trace-accepted s bytes)
 
 -- an accepted event follows accepted ones
 without_next : (next : Option TraceEvent) (events : List TraceEvent) → are_accepted (with_next next events) ≡ true → are_accepted events ≡ true
@@ -118,171 +113,213 @@ heard_before s start t events next replies accepted noted each asked =
 
 -- ---- how a replay ends
 
+-- a trace's events as another list of them
+accepted_same : (s : Setup) (bytes : List ℕ) (events : List TraceEvent) → events_of s bytes ≡ events → are_accepted events ≡ true
+accepted_same s bytes events are = ap are_accepted (sym are) ∙ trace-accepted s bytes
+
 -- the replay of the whole trace
-pub ended : (s : Setup) (start : Start) (t : Traffic) (x : Option Kept) (bytes : List ℕ) (source : Change) → Noted s start t → GaveAll source bytes → PlayedWhole s (script_of s bytes) x t → Ended s x (run_from start source t)
-ended s start t x bytes source noted all whole = record {
-  bytes = bytes;
-  read = all.gave;
-  none = whole.none;
-  replies = whole.replies;
-  stands = whole.stands;
-  heard = heard s start t bytes whole.replies noted whole.told;
-  wrote = whole.wrote ∙ (ap (λ h. grown h (lines_of_events s (events_of s bytes) ++ end_line_of s (events_of s bytes))) noted.held
-      ∙ (grown_grown start.held s.notes (lines_of_events s (events_of s bytes) ++ end_line_of s (events_of s bytes))
-      ∙ ap (grown start.held) (sym (append_assoc s.notes (lines_of_events s (events_of s bytes)) (end_line_of s (events_of s bytes))))));
-  stood = record { source = all.stood; sink = whole.stood ∙ noted.faults };
-}
+pub ended : (s : Setup) (start : Start) (t : Traffic) (x : Option Kept) (source : Change) → Noted s start t → PlayedWhole s x source t → Ended s x (run_from start source t)
+ended s start t x source noted whole =
+    let bytes : List ℕ = whole.ends.bytes in
+    let events : List TraceEvent = whole.events in
+    let are : events ≡ events_of s bytes = sym whole.ends.are in
+    let heard : Heard s events whole.replies (through start t) = heard_accepted s start t events whole.replies (accepted_same s bytes events whole.ends.are) noted whole.told in
+    let wrote : Gained (through start t).sink (text_of s events ++ end_line_of s events) = whole.wrote ∙ (ap (λ h. grown h (lines_of_events s events ++ end_line_of s events)) noted.held
+    ∙ (grown_grown start.held s.notes (lines_of_events s events ++ end_line_of s events)
+    ∙ ap (grown start.held) (sym (append_assoc s.notes (lines_of_events s events) (end_line_of s events))))) in
+    record {
+      bytes = bytes;
+      read = whole.ends.read;
+      none = whole.ends.none;
+      replies = whole.replies;
+      stands = subst (λ (es : List TraceEvent). StandsFor s x es whole.replies) are whole.stands;
+      heard = subst (λ (es : List TraceEvent). Heard s es whole.replies (through start t)) are heard;
+      wrote = wrote ∙ ap (λ es. grown start.held (text_of s es ++ end_line_of s es)) are;
+      stood = record { source = whole.ends.stood; sink = whole.stood ∙ noted.faults };
+    }
 
 -- the replay up to a stop
-stopped : (s : Setup) (start : Start) (t : Traffic) (bytes : List ℕ) (place : Stop) (source : Change) → Noted s start t → GaveAll source bytes → PlayedTo s place (script_of s bytes) t → StoppedIn s place (run_from start source t)
-stopped s start t bytes place source noted all to = record {
-  bytes = bytes;
-  read = all.gave;
-  size = all.size;
-  here = to.stop;
-  replies = to.went.replies;
-  heard = heard s start t bytes to.went.replies noted to.went.told;
-  wrote = text_behind s start t (events_of s bytes) noted to.went.wrote;
-  stood = record { source = all.stood; sink = to.stood ∙ noted.faults };
+stopped : (s : Setup) (start : Start) (t : Traffic) (place : Stop) (source : Change) → Noted s start t → PlayedTo s place source t → StoppedAt s place (run_from start source t)
+stopped s start t place source noted to =
+    let bytes : List ℕ = to.stops.bytes in
+    let are : to.events ≡ events_of s bytes = sym to.stops.are in
+    let heard : Heard s to.events to.went.replies (through start t) = heard_accepted s start t to.events to.went.replies (accepted_same s bytes to.events to.stops.are) noted to.went.told in
+    record {
+      bytes = bytes;
+      read = to.stops.read;
+      here = to.stops.here;
+      replies = to.went.replies;
+      heard = subst (λ (es : List TraceEvent). Heard s es to.went.replies (through start t)) are heard;
+      wrote = text_behind s start t to.events noted to.went.wrote ∙ ap (λ es. grown start.held (text_of s es)) are;
+      stood = record { source = to.stops.stood; sink = to.stood ∙ noted.faults };
+    }
+
+-- the replay up to where the source failed
+not_read : (s : Setup) (start : Start) (t : Traffic) (source : Change) → Noted s start t → PlayedPiece s source t → NotRead s (run_from start source t)
+not_read s start t source noted piece = record {
+  lines = piece.breaks.lines;
+  gave = piece.breaks.gave;
+  events = piece.events;
+  placed = piece.breaks.placed;
+  replies = piece.went.replies;
+  heard = heard_accepted s start t piece.events piece.went.replies (placed-accepted s piece.breaks.lines piece.events piece.breaks.placed) noted piece.went.told;
+  wrote = text_behind s start t piece.events noted piece.went.wrote;
+  failed = piece.breaks.failed;
+  stood = piece.stood ∙ noted.faults;
 }
 
 -- the replay up to the lines in which the sink failed
-broke : (s : Setup) (start : Start) (t : Traffic) (x : Option Kept) (bytes : List ℕ) (source : Change) → Noted s start t → GaveAll source bytes → PlaysWhole s (script_of s bytes) x t (Err error.Write) → BrokeIn s (run_from start source t)
-broke s start t x bytes source noted all cut = go cut.0
-  where
-    go : BrokeInLines s (events_of s bytes) t ⊎ CutAtEnd s (script_of s bytes) t → BrokeIn s (run_from start source t)
-    go (inl b) = record {
-      bytes = bytes;
-      read = all.gave;
+broke_in_lines : (s : Setup) (start : Start) (t : Traffic) (source : Change) → Noted s start t → BrokeInLines s source t → BrokeIn s (run_from start source t)
+broke_in_lines s start t source noted b =
+    let count : length b.events + 2 ≡ length (b.event ∷ b.events) + 1 = omega arith in
+    record {
+      bytes = b.goes.bytes;
       events = b.event ∷ b.events;
-      front = b.front;
+      read = subst (λ (n : ℕ). HasGiven source b.goes.bytes n) count b.goes.read;
+      front = b.goes.front;
       replies = b.cut.replies;
-      heard = heard_front s start t bytes (b.event ∷ b.events) b.cut.replies b.front noted b.cut.told;
+      heard = heard_accepted s start t (b.event ∷ b.events) b.cut.replies (accepted_front s b.goes.bytes (b.event ∷ b.events) b.goes.front) noted b.cut.told;
       wrote = inr (inl (record { others = b.events; last = b.event; are = refl; wrote = front_behind s start t b.events _ noted b.cut.wrote }));
-      failed = cut.1 ∙ ap raised noted.faults;
-      stood = all.stood;
-    }
-    go (inr e) = record {
-      bytes = bytes;
-      read = all.gave;
-      events = events_of s bytes;
-      front = record { later = []; are = refl };
-      replies = e.cut.replies;
-      heard = heard s start t bytes e.cut.replies noted e.cut.told;
-      wrote = inr (inr (record { none = e.none; all = refl; wrote = front_behind s start t (events_of s bytes) _ noted e.cut.wrote }));
-      failed = cut.1 ∙ ap raised noted.faults;
-      stood = all.stood;
+      failed = b.failed ∙ ap raised noted.faults;
+      stood = b.goes.stood;
     }
 
+-- up to the end line in which it failed
+broke_at_end : (s : Setup) (start : Start) (t : Traffic) (source : Change) → Noted s start t → CutAtEnd s source t → BrokeIn s (run_from start source t)
+broke_at_end s start t source noted e = record {
+  bytes = e.ends.bytes;
+  events = e.events;
+  read = gave_so_many source e.ends.bytes (length e.events + 1) e.ends.read (omega (arith, e.ends.count));
+  front = record { later = []; are = e.ends.are };
+  replies = e.cut.replies;
+  heard = heard_accepted s start t e.events e.cut.replies (accepted_same s e.ends.bytes e.events e.ends.are) noted e.cut.told;
+  wrote = inr (inr (record { none = e.ends.none; all = sym e.ends.are; wrote = front_behind s start t e.events _ noted e.cut.wrote }));
+  failed = e.failed ∙ ap raised noted.faults;
+  stood = e.ends.stood;
+}
+
+broke : (s : Setup) (start : Start) (t : Traffic) (source : Change) → Noted s start t → BrokeInLines s source t ⊎ CutAtEnd s source t → BrokeIn s (run_from start source t)
+broke s start t source noted (inl b) = broke_in_lines s start t source noted b
+broke s start t source noted (inr e) = broke_at_end s start t source noted e
+
 -- the replay up to where memory ran out
-out_of : (s : Setup) (start : Start) (t : Traffic) (bytes : List ℕ) (source : Change) → Noted s start t → GaveAll source bytes → RanOut s (events_of s bytes) t → t.sink.faults ≡ t.sink.faults_before → RanOutIn s (run_from start source t)
-out_of s start t bytes source noted all out stood = record {
-  bytes = bytes;
-  read = all.gave;
+out_of : (s : Setup) (start : Start) (t : Traffic) (source : Change) → Noted s start t → RanOut s source t → RanOutIn s (run_from start source t)
+out_of s start t source noted out = record {
+  bytes = out.goes.bytes;
   events = out.events;
   next = out.next;
-  front = out.front;
+  read = out.goes.read;
+  front = out.goes.front;
   replies = out.cut.replies;
-  heard = heard_before s start t out.events out.next out.cut.replies
-      (without_next out.next out.events (front_accepted out.front.later (with_next out.next out.events) (ap are_accepted (sym out.front.are) ∙ trace-accepted s bytes))) noted out.cut.each out.cut.asked;
+  heard = heard_before s start t out.events out.next out.cut.replies (without_next out.next out.events (accepted_front s out.goes.bytes (with_next out.next out.events) out.goes.front)) noted out.cut.each out.cut.asked;
   wrote = text_behind s start t out.events noted out.cut.wrote;
-  stood = record { source = all.stood; sink = stood ∙ noted.faults };
+  stood = record { source = out.goes.stood; sink = out.stood ∙ noted.faults };
 }
 
 -- an error behind the notes
-pub fails : (s : Setup) (start : Start) (t : Traffic) (x : Option Kept) (bytes : List ℕ) (source : Change) (e : ReplayError) → Noted s start t → GaveAll source bytes → PlaysWhole s (script_of s bytes) x t (Err e) → IsCutShort s (run_from start source t) e
-fails s start t x bytes source (error.Trace line f) noted all to = inl (stopped s start t bytes (at_fault line f) source noted all to)
-fails s start t x bytes source (error.Limit which.Names) noted all to = record { line = to.line; stopped = stopped s start t bytes (record { line = to.line; cause = Names }) source noted all to.played }
-fails s start t x bytes source (error.Limit which.Chain) noted all to = record { line = to.line; stopped = stopped s start t bytes (record { line = to.line; cause = Layers }) source noted all to.played }
-fails s start t x bytes source error.Write noted all cut = broke s start t x bytes source noted all cut
-fails s start t x bytes source error.NoMemory noted all cut = inr (out_of s start t bytes source noted all cut.0 cut.1)
-fails s start t x bytes source error.Read noted all none = absurd none
-fails s start t x bytes source (error.Limit which.Manifests) noted all none = absurd none
-fails s start t x bytes source (error.Limit which.Lines) noted all none = absurd none
-fails s start t x bytes source (error.Limit which.LineBytes) noted all none = absurd none
-fails s start t x bytes source (error.Limit which.Events) noted all none = absurd none
-fails s start t x bytes source (error.Limit which.Devices) noted all none = absurd none
+pub fails : (s : Setup) (start : Start) (t : Traffic) (x : Option Kept) (source : Change) (e : ReplayError) → Noted s start t → PlaysWhole s x source t (Err e) → IsCutShort s (run_from start source t) e
+fails s start t x source (error.Trace line f) noted to = stopped s start t (at_fault line f) source noted to
+fails s start t x source (error.Limit which.Lines) noted to = record { line = to.line; stopped = stopped s start t (record { line = to.line; cause = Lines }) source noted to.played }
+fails s start t x source (error.Limit which.LineBytes) noted to = record { line = to.line; stopped = stopped s start t (record { line = to.line; cause = LineBytes }) source noted to.played }
+fails s start t x source (error.Limit which.Names) noted to = record { line = to.line; stopped = stopped s start t (record { line = to.line; cause = Names }) source noted to.played }
+fails s start t x source (error.Limit which.Chain) noted to = record { line = to.line; stopped = stopped s start t (record { line = to.line; cause = Layers }) source noted to.played }
+fails s start t x source error.Write noted cut = broke s start t source noted cut
+fails s start t x source error.NoMemory noted out = inr (out_of s start t source noted out)
+fails s start t x source error.Read noted piece = not_read s start t source noted piece
+fails s start t x source (error.Limit which.Manifests) noted none = absurd none
+fails s start t x source (error.Limit which.Events) noted none = absurd none
+fails s start t x source (error.Limit which.Devices) noted none = absurd none
 
 -- an error in the notes
-pub fails_first : (s : Setup) (t : Traffic) (bytes : List ℕ) (source : Change) (e : ReplayError) → t.log ≡ t.old_log → GaveAll source bytes → PutsText s.notes t.sink (Err e) → IsCutShort s (record { source = source; traffic = t }) e
-fails_first s t bytes source error.Write log all cut = record {
-  bytes = bytes;
-  read = all.gave;
+pub fails_first : (s : Setup) (t : Traffic) (source : Change) (e : ReplayError) → t.log ≡ t.old_log → source.new ≡ source.old → Stood source → PutsText s.notes t.sink (Err e) → IsCutShort s (record { source = source; traffic = t }) e
+fails_first s t source error.Write log unread stood cut = record {
+  bytes = told source.old;
   events = [];
-  front = record { later = events_of s bytes; are = sym (append-nil (events_of s bytes)) };
+  read = gave_none source 1 unread;
+  front = record { later = events_of s (told source.old); are = sym (append-nil (events_of s (told source.old))) };
   replies = [];
   heard = record { each = refl; told = log ∙ logged_nothing t.old_log };
   wrote = inl (record { none = refl; wrote = cut.front });
   failed = cut.failed;
-  stood = all.stood;
+  stood = stood;
 }
-fails_first s t bytes source error.NoMemory log all cut = inl (record { untouched = record { driver = log; sink = cut.0; stood = cut.1 }; stood = all.stood })
-fails_first s t bytes source error.Read log all none = absurd none
-fails_first s t bytes source (error.Trace line f) log all none = absurd none
-fails_first s t bytes source (error.Limit w) log all none = absurd none
-
--- ---- the reading
+fails_first s t source error.NoMemory log unread stood cut = inl (record { untouched = record { driver = log; sink = cut.0; stood = cut.1 }; unread = unread; stood = stood })
+fails_first s t source error.Read log unread stood none = absurd none
+fails_first s t source (error.Trace line f) log unread stood none = absurd none
+fails_first s t source (error.Limit w) log unread stood none = absurd none
 
 -- memory ran out before anything
-pub out_at_first : (s : Setup) (run : Run) → IsUntouched run.traffic → run.source.faults ≡ run.source.faults_before → IsCutShort s run error.NoMemory
-out_at_first s run untouched stood = inl (record { untouched = untouched; stood = stood })
-
--- the trace wasn't read
-pub unread_so : (s : Setup) (run : Run) (e : Unread) → IsUntouched run.traffic → Reads run.source (Err e) → IsCutShort s run (unread_error e)
-unread_so s run unread.Failed untouched reads = record { failed = reads; untouched = untouched }
-unread_so s run unread.NoMemory untouched reads = inl (record { untouched = untouched; stood = reads })
-unread_so s run unread.TooLarge untouched reads = inr (record { large = reads; first = refl; untouched = untouched })
+pub out_at_first : (s : Setup) (run : Run) → IsUntouched run.traffic → run.source.new ≡ run.source.old → run.source.faults ≡ run.source.faults_before → IsCutShort s run error.NoMemory
+out_at_first s run untouched unread stood = inl (record { untouched = untouched; unread = unread; stood = stood })
 
 -- ---- the end line
 
+-- events that were all read are the first ones
+ends_goes : (s : Setup) (events : List TraceEvent) (source : Change) → EndsBehind s events source → GoesOn s events (length events + 2) source
+ends_goes s events source ends = record {
+  bytes = ends.bytes;
+  read = gave_so_many source ends.bytes (length events + 2) ends.read (omega (arith, ends.count));
+  front = record { later = []; are = ends.are };
+  stood = ends.stood;
+}
+
 -- the end line by the tally is that of the events
-pub whole_played : (s : Setup) (script : Script) (x : Option Kept) (calls skipped reports : ℕ) (t : Traffic) (sink : Change) → PlayedAll s script x t → Counts x calls skipped reports
+pub whole_played : (s : Setup) (x : Option Kept) (source : Change) (calls skipped reports : ℕ) (t : Traffic) (sink : Change) → PlayedAll s x source t → Counts x calls skipped reports
     → sink.old ≡ t.sink.new → sink.faults_before ≡ t.sink.faults → (r : Result (Unit {0}) ReplayError) → PutsText (end_line calls skipped reports) sink r
-    → PlaysWhole s script x (record { old_log = t.old_log; log = t.log; sink = record { old = t.sink.old; new = sink.new; faults_before = t.sink.faults_before; faults = sink.faults } }) r
-whole_played s script x calls skipped reports t sink all counts held faults r puts = go r puts
+    → PlaysWhole s x source (record { old_log = t.old_log; log = t.log; sink = record { old = t.sink.old; new = sink.new; faults_before = t.sink.faults_before; faults = sink.faults } }) r
+whole_played s x source calls skipped reports t sink all counts held faults r puts = go r puts
   where
-    is : end_line calls skipped reports ≡ end_line_of s script.events
+    events : List TraceEvent
+    events = all.events
+
+    is : end_line calls skipped reports ≡ end_line_of s events
     is =
         let c = counts s all.played.stands.kept all.played.stands.shows in
-        let past : Past = judged s script.events in
+        let past : Past = judged s events in
         ap (λ n. end_line n skipped reports) (c.0 ∙ all.played.stands.stands.calls)
         ∙ (ap (λ n. end_line (calls_in past) n reports) (c.1.0 ∙ all.played.stands.stands.skipped) ∙ ap (λ n. end_line (calls_in past) (skipped_in past) n) (c.1.1 ∙ all.played.stands.stands.reports))
 
     go : (r : Result (Unit {0}) ReplayError) → PutsText (end_line calls skipped reports) sink r
-        → PlaysWhole s script x (record { old_log = t.old_log; log = t.log; sink = record { old = t.sink.old; new = sink.new; faults_before = t.sink.faults_before; faults = sink.faults } }) r
+        → PlaysWhole s x source (record { old_log = t.old_log; log = t.log; sink = record { old = t.sink.old; new = sink.new; faults_before = t.sink.faults_before; faults = sink.faults } }) r
     go (Ok done) puts = record {
-      none = all.none;
+      events = events;
+      ends = all.ends;
       replies = all.played.replies;
       stands = all.played.stands;
       told = record { each = all.played.told.each; told = all.played.told.told };
-      wrote = puts.0 ∙ (ap (λ h. grown h (end_line calls skipped reports)) (held ∙ all.played.wrote) ∙ (grown_grown t.sink.old _ (end_line calls skipped reports) ∙ ap (λ l. grown t.sink.old (lines_of_events s script.events ++ l)) is));
+      wrote = puts.0 ∙ (ap (λ h. grown h (end_line calls skipped reports)) (held ∙ all.played.wrote) ∙ (grown_grown t.sink.old _ (end_line calls skipped reports) ∙ ap (λ l. grown t.sink.old (lines_of_events s events ++ l)) is));
       stood = puts.1 ∙ (faults ∙ all.stood);
     }
-    go (Err error.Write) puts = (
-      inr (record {
-        none = all.none;
-        cut = record {
-          replies = all.played.replies;
-          told = record { each = all.played.told.each; told = all.played.told.told };
-          wrote = subst (λ (h : Option (List ℕ)). GrownByFront h sink.new (end_line_of s script.events)) (held ∙ all.played.wrote) (subst (λ (l : List ℕ). GrownByFront sink.old sink.new l) is puts.front);
-        };
-      }),
-      puts.failed ∙ ap raised (faults ∙ all.stood),
-    )
-    go (Err error.NoMemory) puts = (
-      record {
-        events = script.events;
-        next = None;
-        front = record { later = []; are = refl };
-        cut = record {
-          replies = all.played.replies;
-          each = all.played.told.each;
-          asked = none_asked [] _ t.log all.played.told.told;
-          wrote = puts.0 ∙ (held ∙ all.played.wrote);
-        };
-      },
-      puts.1 ∙ (faults ∙ all.stood),
-    )
+    go (Err error.Write) puts = inr (record {
+      events = events;
+      ends = all.ends;
+      cut = record {
+        replies = all.played.replies;
+        told = record { each = all.played.told.each; told = all.played.told.told };
+        wrote = subst (λ (h : Option (List ℕ)). GrownByFront h sink.new (end_line_of s events)) (held ∙ all.played.wrote) (subst (λ (l : List ℕ). GrownByFront sink.old sink.new l) is puts.front);
+      };
+      failed = puts.failed ∙ ap raised (faults ∙ all.stood);
+    })
+    go (Err error.NoMemory) puts = record {
+      events = events;
+      next = None;
+      goes = ends_goes s events source all.ends;
+      cut = record {
+        replies = all.played.replies;
+        each = all.played.told.each;
+        asked = none_asked [] _ t.log all.played.told.told;
+        wrote = puts.0 ∙ (held ∙ all.played.wrote);
+      };
+      stood = puts.1 ∙ (faults ∙ all.stood);
+    }
     go (Err error.Read) puts = absurd puts
     go (Err (error.Trace line f)) puts = absurd puts
     go (Err (error.Limit w)) puts = absurd puts
+
+-- an error before the end line
+pub whole_fails : (s : Setup) (x : Option Kept) (source : Change) (t : Traffic) (e : ReplayError) → Plays s x source t (Err e) → PlaysWhole s x source t (Err e)
+whole_fails s x source t error.Write plays = inl plays
+whole_fails s x source t error.Read plays = plays
+whole_fails s x source t error.NoMemory plays = plays
+whole_fails s x source t (error.Trace line f) plays = plays
+whole_fails s x source t (error.Limit w) plays = plays

@@ -4,17 +4,8 @@ use Rattle.chain_session.specs.declared.error.SessionError.{SessionError}
 use Rattle.chain_session.specs.declared.error.SessionError.TheVariants as session
 use Rattle.replay_core.specs.declared.error.ReplayError.{ReplayError}
 use Rattle.replay_core.specs.declared.error.ReplayError.TheVariants as replay
-use Rattle.replay_core.specs.declared.read.Unread.{Unread}
-use Rattle.replay_core.specs.declared.read.Unread.TheVariants as unread
-use Rattle.trace_format.specs.declared.fault.TraceFault.TheVariants as fault
 
 -- the error of a replay that an error of its session becomes
 abbrev pub replay_error : SessionError → ReplayError
 replay_error (session.Chain count) = replay.Limit which.Chain
 replay_error session.NoMemory = replay.NoMemory
-
--- the error of a replay whose trace wasn't read
-abbrev pub unread_error : Unread → ReplayError
-unread_error unread.Failed = replay.Read
-unread_error unread.NoMemory = replay.NoMemory
-unread_error unread.TooLarge = replay.Trace 1 fault.NotBuilt

@@ -5,3 +5,4 @@ pub mod Beginning
 pub mod Traffic
 pub mod Plays
 pub mod Ending
+pub mod Given

@@ -1,19 +1,20 @@
 -- How one event, one line and all lines of a trace are replayed, or why they aren't. Source: this project.
-use Rattle.std.specs.Prelude.{◌≡◌, ◌⊎◌, ◌≤◌, ◌+◌, ℕ, true, false, if◌then◌else◌, List, ◌∷◌, ◌++◌, Option, Some, None, Result, Ok, Err}
+use Rattle.std.specs.Prelude.{◌≡◌, ◌⊎◌, ◌≤◌, ◌+◌, ℕ, true, false, if◌then◌else◌, List, ◌∷◌, ◌++◌, length, Option, Some, None, Result, Ok, Err}
 use Rattle.command_tables.specs.Calls.{ReplyContent}
 use Rattle.trace_format.specs.Accepting.{calls_begun}
 use Rattle.trace_format.specs.Content.{TraceEvent}
 use Rattle.trace_format.specs.State.{TraceSeen, SumsUp}
-use Rattle.replay_base.specs.Changes.{Gained, Stood, FailedOnce}
+use Rattle.replay_base.specs.Changes.{Change, Gained, Stood, FailedOnce}
 use Rattle.replay_base.specs.declared.limit.Which.TheVariants as which
 use Rattle.replay_model.specs.Setup.{Setup}
-use Rattle.replay_model.specs.Stop.{Stop, Cause, Fault, Names, Layers, at_fault, exceeds_layers, line_after, stop, stop_in, stop_from, events_of, events_in, events_from}
+use Rattle.replay_model.specs.Stop.{Stop, Cause, Fault, LineBytes, Lines, Names, Layers, at_fault, exceeds_layers, line_after}
 use Rattle.chain_model.specs.Traces.{IsTrace}
 use Rattle.chain_session.specs.declared.kept.Kept.{Kept}
 use Rattle.chain_session.specs.Standing.{StandsFor}
 use Rattle.replay_core.specs.declared.error.ReplayError.{ReplayError}
 use Rattle.replay_core.specs.declared.error.ReplayError.TheVariants as error
-use Rattle.replay_core.specs.Traffic.{Traffic, Start, upto, through, Told, WentOut, Played, CutInLines, BrokeInLines, BrokeAtEnd, RanOut, RanOutBehind, end_line_of, lines_of_events}
+use Rattle.replay_core.specs.Traffic.{Traffic, Start, upto, through, Told, WentOut, Played, CutInLines, BrokeAtEnd, RanOutBehind, end_line_of, lines_of_events, with_next}
+use Rattle.replay_core.specs.Given.{BreaksBehind, EndsBehind, GoesOn, StopsAt}
 
 -- ---- one event
 
@@ -111,72 +112,82 @@ PlaysLine l (Err other) = ⊥
 
 -- ---- all lines
 
--- what lines say: where they stop, and the events up to there, the newest first
-pub record Script : Type 0 where
-  pub stop : Option Stop
-  pub events : List TraceEvent
-
--- what a trace says under a setup
-abbrev pub script_of : Setup → List ℕ → Script
-script_of s bytes = record { stop = stop s bytes; events = events_of s bytes }
-
--- what lines say, of which the first is the header
-abbrev pub script_in : Setup → List (List ℕ) → Script
-script_in s lines = record { stop = stop_in s lines; events = events_in s lines }
-
--- what lines from number n on say, behind these events
-abbrev pub script_from : Setup → ℕ → List TraceEvent → List (List ℕ) → Script
-script_from s n before lines = record { stop = stop_from s n before lines; events = events_from s before lines }
-
 -- all events were replayed, and nothing stops them
-pub record PlayedAll (s : Setup) (script : Script) (x : Option Kept) (t : Traffic) : Type 0 where
-  pub none : script.stop ≡ None
-  pub played : Played s x script.events t
+pub record PlayedAll (s : Setup) (x : Option Kept) (source : Change) (t : Traffic) : Type 0 where
+  pub events : List TraceEvent
+  pub ends : EndsBehind s events source
+  pub played : Played s x events t
   pub stood : Stood t.sink
 
 -- the events up to this stop went out
-pub record PlayedTo (s : Setup) (place : Stop) (script : Script) (t : Traffic) : Type 0 where
-  pub stop : script.stop ≡ Some place
-  pub went : WentOut s script.events t
+pub record PlayedTo (s : Setup) (place : Stop) (source : Change) (t : Traffic) : Type 0 where
+  pub events : List TraceEvent
+  pub stops : StopsAt s place events source
+  pub went : WentOut s events t
   pub stood : Stood t.sink
 
 -- those up to a line with this cause did
-pub record PlayedToLimit (s : Setup) (cause : Cause) (script : Script) (t : Traffic) : Type 0 where
+pub record PlayedToLimit (s : Setup) (cause : Cause) (source : Change) (t : Traffic) : Type 0 where
   pub line : ℕ
-  pub played : PlayedTo s (record { line = line; cause = cause }) script t
+  pub played : PlayedTo s (record { line = line; cause = cause }) source t
 
--- all events were replayed, or those up to the stop, or the sink failed in the lines of one, or memory ran out behind some
-abbrev pub Plays : Setup → Script → Option Kept → Traffic → Result (Unit {0}) ReplayError → Type 0
-Plays s script x t (Ok done) = PlayedAll s script x t
-Plays s script x t (Err (error.Trace line fault)) = PlayedTo s (at_fault line fault) script t
-Plays s script x t (Err (error.Limit which.Names)) = PlayedToLimit s Names script t
-Plays s script x t (Err (error.Limit which.Chain)) = PlayedToLimit s Layers script t
-Plays s script x t (Err error.Write) = BrokeInLines s script.events t × FailedOnce t.sink
-Plays s script x t (Err error.NoMemory) = RanOut s script.events t × Stood t.sink
-Plays s script x t (Err other) = ⊥
+-- the source failed, and the events of the lines that it had given went out
+pub record PlayedPiece (s : Setup) (source : Change) (t : Traffic) : Type 0 where
+  pub events : List TraceEvent
+  pub breaks : BreaksBehind s events source
+  pub went : WentOut s events t
+  pub stood : Stood t.sink
+
+-- the sink failed in the lines of one of the events, before the next line was read
+pub record BrokeInLines (s : Setup) (source : Change) (t : Traffic) : Type 0 where
+  pub events : List TraceEvent
+  pub event : TraceEvent
+  pub goes : GoesOn s (event ∷ events) (length events + 2) source
+  pub cut : CutInLines s events event t
+  pub failed : FailedOnce t.sink
+
+-- memory ran out behind some of the events
+pub record RanOut (s : Setup) (source : Change) (t : Traffic) : Type 0 where
+  pub events : List TraceEvent
+  pub next : Option TraceEvent
+  pub goes : GoesOn s (with_next next events) (length events + 2) source
+  pub cut : RanOutBehind s events next t
+  pub stood : Stood t.sink
+
+-- all events were replayed, or those up to the stop, or the source or the sink failed, or memory ran out behind some
+abbrev pub Plays : Setup → Option Kept → Change → Traffic → Result (Unit {0}) ReplayError → Type 0
+Plays s x source t (Ok done) = PlayedAll s x source t
+Plays s x source t (Err error.Read) = PlayedPiece s source t
+Plays s x source t (Err (error.Trace line fault)) = PlayedTo s (at_fault line fault) source t
+Plays s x source t (Err (error.Limit which.Lines)) = PlayedToLimit s Lines source t
+Plays s x source t (Err (error.Limit which.LineBytes)) = PlayedToLimit s LineBytes source t
+Plays s x source t (Err (error.Limit which.Names)) = PlayedToLimit s Names source t
+Plays s x source t (Err (error.Limit which.Chain)) = PlayedToLimit s Layers source t
+Plays s x source t (Err error.Write) = BrokeInLines s source t
+Plays s x source t (Err error.NoMemory) = RanOut s source t
+Plays s x source t (Err other) = ⊥
 
 -- ---- all lines and the end line
 
 -- nothing stops the trace, all its events were replayed, and the end line stands behind their lines
-pub record PlayedWhole (s : Setup) (script : Script) (x : Option Kept) (t : Traffic) : Type 0 where
-  pub none : script.stop ≡ None
+pub record PlayedWhole (s : Setup) (x : Option Kept) (source : Change) (t : Traffic) : Type 0 where
+  pub events : List TraceEvent
+  pub ends : EndsBehind s events source
   pub replies : List ReplyContent
-  pub stands : StandsFor s x script.events replies
-  pub told : Told s script.events replies t
-  pub wrote : Gained t.sink (lines_of_events s script.events ++ end_line_of s script.events)
+  pub stands : StandsFor s x events replies
+  pub told : Told s events replies t
+  pub wrote : Gained t.sink (lines_of_events s events ++ end_line_of s events)
   pub stood : Stood t.sink
 
 -- the sink failed in the end line of a trace that nothing stops
-pub record CutAtEnd (s : Setup) (script : Script) (t : Traffic) : Type 0 where
-  pub none : script.stop ≡ None
-  pub cut : BrokeAtEnd s script.events t
+pub record CutAtEnd (s : Setup) (source : Change) (t : Traffic) : Type 0 where
+  pub events : List TraceEvent
+  pub ends : EndsBehind s events source
+  pub cut : BrokeAtEnd s events t
+  pub failed : FailedOnce t.sink
 
 -- the whole trace was replayed, or why not
-abbrev pub PlaysWhole : Setup → Script → Option Kept → Traffic → Result (Unit {0}) ReplayError → Type 0
-PlaysWhole s script x t (Ok done) = PlayedWhole s script x t
-PlaysWhole s script x t (Err (error.Trace line fault)) = PlayedTo s (at_fault line fault) script t
-PlaysWhole s script x t (Err (error.Limit which.Names)) = PlayedToLimit s Names script t
-PlaysWhole s script x t (Err (error.Limit which.Chain)) = PlayedToLimit s Layers script t
-PlaysWhole s script x t (Err error.Write) = (BrokeInLines s script.events t ⊎ CutAtEnd s script t) × FailedOnce t.sink
-PlaysWhole s script x t (Err error.NoMemory) = RanOut s script.events t × Stood t.sink
-PlaysWhole s script x t (Err other) = ⊥
+abbrev pub PlaysWhole : Setup → Option Kept → Change → Traffic → Result (Unit {0}) ReplayError → Type 0
+PlaysWhole s x source t (Ok done) = PlayedWhole s x source t
+PlaysWhole s x source t (Err error.Write) = BrokeInLines s source t ⊎ CutAtEnd s source t
+PlaysWhole s x source t (Err other) = Plays s x source t (Err other)

@@ -1,23 +1,22 @@
 -- How a replay ends: what was read, what the drivers were told, and what was written. Source: this project.
-use Rattle.std.specs.Prelude.{◌≡◌, ◌⊎◌, ◌≤◌, ◌++◌, ◌∷◌, ℕ, List, [], Option, Some, None, length}
+use Rattle.std.specs.Prelude.{◌≡◌, ◌⊎◌, ◌+◌, ◌++◌, ◌∷◌, ℕ, List, [], Option, Some, None, length}
 use Rattle.command_tables.specs.Calls.{ReplyContent}
 use Rattle.model_driver.specs.Logs.{Log, logged}
 use Rattle.trace_format.specs.Content.{TraceEvent}
 use Rattle.replay_base.specs.Bytes.{GrownByFront}
 use Rattle.replay_base.specs.Changes.{Change, Stood, FailedOnce, IsUnmoved, Gave, Gained, GainedFront}
 use Rattle.replay_base.specs.declared.limit.Which.TheVariants as which
-use Rattle.replay_model.specs.declared.TheConstants.{MOST_BYTES}
 use Rattle.replay_model.specs.Setup.{Setup}
 use Rattle.replay_model.specs.Judged.{judged}
 use Rattle.replay_model.specs.Direct.{exchanges, sends_in}
 use Rattle.replay_model.specs.Less.{less, no_layers}
-use Rattle.replay_model.specs.Stop.{Stop, Cause, Names, Layers, at_fault, stop, too_large, events_of}
+use Rattle.replay_model.specs.Stop.{Stop, Cause, LineBytes, Lines, Names, Layers, at_fault, events_of, placed_in, stop}
 use Rattle.chain_session.specs.declared.kept.Kept.{Kept}
 use Rattle.chain_session.specs.Standing.{StandsFor}
 use Rattle.chain_session.specs.Telling.{FrontAsked}
 use Rattle.replay_core.specs.declared.error.ReplayError.{ReplayError}
 use Rattle.replay_core.specs.declared.error.ReplayError.TheVariants as error
-use Rattle.replay_core.specs.Ending.{GaveTooMuch}
+use Rattle.replay_core.specs.Given.{GaveLines, HasGiven}
 use Rattle.replay_core.specs.Traffic.{Traffic, IsFront, traffic_of, text_of, end_line_of, lines_behind, next_calls, with_next}
 
 -- a run: its source, and what went to the drivers and the sink
@@ -70,36 +69,33 @@ pub record Ended (s : Setup) (x : Option Kept) (run : Run) : Type 0 where
   pub wrote : Gained run.traffic.sink (text_of s (events_of s bytes) ++ end_line_of s (events_of s bytes))
   pub stood : NothingFailed run
 
--- the source was read, its trace stops here, and what stands before that line was replayed; there is no end line
-pub record StoppedIn (s : Setup) (place : Stop) (run : Run) : Type 0 where
+-- The trace stops here, and what stands before that line was replayed; there is no end line. No more of the source was read than the lines up to the stop
+-- and 65,537 bytes.
+pub record StoppedAt (s : Setup) (place : Stop) (run : Run) : Type 0 where
   pub bytes : List ℕ
-  pub read : Gave run.source bytes
-  pub size : length bytes ≤ MOST_BYTES
+  pub read : HasGiven run.source bytes place.line
   pub here : stop s bytes ≡ Some place
   pub replies : List ReplyContent
   pub heard : Heard s (events_of s bytes) replies run.traffic
   pub wrote : Gained run.traffic.sink (text_of s (events_of s bytes))
   pub stood : NothingFailed run
 
--- the source gave more bytes than are replayed so far, which stops at line 1 before anything else is done
-pub record StoppedBySize (place : Stop) (run : Run) : Type 0 where
-  pub large : GaveTooMuch run.source
-  pub first : place ≡ too_large
-  pub untouched : IsUntouched run.traffic
-
--- the trace stops here
-abbrev pub StoppedAt : Setup → Stop → Run → Type 0
-StoppedAt s place run = StoppedIn s place run ⊎ StoppedBySize place run
-
 -- the trace stops at a line with this cause
 pub record StoppedByLimit (s : Setup) (cause : Cause) (run : Run) : Type 0 where
   pub line : ℕ
-  pub stopped : StoppedIn s (record { line = line; cause = cause }) run
+  pub stopped : StoppedAt s (record { line = line; cause = cause }) run
 
--- the source failed before all was read: nothing was written, and no driver was called
-pub record NotRead (run : Run) : Type 0 where
+-- The source failed. None of the lines that it had given stops the trace, and all their events were replayed; a piece of a line wasn't.
+pub record NotRead (s : Setup) (run : Run) : Type 0 where
+  pub lines : List (List ℕ)
+  pub gave : GaveLines run.source lines
+  pub events : List TraceEvent
+  pub placed : placed_in s lines ≡ Some events
+  pub replies : List ReplyContent
+  pub heard : Heard s events replies run.traffic
+  pub wrote : Gained run.traffic.sink (text_of s events)
   pub failed : FailedOnce run.source
-  pub untouched : IsUntouched run.traffic
+  pub stood : Stood run.traffic.sink
 
 -- the sink failed in the notes, before any event: a front of them stands
 pub record CutInNotes (s : Setup) (events : List TraceEvent) (sink : Change) : Type 0 where
@@ -124,11 +120,12 @@ abbrev pub IsCut : Setup → List ℕ → List TraceEvent → Change → Type 0
 IsCut s bytes events sink = CutInNotes s events sink ⊎ (CutInLast s events sink ⊎ CutInEnd s bytes events sink)
 
 -- The sink failed. The drivers were told just the calls of the events so far that weren't skipped: of none, where it failed in the notes; up to the one
--- in whose lines it failed; or of all, where it failed in the end line.
+-- in whose lines it failed; or of all, where it failed in the end line. No more of the source was read than the lines of these events, the header among
+-- them, and 65,537 bytes.
 pub record BrokeIn (s : Setup) (run : Run) : Type 0 where
   pub bytes : List ℕ
-  pub read : Gave run.source bytes
   pub events : List TraceEvent
+  pub read : HasGiven run.source bytes (length events + 1)
   pub front : IsFront (events_of s bytes) events
   pub replies : List ReplyContent
   pub heard : Heard s events replies run.traffic
@@ -137,21 +134,23 @@ pub record BrokeIn (s : Setup) (run : Run) : Type 0 where
   pub stood : Stood run.source
 
 -- Memory ran out behind the notes. The drivers were told just the calls of the events so far that weren't skipped, and the first so many of the next
--- event's, and the text of the events so far stands.
+-- event's, and the text of the events so far stands. No more of the source was read than the lines of these events, the header and the next line among
+-- them, and 65,537 bytes.
 pub record RanOutIn (s : Setup) (run : Run) : Type 0 where
   pub bytes : List ℕ
-  pub read : Gave run.source bytes
   pub events : List TraceEvent
   pub next : Option TraceEvent
+  pub read : HasGiven run.source bytes (length events + 2)
   pub front : IsFront (events_of s bytes) (with_next next events)
   pub replies : List ReplyContent
   pub heard : HeardBefore s events next replies run.traffic
   pub wrote : Gained run.traffic.sink (text_of s events)
   pub stood : NothingFailed run
 
--- memory ran out before anything was told or written
+-- memory ran out before anything was read, told or written
 pub record RanOutAtFirst (run : Run) : Type 0 where
   pub untouched : IsUntouched run.traffic
+  pub unread : IsUnmoved run.source
   pub stood : Stood run.source
 
 -- memory ran out
@@ -160,9 +159,11 @@ RanOutOf s run = RanOutAtFirst run ⊎ RanOutIn s run
 
 -- a replay that didn't come to its end has a cause, and what had gone out before it is said
 abbrev pub IsCutShort : Setup → Run → ReplayError → Type 0
-IsCutShort s run error.Read = NotRead run
+IsCutShort s run error.Read = NotRead s run
 IsCutShort s run error.Write = BrokeIn s run
 IsCutShort s run (error.Trace line fault) = StoppedAt s (at_fault line fault) run
+IsCutShort s run (error.Limit which.Lines) = StoppedByLimit s Lines run
+IsCutShort s run (error.Limit which.LineBytes) = StoppedByLimit s LineBytes run
 IsCutShort s run (error.Limit which.Names) = StoppedByLimit s Names run
 IsCutShort s run (error.Limit which.Chain) = StoppedByLimit s Layers run
 IsCutShort s run error.NoMemory = RanOutOf s run

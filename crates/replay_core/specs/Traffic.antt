@@ -108,22 +108,8 @@ pub record IsFront (all events : List TraceEvent) : Type 0 where
   pub later : List TraceEvent
   pub are : all ≡ later ++ events
 
--- the sink failed in the lines of one of these events
-pub record BrokeInLines (s : Setup) (all : List TraceEvent) (t : Traffic) : Type 0 where
-  pub events : List TraceEvent
-  pub event : TraceEvent
-  pub front : IsFront all (event ∷ events)
-  pub cut : CutInLines s events event t
-
 -- the sink failed in the end line, behind the lines of all events
 pub record BrokeAtEnd (s : Setup) (all : List TraceEvent) (t : Traffic) : Type 0 where
   pub replies : List ReplyContent
   pub told : Told s all replies t
   pub wrote : GainedFront t.sink (lines_of_events s all) (end_line_of s all)
-
--- memory ran out behind some of these events
-pub record RanOut (s : Setup) (all : List TraceEvent) (t : Traffic) : Type 0 where
-  pub events : List TraceEvent
-  pub next : Option TraceEvent
-  pub front : IsFront all (with_next next events)
-  pub cut : RanOutBehind s events next t

@@ -4,10 +4,10 @@
 #![tactic(auto)]
 
 mod error;
+mod lines;
 mod play;
 mod player;
 mod put;
-mod read;
 mod run;
 mod status;
 

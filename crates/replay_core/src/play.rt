@@ -1,27 +1,43 @@
 // Replaying the lines of a trace.
-ghost use Rattle.std.specs.Prelude.{◌≡◌, ◌≤◌, ◌<◌, ◌^◌, [], length, None};
+ghost use Rattle.std.specs.Prelude.{◌≡◌, ◌<◌, ◌^◌, List, [], false, length, None};
+ghost use Rattle.trace_format.specs.Content.{TraceEvent};
 ghost use Rattle.std.specs.Option.{option_map};
 ghost use Rattle.replay_base.specs.Changes.{changed};
-ghost use Rattle.replay_base.specs.Lines.{lines_of};
+ghost use Rattle.replay_base.specs.Reader.{kept_of, state_of};
 ghost use Rattle.trace_format.specs.State.{SumsUp};
 ghost use Rattle.chain_build.specs.Setup.{setup_content};
 ghost use Rattle.report_text.specs.Setups.{trace_setup};
-ghost use Rattle.replay_core.specs.Plays.{Plays, script_from};
+ghost use Rattle.replay_core.specs.Given.{FinishesAt, source_of};
+ghost use Rattle.replay_core.specs.Plays.{Plays};
 ghost use Rattle.replay_core.specs.Traffic.{traffic_of};
 
 use crate::error::ReplayError;
+use crate::lines::{next_line, read_header};
 use crate::player::Player;
 use chain_build::Setup;
 use dispatch_chain::Kit;
 use model_driver::Driver;
-use replay_base::{Sink, split_line};
-use replay_model::MOST_BYTES;
+use replay_base::{LineReader, Sink, Source};
+use trace_format::TraceState;
 
-/// The events behind the header, up to the first line that stops the replay.
-#[tactic(auto, using(crate::proofs::Progress::far_start, crate::proofs::Progress::in_step))]
-pub fn play<K: Sink, D: Driver>(
+// Whether a trace may end where it does, in front of the line with this number.
+fn finish(state: &TraceState, number: u64) -> Result<(), ReplayError>
+    ensures { (events : List TraceEvent) → SumsUp state.now events → FinishesAt events number result }
+{
+    match state.finish() {
+        Ok(()) => Ok(()),
+        Err(fault) => Err(ReplayError::Trace {
+            line: number,
+            fault,
+        }),
+    }
+}
+
+/// The trace of a reader that has given nothing yet, up to the first line that stops the replay. A line is replayed before the next is
+/// read.
+pub fn play<S: Source + Drop, K: Sink, D: Driver>(
     player: &mut Player,
-    bytes: &[u8],
+    reader: &mut LineReader<S>,
     setup: &Setup,
     kit: &Kit,
     driver: &mut D,
@@ -29,26 +45,32 @@ pub fn play<K: Sink, D: Driver>(
 ) -> Result<(), ReplayError>
     requires session { option_map (λ x. x.kept) player.old.session.started ≡ None }
     requires state { SumsUp player.old.state [] }
-    requires size { length bytes.now ≤ MOST_BYTES }
+    requires fine { reader.old.error ≡ None }
+    requires unread { reader.old.finished ≡ false }
+    requires none { kept_of reader.old ≡ [] }
     requires few { length (setup_content setup.now).drivers.list < 2 ^ 32 }
     ensures plays { let s = trace_setup (setup_content setup.now) in
         let sink = changed (K.held out.old) (K.held out.new) (K.faults out.old) (K.faults out.new) in
-        Plays s (script_from s 2 [] (lines_of bytes.now)) (option_map (λ x. x.kept) player.new.session.started) (traffic_of (D.log driver.old) (D.log driver.new) sink) result }
+        let source = source_of (state_of S.left S.faults reader.old) (state_of S.left S.faults reader.new) in
+        Plays s (option_map (λ x. x.kept) player.new.session.started) source (traffic_of (D.log driver.old) (D.log driver.new) sink) result }
+    ensures same { S.loan reader.new.source ≡ S.loan reader.old.source }
     ensures policy { D.answers_by driver.new ≡ D.answers_by driver.old }
 {
-    let mut rest = bytes;
-    let mut line: u64 = 2;
-    while !rest.is_empty() {
-        let split = split_line(rest);
-        match player.play_line(split.line, line, setup, kit, driver, out) {
+    match read_header(reader) {
+        Ok(()) => {}
+        Err(error) => return Err(error),
+    }
+    let mut number: u64 = 2;
+    loop {
+        match next_line(reader, number) {
+            Err(error) => return Err(error),
+            Ok(false) => return finish(&player.state, number),
+            Ok(true) => {}
+        }
+        match player.play_line(reader.line(), number, setup, kit, driver, out) {
             Ok(()) => {}
             Err(error) => return Err(error),
         }
-        line += 1;
-        rest = split.rest;
-    }
-    match player.state.finish() {
-        Ok(()) => Ok(()),
-        Err(fault) => Err(ReplayError::Trace { line, fault }),
+        number += 1;
     }
 }

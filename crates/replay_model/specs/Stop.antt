@@ -1,20 +1,22 @@
--- Where a trace stops under a setup, and why: the first line that has a fault, or would bring too many names, or begins a vkCreateInstance whose chain
--- would have too many layers. Source: this project.
+-- Where a trace stops under a setup, and why: the first line that is one too many or too long, has a fault, would bring too many names, or begins a
+-- vkCreateInstance whose chain would have too many layers. Source: this project.
 use Rattle.std.specs.Prelude.{ℕ, ◌+◌, Bool, true, false, ◌&&◌, if◌then◌else◌, nat_lt, Option, Some, None, Result, Ok, Err, List, [], ◌∷◌, length, drop}
 use Rattle.std.specs.Option.{option_map}
 use Rattle.replay_base.specs.Lines.{lines_of}
+use Rattle.replay_base.specs.declared.limit.TheConstants.{MOST_LINE_BYTES}
 use Rattle.command_tables.specs.Tests.{same_command}
 use Rattle.command_tables.specs.declared.types.CommandId.TheVariants as cmd
 use Rattle.trace_format.specs.declared.fault.TraceFault.{TraceFault}
-use Rattle.trace_format.specs.declared.fault.TraceFault.TheVariants as fault
 use Rattle.trace_format.specs.Accepting.{exceeds_names, fault_after, fault_at_end, header_fault}
 use Rattle.trace_format.specs.Content.{TraceEvent, Begin, Return}
 use Rattle.trace_format.specs.Reading.{read_line}
-use Rattle.replay_model.specs.declared.TheConstants.{MOST_BYTES}
+use Rattle.replay_model.specs.declared.TheConstants.{MOST_LINES}
 use Rattle.replay_model.specs.Setup.{Setup, is_too_long}
 
--- why a trace stops at a line: its fault, the limit on names, or that on the layers of a chain
+-- why a trace stops at a line: the limit on lines, or that on a line's bytes, its fault, the limit on names, or that on the layers of a chain
 pub data Cause : Type 0 where
+  Lines : Cause
+  LineBytes : Cause
   Fault : (fault : TraceFault) → Cause
   Names : Cause
   Layers : Cause
@@ -60,7 +62,30 @@ placed s before (Err f) = Err (Fault f)
 abbrev pub line_after : Setup → List TraceEvent → List ℕ → Result TraceEvent Cause
 line_after s before line = placed s before (read_line line)
 
+-- why the line with this number isn't looked at: it is one too many, or it is too long
+abbrev pub cause_before : ℕ → List ℕ → Option Cause
+cause_before n line = if nat_lt MOST_LINES n then Some Lines else (if nat_lt MOST_LINE_BYTES (length line) then Some LineBytes else None)
+
+-- what a line comes to, unless there is a cause before
+abbrev pub unless_before : {T : Type 0} → Option Cause → Result T Cause → Result T Cause
+unless_before None r = r
+unless_before (Some c) r = Err c
+
+-- the event of the line with this number behind these events, or why the trace stops there: the limits on lines come first
+abbrev pub line_at : Setup → ℕ → List TraceEvent → List ℕ → Result TraceEvent Cause
+line_at s n before line = unless_before (cause_before n line) (line_after s before line)
+
 -- ---- where a trace stops
+
+-- the first of two causes
+abbrev pub cause_or : Option Cause → Option Cause → Option Cause
+cause_or None other = other
+cause_or (Some c) other = Some c
+
+-- why a trace stops at its first line, which is its header
+abbrev pub header_cause : List (List ℕ) → Option Cause
+header_cause [] = option_map Fault (header_fault [])
+header_cause (line ∷ lines) = cause_or (cause_before 1 line) (option_map Fault (header_fault (line ∷ lines)))
 
 -- the line stops, or the rest behind its event decides
 abbrev pub stop_or : ℕ → Result TraceEvent Cause → (TraceEvent → Option Stop) → Option Stop
@@ -70,24 +95,20 @@ stop_or n (Err c) rest = Some (record { line = n; cause = c })
 -- the lines from number n on, behind these events; a call that is open at the end stops one line behind the last
 abbrev pub stop_from : Setup → ℕ → List TraceEvent → List (List ℕ) → Option Stop
 stop_from s n before [] = option_map (at_fault n) (fault_at_end before)
-stop_from s n before (line ∷ lines) = stop_or n (line_after s before line) (λ e. stop_from s (n + 1) (e ∷ before) lines)
+stop_from s n before (line ∷ lines) = stop_or n (line_at s n before line) (λ e. stop_from s (n + 1) (e ∷ before) lines)
 
 -- the first line is the header, and then come the events
-abbrev pub stop_behind : Setup → Option TraceFault → List (List ℕ) → Option Stop
-stop_behind s (Some f) lines = Some (at_fault 1 f)
+abbrev pub stop_behind : Setup → Option Cause → List (List ℕ) → Option Stop
+stop_behind s (Some c) lines = Some (record { line = 1; cause = c })
 stop_behind s None lines = stop_from s 2 [] (drop 1 lines)
 
 -- the stop of these lines
 abbrev pub stop_in : Setup → List (List ℕ) → Option Stop
-stop_in s lines = stop_behind s (header_fault lines) lines
-
--- a trace of more than 1,048,576 bytes isn't replayed yet
-abbrev pub too_large : Stop
-too_large = at_fault 1 fault.NotBuilt
+stop_in s lines = stop_behind s (header_cause lines) lines
 
 -- the first line at which a trace stops
 abbrev pub stop : Setup → List ℕ → Option Stop
-stop s bytes = if nat_lt MOST_BYTES (length bytes) then Some too_large else stop_in s (lines_of bytes)
+stop s bytes = stop_in s (lines_of bytes)
 
 -- ---- the events before the stop, the newest first
 
@@ -96,20 +117,42 @@ abbrev pub events_or : List TraceEvent → Result TraceEvent Cause → (TraceEve
 events_or before (Ok e) more = more e
 events_or before (Err c) more = before
 
--- the events of the lines, behind these
-abbrev pub events_from : Setup → List TraceEvent → List (List ℕ) → List TraceEvent
-events_from s before [] = before
-events_from s before (line ∷ lines) = events_or before (line_after s before line) (λ e. events_from s (e ∷ before) lines)
+-- the events of the lines from number n on, behind these
+abbrev pub events_from : Setup → ℕ → List TraceEvent → List (List ℕ) → List TraceEvent
+events_from s n before [] = before
+events_from s n before (line ∷ lines) = events_or before (line_at s n before line) (λ e. events_from s (n + 1) (e ∷ before) lines)
 
 -- the events behind the header
-abbrev pub events_behind : Setup → Option TraceFault → List (List ℕ) → List TraceEvent
-events_behind s (Some f) lines = []
-events_behind s None lines = events_from s [] (drop 1 lines)
+abbrev pub events_behind : Setup → Option Cause → List (List ℕ) → List TraceEvent
+events_behind s (Some c) lines = []
+events_behind s None lines = events_from s 2 [] (drop 1 lines)
 
 -- the events of these lines, up to their stop
 abbrev pub events_in : Setup → List (List ℕ) → List TraceEvent
-events_in s lines = events_behind s (header_fault lines) lines
+events_in s lines = events_behind s (header_cause lines) lines
 
 -- the events of a trace, up to its stop
 abbrev pub events_of : Setup → List ℕ → List TraceEvent
-events_of s bytes = if nat_lt MOST_BYTES (length bytes) then [] else events_in s (lines_of bytes)
+events_of s bytes = events_in s (lines_of bytes)
+
+-- ---- the events of lines that are there so far
+
+-- the event of a line, where it has one
+abbrev pub placed_or : Result TraceEvent Cause → (TraceEvent → Option (List TraceEvent)) → Option (List TraceEvent)
+placed_or (Ok e) more = more e
+placed_or (Err c) more = None
+
+-- the events behind the lines from number n on, where none of them stops
+abbrev pub placed_from : Setup → ℕ → List TraceEvent → List (List ℕ) → Option (List TraceEvent)
+placed_from s n before [] = Some before
+placed_from s n before (line ∷ lines) = placed_or (line_at s n before line) (λ e. placed_from s (n + 1) (e ∷ before) lines)
+
+-- the events behind the header, where it is one
+abbrev pub placed_behind : Setup → Option Cause → List (List ℕ) → Option (List TraceEvent)
+placed_behind s (Some c) lines = None
+placed_behind s None lines = placed_from s 2 [] lines
+
+-- the events of a trace of which these lines are there so far, where none of them stops
+abbrev pub placed_in : Setup → List (List ℕ) → Option (List TraceEvent)
+placed_in s [] = Some []
+placed_in s (line ∷ lines) = placed_behind s (header_cause (line ∷ lines)) lines

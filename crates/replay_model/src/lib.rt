@@ -27,8 +27,8 @@ ghost use Rattle.replay_model.specs.Stop.{events_of, stop};
 use object_model::Object;
 use trace_format::Name;
 
-/// How many bytes of a trace are replayed so far. A longer one stops at its first line.
-pub const MOST_BYTES: usize = 1_048_576;
+/// How many lines a trace may have, its header among them.
+pub const MOST_LINES: u64 = 16_777_216;
 
 /// A name and the object for which it stands.
 #[derive(Clone, Copy, Debug, PartialEq, Eq)]

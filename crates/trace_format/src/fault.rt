@@ -39,8 +39,6 @@ pub enum TraceFault {
     Instance,
     /// A call is open at the end.
     OpenAtEnd,
-    /// The trace is larger than those that are replayed yet.
-    NotBuilt,
 }
 
 impl TraceFault {
@@ -65,7 +63,6 @@ impl TraceFault {
             TraceFault::Sequence => "Sequence",
             TraceFault::Instance => "Instance",
             TraceFault::OpenAtEnd => "OpenAtEnd",
-            TraceFault::NotBuilt => "NotBuilt",
         }
     }
 }

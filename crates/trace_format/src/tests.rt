@@ -6,13 +6,12 @@ use std::process::Abort;
 use std::test::Fail;
 
 // Faults with their numbers and names.
-static FAULTS: [(TraceFault, u8, &str); 6] = [
+static FAULTS: [(TraceFault, u8, &str); 5] = [
     (TraceFault::Header, 1, "Header"),
     (TraceFault::NotAscii, 2, "NotAscii"),
     (TraceFault::Code, 9, "Code"),
     (TraceFault::Busy, 10, "Busy"),
     (TraceFault::OpenAtEnd, 16, "OpenAtEnd"),
-    (TraceFault::NotBuilt, 17, "NotBuilt"),
 ];
 
 #[test]

@@ -2,7 +2,6 @@
 use Rattle.std.proofs.Common.{◌≡◌, ◌∙◌, ℕ, ◌<◌, ◌≤◌, List, [], ◌++◌, length, Option, refl, ap, sym, subst, arith, append-nil, length-append, inl, inr}
 use Rattle.std.specs.Prelude.{◌≢◌, Some, None, Result, Ok, Err, cond, nat_le, nat_lt, Bool, true, false, ◌⊎◌, ◌==◌}
 use Rattle.std.specs.List.{concat}
-use Rattle.std.proofs.lemmas.Option.{none-some}
 use Rattle.layer_search.specs.Paths.{most_paths}
 use Rattle.chain_build.specs.Override.{most_met, setup_of}
 use Rattle.chain_build.specs.Setup.{SetupContent}
@@ -13,13 +12,12 @@ use Rattle.replay_base.specs.Bytes.{before, grown, IsSpent}
 use Rattle.replay_base.specs.Changes.{Change, Gained}
 use Rattle.replay_base.specs.Faults.{Rose, raised}
 use Rattle.replay_base.specs.Files.{File}
-use Rattle.replay_base.specs.Lines.{lines_of}
+use Rattle.replay_base.specs.declared.limit.Which.{Which}
 use Rattle.replay_base.specs.declared.limit.Which.TheVariants as which
 use Rattle.replay_base.proofs.Written.{grown_nil}
 use Rattle.replay_model.specs.Setup.{Setup, is_too_long}
-use Rattle.replay_model.specs.declared.TheConstants.{MOST_BYTES}
 use Rattle.trace_format.specs.declared.fault.TraceFault.{TraceFault}
-use Rattle.replay_model.specs.Stop.{Stop, Cause, Fault, Names, Layers, at_fault, events_of, stop, stop_in, too_large}
+use Rattle.replay_model.specs.Stop.{Stop, Cause, Fault, LineBytes, Lines, Names, Layers, at_fault, events_of, stop}
 use Rattle.report_text.specs.Setups.{trace_setup}
 use Rattle.chain_session.specs.declared.kept.Kept.{Kept}
 use Rattle.chain_session.specs.Standing.{Counts, ShowsOnce}
@@ -28,14 +26,15 @@ use Rattle.layer_search.specs.Causes.{ErrorHasCause, WhereTold}
 use Rattle.layer_search.specs.declared.errors.SearchError.{SearchError}
 use Rattle.layer_search.specs.declared.errors.SearchError.TheVariants as search-error
 use Rattle.chain_build.specs.Causes.{MeetsTooMany}
-use Rattle.replay_core.specs.Replayed.{Run, Ended, IsCutShort, StoppedAt, StoppedIn}
+use Rattle.replay_core.specs.Given.{HasGiven, IsLeft}
+use Rattle.replay_core.specs.Replayed.{Run, Ended, IsCutShort, StoppedAt, StoppedByLimit}
 use Rattle.replay_core.specs.Traffic.{text_of}
 use Rattle.replay_core.specs.declared.error.ReplayError.{ReplayError}
 use Rattle.replay_core.specs.declared.error.ReplayError.TheVariants as error
 use Rattle.replay_core.specs.declared.status.Status.{Status}
 use Rattle.replay_core.specs.declared.status.Status.TheVariants as status
-use Rattle.vkreplay.specs.Outcome.{Completed, DidNothing, EndsAs, EndsBefore, EndsChain, EndsRun, EndsUnder, Keeps, LeftTrace, Process, ShowEnds, Tells, TellsFiles, TellsTrace, reports_kept}
-use Rattle.vkreplay.specs.Output.{Answer, IsAnswer, chain_output, end_status, large_output, manifests_output, output_at, output_of, replay_output, run_output, shown_output, shown_so, stopped_output}
+use Rattle.vkreplay.specs.Outcome.{Completed, DidNothing, EndsAs, EndsBefore, EndsChain, EndsRun, EndsUnder, IsLimited, Keeps, LeftTrace, Process, ShowEnds, Tells, TellsFiles, TellsTrace, reports_kept}
+use Rattle.vkreplay.specs.Output.{Answer, IsAnswer, chain_output, end_status, limit_of, manifests_output, output_at, output_of, replay_output, run_output, shown_output, shown_so, stopped_output}
 use Rattle.vkreplay.specs.Said.{Said, IsSilent, fault_line, limit_line}
 use Rattle.vkreplay.specs.Showing.{ChainRun, IsSetupOf, Search, Shows, ShowsSetup, WroteAll, WroteNothing, search_of, search_stop, shown_lines, shown_outcome}
 use Rattle.vkreplay.specs.Statuses.{line_of, status_of, words_line, words_status}
@@ -50,11 +49,11 @@ under_refused s run errs e st cut is said = subst (λ (t : Status). EndsUnder s 
     go error.Read cut said = record { cut = cut; said = said }
     go error.Write cut said = record { cut = cut; said = said }
     go (error.Trace line fault) cut said = record { line = line; fault = fault; stopped = record { cut = cut; said = said } }
-    go (error.Limit which.Names) cut said = inl (record { cut = cut; said = said })
-    go (error.Limit which.Chain) cut said = inr (record { cut = cut; said = said })
+    go (error.Limit which.Lines) cut said = record { cause = Lines; which = which.Lines; limit = refl; stopped = record { cut = cut; said = said } }
+    go (error.Limit which.LineBytes) cut said = record { cause = LineBytes; which = which.LineBytes; limit = refl; stopped = record { cut = cut; said = said } }
+    go (error.Limit which.Names) cut said = record { cause = Names; which = which.Names; limit = refl; stopped = record { cut = cut; said = said } }
+    go (error.Limit which.Chain) cut said = record { cause = Layers; which = which.Chain; limit = refl; stopped = record { cut = cut; said = said } }
     go (error.Limit which.Manifests) cut said = absurd cut
-    go (error.Limit which.Lines) cut said = absurd cut
-    go (error.Limit which.LineBytes) cut said = absurd cut
     go (error.Limit which.Events) cut said = absurd cut
     go (error.Limit which.Devices) cut said = absurd cut
     go error.NoMemory cut said = record { cut = cut; said = said }
@@ -125,39 +124,20 @@ gave_all bs bytes (Some more) given spent =
     let same : bs ≡ bytes ++ more = cc in
     sym (same ∙ (ap (λ ys. bytes ++ ys) spent ∙ append-nil bytes))
 
--- what it gave was no more than it had
-gave_some : (bs bytes : List ℕ) (left : Option (List ℕ)) → Some bs ≡ before bytes left → length bytes ≤ length bs
-gave_some bs bytes None given = cc
-gave_some bs bytes (Some more) given =
-    let same : bs ≡ bytes ++ more = cc in
-    omega (arith, ap length same, length-append bytes more)
-
 -- a failure of an object is a count that rose
 rose : (before now : ℕ) → now ≡ raised before → Rose before now
 rose before now failed = omega (arith, failed)
 
-module _ (s : Setup) (errs : Change) (bs : List ℕ) where
-  -- what isn't too large is answered by its stop
-  small_gives : (sink : Change) (st : Status) → length bs ≤ MOST_BYTES → IsAnswer (output_at s (stop s bs) (events_of s bs)) st sink errs → IsAnswer (replay_output s bs) st sink errs
-  small_gives sink st small gives =
-      let is : nat_lt MOST_BYTES (length bs) ≡ false = grind arith in
-      subst (λ (b : Bool). IsAnswer (cond b large_output (output_at s (stop s bs) (events_of s bs))) st sink errs) (sym is) gives
-
-  -- and what is too large is left
-  large_gives : (sink : Change) (st : Status) → MOST_BYTES < length bs → IsAnswer large_output st sink errs → IsAnswer (replay_output s bs) st sink errs
-  large_gives sink st large gives =
-      let is : nat_lt MOST_BYTES (length bs) ≡ true = grind arith in
-      subst (λ (b : Bool). IsAnswer (cond b large_output (output_at s (stop s bs) (events_of s bs))) st sink errs) (sym is) gives
-
--- a trace that nothing stops isn't too large
-not_large : (s : Setup) (bs : List ℕ) → stop s bs ≡ None → length bs ≤ MOST_BYTES
-not_large s bs none = go (nat_lt MOST_BYTES (length bs)) refl
+-- what a source that tells has in all
+has_all : (source : Change) (bs bytes : List ℕ) (count : ℕ) → source.old ≡ Some bs → HasGiven source bytes count → bytes ≡ bs
+has_all source bs bytes count told has = go source.new has.taken has.left
   where
-    go : (b : Bool) → nat_lt MOST_BYTES (length bs) ≡ b → length bs ≤ MOST_BYTES
-    go false is = grind (arith, is)
-    go true is =
-        let stops : stop s bs ≡ Some too_large = ap (λ (b : Bool). cond b (Some too_large) (stop_in s (lines_of bs))) is in
-        absurd (none-some too_large (sym none ∙ stops))
+    go : (left : Option (List ℕ)) → source.old ≡ before (has.given ++ has.ahead) left → IsLeft left has.later → bytes ≡ bs
+    go None taken is = let none : Some bs ≡ before (has.given ++ has.ahead) None = sym told ∙ taken in cc
+    go (Some more) taken is =
+        let whole : Some bs ≡ before (has.given ++ has.ahead) (Some more) = sym told ∙ taken in
+        let same : bs ≡ (has.given ++ has.ahead) ++ more = cc in
+        has.whole ∙ (ap (λ ys. (has.given ++ has.ahead) ++ ys) is ∙ sym same)
 
 -- a replay that ended
 ended_gives : (s : Setup) (run : Run) (errs : Change) (x : Option Kept) (bs : List ℕ) → run.source.old ≡ Some bs → Completed s x run errs → IsAnswer (replay_output s bs) (end_status (reports_kept x)) run.traffic.sink errs
@@ -166,44 +146,48 @@ ended_gives s run errs x bs told done =
     let same : e.bytes ≡ bs = gave_all bs e.bytes run.source.new (sym told ∙ e.read.given) e.read.spent in
     let none : stop s bs ≡ None = ap (stop s) (sym same) ∙ e.none in
     let Whole : List ℕ → Type 0 = λ b. IsAnswer (output_at s None (events_of s b)) (end_status (reports_kept x)) run.traffic.sink errs in
-    small_gives s errs bs run.traffic.sink (end_status (reports_kept x)) (not_large s bs none)
-    (subst (λ (o : Option Stop). IsAnswer (output_at s o (events_of s bs)) (end_status (reports_kept x)) run.traffic.sink errs) (sym none)
+    subst (λ (o : Option Stop). IsAnswer (output_at s o (events_of s bs)) (end_status (reports_kept x)) run.traffic.sink errs) (sym none)
     (subst Whole same (record {
       status = ap end_status (counted s x e.stands.kept e.stands.shows ∙ e.stands.stands.reports);
       wrote = e.wrote;
       said = inl (record { stood = done.silent.stood; gained = done.silent.same ∙ sym (grown_nil errs.old) });
-    })))
-
--- a trace that was read whole isn't too large
-not_more : (s : Setup) (place : Stop) (run : Run) (stopped : StoppedIn s place run) → length stopped.bytes ≤ MOST_BYTES
-not_more s place run stopped = stopped.size
+    }))
 
 -- a replay that stopped is answered so
-stopped_gives : (s : Setup) (place : Stop) (run : Run) (errs : Change) (bs : List ℕ) (st : Status) → run.source.old ≡ Some bs → StoppedIn s place run
+stopped_gives : (s : Setup) (place : Stop) (run : Run) (errs : Change) (bs : List ℕ) (st : Status) → run.source.old ≡ Some bs → StoppedAt s place run
     → st ≡ (stopped_output s place.line place.cause []).status → Said (stopped_output s place.line place.cause []).said errs → IsAnswer (replay_output s bs) st run.traffic.sink errs
 stopped_gives s place run errs bs st told stopped is said =
-    let same : stopped.bytes ≡ bs = gave_all bs stopped.bytes run.source.new (sym told ∙ stopped.read.given) stopped.read.spent in
+    let same : stopped.bytes ≡ bs = has_all run.source bs stopped.bytes place.line told stopped.read in
     let here : stop s bs ≡ Some place = ap (stop s) (sym same) ∙ stopped.here in
     let wrote : Gained run.traffic.sink (text_of s (events_of s bs)) = stopped.wrote ∙ ap (λ b. grown run.traffic.sink.old (text_of s (events_of s b))) same in
-    let small : length bs ≤ MOST_BYTES = subst (λ (b : List ℕ). length b ≤ MOST_BYTES) same (not_more s place run stopped) in
-    small_gives s errs bs run.traffic.sink st small
-    (subst (λ (o : Option Stop). IsAnswer (output_at s o (events_of s bs)) st run.traffic.sink errs) (sym here) (go place.cause is said wrote))
+    subst (λ (o : Option Stop). IsAnswer (output_at s o (events_of s bs)) st run.traffic.sink errs) (sym here) (go place.cause is said wrote)
   where
     go : (cause : Cause) → st ≡ (stopped_output s place.line cause []).status → Said (stopped_output s place.line cause []).said errs → Gained run.traffic.sink (text_of s (events_of s bs))
         → IsAnswer (stopped_output s place.line cause (events_of s bs)) st run.traffic.sink errs
     go (Fault f) is said wrote = record { status = is; wrote = wrote; said = said }
+    go Lines is said wrote = record { status = is; wrote = wrote; said = said }
+    go LineBytes is said wrote = record { status = is; wrote = wrote; said = said }
     go Names is said wrote = record { status = is; wrote = wrote; said = said }
     go Layers is said wrote = record { status = is; wrote = wrote; said = said }
 
 -- a fault is answered so
 fault_gives : (s : Setup) (line : ℕ) (fault : TraceFault) (run : Run) (errs : Change) (bs : List ℕ) → run.source.old ≡ Some bs → StoppedAt s (at_fault line fault) run
     → Said (fault_line line fault) errs → IsAnswer (replay_output s bs) status.Malformed run.traffic.sink errs
-fault_gives s line fault run errs bs told (inl stopped) said = stopped_gives s (at_fault line fault) run errs bs status.Malformed told stopped refl said
-fault_gives s line fault run errs bs told (inr size) said =
-    let large : MOST_BYTES < length bs = omega (arith, size.large.large, gave_some bs size.large.bytes run.source.new (sym told ∙ size.large.given)) in
-    let same : fault_line line fault ≡ large_output.said = ap (λ (p : Stop). (stopped_output s p.line p.cause []).said) size.first in
-    large_gives s errs bs run.traffic.sink status.Malformed large
-    (record { status = refl; wrote = size.untouched.sink ∙ sym (grown_nil run.traffic.sink.old); said = subst (λ (l : List ℕ). Said l errs) same said })
+fault_gives s line fault run errs bs told stopped said = stopped_gives s (at_fault line fault) run errs bs status.Malformed told stopped refl said
+
+-- and so is a limit
+limit_gives : (s : Setup) (run : Run) (errs : Change) (bs : List ℕ) → run.source.old ≡ Some bs → IsLimited s run errs → IsAnswer (replay_output s bs) status.Limit run.traffic.sink errs
+limit_gives s run errs bs told limited = go limited.cause limited.which limited.limit limited.stopped.cut limited.stopped.said
+  where
+    stops : (c : Cause) (cut : StoppedByLimit s c run) → status.Limit ≡ (stopped_output s cut.line c []).status → Said (stopped_output s cut.line c []).said errs → IsAnswer (replay_output s bs) status.Limit run.traffic.sink errs
+    stops c cut is said = stopped_gives s (record { line = cut.line; cause = c }) run errs bs status.Limit told cut.stopped is said
+
+    go : (c : Cause) (w : Which) → limit_of c ≡ Some w → StoppedByLimit s c run → Said (limit_line w) errs → IsAnswer (replay_output s bs) status.Limit run.traffic.sink errs
+    go (Fault f) w is cut said = cc
+    go Lines w is cut said = let same : which.Lines ≡ w = cc in stops Lines cut refl (subst (λ (v : Which). Said (limit_line v) errs) (sym same) said)
+    go LineBytes w is cut said = let same : which.LineBytes ≡ w = cc in stops LineBytes cut refl (subst (λ (v : Which). Said (limit_line v) errs) (sym same) said)
+    go Names w is cut said = let same : which.Names ≡ w = cc in stops Names cut refl (subst (λ (v : Which). Said (limit_line v) errs) (sym same) said)
+    go Layers w is cut said = let same : which.Chain ≡ w = cc in stops Layers cut refl (subst (λ (v : Which). Said (limit_line v) errs) (sym same) said)
 
 -- the reports of a session that ended, as a status
 clean : (n : ℕ) → n ≡ 0 → end_status n ≡ status.Clean
@@ -224,10 +208,7 @@ under_gives s p status.Reported (Some x) done bs tells =
 under_gives s p status.Malformed None done bs tells = inl (fault_gives s done.line done.fault p.run p.errs bs tells.told done.stopped.cut done.stopped.said)
 under_gives s p status.ReadFault None done bs tells = absurd (tells.source (rose p.run.source.faults_before p.run.source.faults done.cut.failed))
 under_gives s p status.WriteFault None done bs tells = absurd (tells.sink (rose p.run.traffic.sink.faults_before p.run.traffic.sink.faults done.cut.failed))
-under_gives s p status.Limit None (inl done) bs tells =
-    inl (stopped_gives s (record { line = done.cut.line; cause = Names }) p.run p.errs bs status.Limit tells.told done.cut.stopped refl done.said)
-under_gives s p status.Limit None (inr done) bs tells =
-    inl (stopped_gives s (record { line = done.cut.line; cause = Layers }) p.run p.errs bs status.Limit tells.told done.cut.stopped refl done.said)
+under_gives s p status.Limit None done bs tells = inl (limit_gives s p.run p.errs bs tells.told done)
 under_gives s p status.NoMemory None done bs tells = inr refl
 under_gives s p other session done bs tells = absurd done
 

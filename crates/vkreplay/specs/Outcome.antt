@@ -8,17 +8,18 @@ use Rattle.program_words.specs.Words.{Word}
 use Rattle.replay_base.specs.Changes.{Change, Stood, IsUnmoved}
 use Rattle.replay_base.specs.Faults.{Rose}
 use Rattle.replay_base.specs.Files.{File}
+use Rattle.replay_base.specs.declared.limit.Which.{Which}
 use Rattle.replay_base.specs.declared.limit.Which.TheVariants as which
 use Rattle.trace_format.specs.declared.fault.TraceFault.{TraceFault}
 use Rattle.replay_model.specs.Setup.{Setup}
-use Rattle.replay_model.specs.Stop.{Names, Layers, at_fault}
+use Rattle.replay_model.specs.Stop.{Cause, at_fault}
 use Rattle.chain_session.specs.declared.kept.Kept.{Kept}
 use Rattle.replay_core.specs.Replayed.{Run, Ended, StoppedAt, StoppedByLimit, NotRead, BrokeIn, RanOutOf, IsUntouched}
 use Rattle.replay_core.specs.declared.error.ReplayError.{ReplayError}
 use Rattle.replay_core.specs.declared.error.ReplayError.TheVariants as error
 use Rattle.replay_core.specs.declared.status.Status.{Status}
 use Rattle.replay_core.specs.declared.status.Status.TheVariants as status
-use Rattle.vkreplay.specs.Output.{IsAnswer, output}
+use Rattle.vkreplay.specs.Output.{IsAnswer, limit_of, output}
 use Rattle.vkreplay.specs.Said.{Said, IsSilent, fault_line, limit_line, usage_line, read_fault_line, write_fault_line, no_memory_line}
 use Rattle.vkreplay.specs.Showing.{ChainRun, MetTooMany, Search, Shows, TreeFailed, TreeSeen, UnderSetup, chain_run, search_of}
 use Rattle.vkreplay.specs.Statuses.{line_of}
@@ -73,15 +74,22 @@ pub record IsMalformed (s : Setup) (run : Run) (errs : Change) : Type 0 where
   pub fault : TraceFault
   pub stopped : CutShort (StoppedAt s (at_fault line fault)) (fault_line line fault) run errs
 
+-- the trace passes a limit, which was said
+pub record IsLimited (s : Setup) (run : Run) (errs : Change) : Type 0 where
+  pub cause : Cause
+  pub which : Which
+  pub limit : limit_of cause ≡ Some which
+  pub stopped : CutShort (StoppedByLimit s cause) (limit_line which) run errs
+
 -- How a replay under a setup ends. A session comes back exactly where it came to its end: without a report the status is Clean, else Reported. Any other
 -- status has its cause.
 abbrev pub EndsUnder : Setup → Run → Change → Status → Option (Option Kept) → Type 0
 EndsUnder s run errs status.Clean (Some session) = Completed s session run errs × (reports_kept session ≡ 0)
 EndsUnder s run errs status.Reported (Some session) = Completed s session run errs × (reports_kept session ≢ 0)
 EndsUnder s run errs status.Malformed None = IsMalformed s run errs
-EndsUnder s run errs status.ReadFault None = CutShort NotRead read_fault_line run errs
+EndsUnder s run errs status.ReadFault None = CutShort (NotRead s) read_fault_line run errs
 EndsUnder s run errs status.WriteFault None = CutShort (BrokeIn s) write_fault_line run errs
-EndsUnder s run errs status.Limit None = CutShort (StoppedByLimit s Names) (limit_line which.Names) run errs ⊎ CutShort (StoppedByLimit s Layers) (limit_line which.Chain) run errs
+EndsUnder s run errs status.Limit None = IsLimited s run errs
 EndsUnder s run errs status.NoMemory None = CutShort (RanOutOf s) no_memory_line run errs
 EndsUnder s run errs other session = ⊥
 

@@ -1,6 +1,6 @@
 -- What the program writes, how it ends and what it says, as a function of its words, the variables, the files and the trace's bytes.
 -- Source: this project.
-use Rattle.std.specs.Prelude.{◌≡◌, ◌++◌, ◌==◌, nat_le, nat_lt, Bool, true, false, ℕ, if◌then◌else◌, Option, Some, None, List, [], length}
+use Rattle.std.specs.Prelude.{◌≡◌, ◌++◌, ◌==◌, nat_le, Bool, true, false, ℕ, if◌then◌else◌, Option, Some, None, List, []}
 use Rattle.std.specs.List.{concat}
 use Rattle.env_filters.specs.Variables.{Variable}
 use Rattle.layer_search.specs.Paths.{most_paths}
@@ -10,14 +10,13 @@ use Rattle.program_words.specs.Asked.{Asked, AsksChain, AsksRun, ChainAsked, Run
 use Rattle.program_words.specs.Words.{Word}
 use Rattle.replay_base.specs.Files.{File}
 use Rattle.trace_format.specs.Content.{TraceEvent}
-use Rattle.trace_format.specs.declared.fault.TraceFault.TheVariants as fault
 use Rattle.replay_base.specs.Changes.{Change, Gained}
+use Rattle.replay_base.specs.declared.limit.Which.{Which}
 use Rattle.replay_base.specs.declared.limit.Which.TheVariants as which
-use Rattle.replay_model.specs.declared.TheConstants.{MOST_BYTES}
 use Rattle.replay_model.specs.Judged.{judged}
 use Rattle.replay_model.specs.Setup.{Setup, is_too_long}
 use Rattle.replay_model.specs.Text.{reports_in}
-use Rattle.replay_model.specs.Stop.{Stop, Cause, Fault, Names, Layers, stop, events_of}
+use Rattle.replay_model.specs.Stop.{Stop, Cause, Fault, LineBytes, Lines, Names, Layers, stop, events_of}
 use Rattle.report_text.specs.Setups.{trace_setup}
 use Rattle.replay_core.specs.Traffic.{text_of, end_line_of}
 use Rattle.replay_core.specs.declared.status.Status.{Status}
@@ -39,9 +38,19 @@ end_status reports = if reports == 0 then status.Clean else status.Reported
 abbrev pub whole_output : Setup → List TraceEvent → Answer
 whole_output s events = record { bytes = text_of s events ++ end_line_of s events; status = end_status (reports_in (judged s events)); said = [] }
 
+-- the limit that a trace passes where it stops for this cause
+abbrev pub limit_of : Cause → Option Which
+limit_of Lines = Some which.Lines
+limit_of LineBytes = Some which.LineBytes
+limit_of (Fault f) = None
+limit_of Names = Some which.Names
+limit_of Layers = Some which.Chain
+
 -- a trace with a stop: the text of the lines before it, and no end line
 abbrev pub stopped_output : Setup → ℕ → Cause → List TraceEvent → Answer
 stopped_output s line (Fault f) events = record { bytes = text_of s events; status = status.Malformed; said = fault_line line f }
+stopped_output s line Lines events = record { bytes = text_of s events; status = status.Limit; said = limit_line which.Lines }
+stopped_output s line LineBytes events = record { bytes = text_of s events; status = status.Limit; said = limit_line which.LineBytes }
 stopped_output s line Names events = record { bytes = text_of s events; status = status.Limit; said = limit_line which.Names }
 stopped_output s line Layers events = record { bytes = text_of s events; status = status.Limit; said = limit_line which.Chain }
 
@@ -50,13 +59,9 @@ abbrev pub output_at : Setup → Option Stop → List TraceEvent → Answer
 output_at s None events = whole_output s events
 output_at s (Some place) events = stopped_output s place.line place.cause events
 
--- the answer to a trace of more bytes than are replayed, which is left before the notes
-abbrev pub large_output : Answer
-large_output = record { bytes = []; status = status.Malformed; said = fault_line 1 fault.NotBuilt }
-
 -- the answer to a trace of these bytes under a setup
 abbrev pub replay_output : Setup → List ℕ → Answer
-replay_output s bytes = if nat_lt MOST_BYTES (length bytes) then large_output else output_at s (stop s bytes) (events_of s bytes)
+replay_output s bytes = output_at s (stop s bytes) (events_of s bytes)
 
 -- the answer to words that aren't understood
 abbrev pub usage_output : Answer

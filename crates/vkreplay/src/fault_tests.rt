@@ -63,12 +63,14 @@ impl Sink for ByteSink {
     }
 }
 
-// The calls of a run whose source fails behind so many bytes, and whose sink fails behind so many.
+// How a run ends whose source fails behind so many bytes, and whose sink fails behind so many; and how many bytes were read of the
+// source.
 #[derive(Drop)]
 struct Cut {
     status: Status,
     out: Vec<u8>,
     told: usize,
+    read: usize,
 }
 
 fn source_at(alloc: Global, fails_at: usize) -> Result<ByteSource, AllocError> {
@@ -130,6 +132,7 @@ fn cut_of(
         status,
         out: out.bytes,
         told,
+        read: trace.at,
     }
 }
 
@@ -141,23 +144,57 @@ fn cut_run(alloc: Global, read: usize, written: usize) -> Result<Cut, Fail> {
     Ok(cut_of(alloc, &words, tree, trace, errs, written))
 }
 
+fn lines_in(text: &[u8]) -> usize {
+    text.iter().filter(|byte| **byte == b'\n').count()
+}
+
+// How many lines are written, and how many calls the driver is told, by the number of lines of the trace.
+const WRITTEN_BY: [usize; 12] = [0, 0, 2, 3, 3, 4, 4, 5, 5, 6, 7, 8];
+
+const TOLD_BY: [usize; 12] = [0, 0, 1, 1, 2, 2, 3, 3, 4, 4, 4, 4];
+
 #[test]
-fn a_source_that_fails_leaves_nothing(rt: HostRuntime) -> Result<(), Fail> {
+fn a_source_that_fails_leaves_its_whole_lines(rt: HostRuntime) -> Result<(), Fail> {
     for read in 0..=TWICE.len() {
         let cut = cut_run(rt.alloc(), read, TWICE_TEXT.len())?;
+        let lines = lines_in(&TWICE.as_bytes()[..read]);
         assert_eq!(rt; cut.status, Status::ReadFault);
-        assert_eq!(rt; cut.out.len(), 0);
-        assert_eq!(rt; cut.told, 0);
+        assert!(rt; TWICE_TEXT.as_bytes().starts_with(&cut.out), "{read}");
+        assert!(rt; cut.out.is_empty() || cut.out.ends_with(b"\n"), "{read}");
+        assert_eq!(rt; Some(&lines_in(&cut.out)), WRITTEN_BY.get(lines));
+        assert_eq!(rt; Some(&cut.told), TOLD_BY.get(lines));
     }
     Ok(())
 }
 
 // The driver is told a call before its line is written, the first before the two lines of the chain, and four calls in all.
 fn told_behind(text: &[u8]) -> usize {
-    let lines = text.iter().filter(|byte| **byte == b'\n').count();
-    lines.saturating_sub(1).max(1).min(4)
+    lines_in(text).saturating_sub(1).max(1).min(4)
 }
 
+// The line of the trace in whose text the sink failed: the first by which more lines are written than stand there, or the last.
+fn line_of_cut(text: &[u8]) -> usize {
+    let whole = lines_in(text);
+    WRITTEN_BY
+        .iter()
+        .position(|written| *written > whole)
+        .unwrap_or(11)
+}
+
+// How many bytes the first lines of the trace have.
+fn size_of_lines(count: usize) -> usize {
+    let mut size: usize = 0;
+    let mut lines: usize = 0;
+    for byte in TWICE.as_bytes() {
+        if lines < count {
+            size = size.saturating_add(1);
+            lines = lines.saturating_add(usize::from(*byte == b'\n'));
+        }
+    }
+    size
+}
+
+// A source of one byte a call has given no byte behind the line in whose text the sink failed.
 #[test]
 fn a_sink_that_fails_has_a_front_of_the_text(rt: HostRuntime) -> Result<(), Fail> {
     for written in 0..TWICE_TEXT.len() {
@@ -168,6 +205,7 @@ fn a_sink_that_fails_has_a_front_of_the_text(rt: HostRuntime) -> Result<(), Fail
             "{written}"
         );
         assert_eq!(rt; cut.told, told_behind(&cut.out));
+        assert_eq!(rt; cut.read, size_of_lines(line_of_cut(&cut.out)));
     }
     Ok(())
 }

@@ -63,8 +63,8 @@ const ELSEWHERE: (&str, &str) = (
 
 const CHECKED: (&str, &str) = ("VK_INSTANCE_LAYERS", "VK_LAYER_KHRONOS_validation");
 
-// The words, the files and the variables, the trace, how many letters follow it, and the numbers of the first call of the
-// source and the sink that fails; and what the run must answer, print and say.
+// The words, the files and the variables, the trace, how many of a letter follow it, and what follows them, and the numbers of the
+// first call of the source and the sink that fails; and what the run must answer, print and say.
 #[derive(Clone, Copy)]
 struct Run<'a> {
     words: &'a str,
@@ -72,6 +72,8 @@ struct Run<'a> {
     env: Pairs,
     trace: &'a str,
     letters: usize,
+    letter: u8,
+    tail: &'a str,
     read_fails: u64,
     write_fails: u64,
     status: Status,
@@ -85,11 +87,25 @@ const CLEAN: Run<'static> = Run {
     env: &[],
     trace: FIRST,
     letters: 0,
+    letter: b'x',
+    tail: "",
     read_fails: 0,
     write_fails: 0,
     status: Status::Clean,
     out: FIRST_TEXT,
     errs: "",
+};
+
+// The front of a line of 41 bytes and the payload behind them.
+const COMMAS: &str = "vktrace 1\nb 1 vkCreateInstance = %1.1 VK_SUCCESS : ";
+
+const TOO_LONG: Run<'static> = Run {
+    trace: "vktrace 1\n",
+    letters: 65_537,
+    status: Status::Limit,
+    out: "",
+    errs: "vkreplay: limit LineBytes 65536\n",
+    ..CLEAN
 };
 
 const MALFORMED: Run<'static> = Run {
@@ -98,7 +114,7 @@ const MALFORMED: Run<'static> = Run {
     ..CLEAN
 };
 
-static RUNS: [Run<'static>; 31] = [
+static RUNS: [Run<'static>; 36] = [
     CLEAN,
     Run {
         trace: "vktrace 1",
@@ -259,10 +275,9 @@ static RUNS: [Run<'static>; 31] = [
     },
     Run {
         files: &[DRIVER, UNVERSIONED],
-        trace: "vktrace 1\n",
-        letters: 1_048_567,
-        errs: "vkreplay: line 1: NotBuilt\n",
-        ..MALFORMED
+        letters: 65_537,
+        out: "note NoVersion /etc/vulkan/icd.d/c.json\n",
+        ..TOO_LONG
     },
     // The manifests are those of the words' root.
     Run {
@@ -278,18 +293,42 @@ static RUNS: [Run<'static>; 31] = [
         out: "chain 1 no-driver\nret 1 vkCreateInstance VK_ERROR_INCOMPATIBLE_DRIVER born=0\nend calls=1 skipped=1 reports=0\n",
         ..CLEAN
     },
-    // 1,048,576 bytes are read line by line, and one more isn't.
+    // A line has at most 65,536 bytes, also the header and a last line, and a longer one is no fault.
     Run {
         trace: "vktrace 1\n",
-        letters: 1_048_566,
+        letters: 65_536,
         errs: "vkreplay: line 2: Letter\n",
         ..MALFORMED
     },
     Run {
-        trace: "vktrace 1\n",
-        letters: 1_048_567,
-        errs: "vkreplay: line 1: NotBuilt\n",
+        trace: "",
+        letters: 65_536,
+        errs: "vkreplay: line 1: Header\n",
         ..MALFORMED
+    },
+    TOO_LONG,
+    Run {
+        tail: "\nr 1\n",
+        ..TOO_LONG
+    },
+    Run {
+        trace: "",
+        ..TOO_LONG
+    },
+    Run {
+        trace: COMMAS,
+        letters: 65_495,
+        letter: b',',
+        tail: "\nr 1",
+        out: "chain 1 ok layers=0 parts=0 drivers=1\ndriver 1 /etc/vulkan/icd.d/a.json libvulkan_a.so\nret 1 vkCreateInstance VK_SUCCESS born=1\nend calls=1 skipped=0 reports=0\n",
+        ..CLEAN
+    },
+    Run {
+        trace: COMMAS,
+        letters: 65_496,
+        letter: b',',
+        tail: "\nr 1",
+        ..TOO_LONG
     },
 ];
 
@@ -301,9 +340,10 @@ pub fn words_of(alloc: Global, text: &str) -> Result<Vec<String>, Fail> {
     Ok(words)
 }
 
-fn bytes_of(alloc: Global, text: &str, letters: usize) -> Result<Vec<u8>, AllocError> {
-    let mut bytes = Vec::from_slice(alloc, text.as_bytes())?;
-    bytes.resize(bytes.len().saturating_add(letters), b'x')?;
+fn bytes_of(alloc: Global, run: &Run) -> Result<Vec<u8>, AllocError> {
+    let mut bytes = Vec::from_slice(alloc, run.trace.as_bytes())?;
+    bytes.resize(bytes.len().saturating_add(run.letters), run.letter)?;
+    bytes.extend_from_slice(run.tail.as_bytes())?;
     Ok(bytes)
 }
 
@@ -339,7 +379,7 @@ fn streams_of(alloc: Global, run: &Run) -> Result<Streams, Fail> {
 
 fn source_of(alloc: Global, run: &Run) -> Result<MemSource, AllocError> {
     let fails = vec![in alloc; run.read_fails]?;
-    Ok(MemSource::new(bytes_of(alloc, run.trace, run.letters)?, fails))
+    Ok(MemSource::new(bytes_of(alloc, run)?, fails))
 }
 
 // The streams of a run that doesn't fail.
