@@ -171,7 +171,7 @@ const APART: Row = Row {
     ..REPORTED
 };
 
-pub static ROWS: [Row; 26] = [
+pub static FIRST_ROWS: [Row; 7] = [
     Row {
         start: NOTHING,
         events: &[],
@@ -285,6 +285,9 @@ pub static ROWS: [Row; 26] = [
         ],
         ..REPORTED
     },
+];
+
+pub static SECOND_ROWS: [Row; 7] = [
     // Two names of one queue, used by two threads at once: the queue's last value is told.
     Row {
         events: &[
@@ -398,7 +401,6 @@ pub static ROWS: [Row; 26] = [
         ],
         ..REPORTED
     },
-    // A frame without a fault.
     Row {
         events: &[
             "b 1 vkGetDeviceQueue %1.3 = %1.4 void : 0,0",
@@ -481,6 +483,9 @@ pub static ROWS: [Row; 26] = [
         ],
         ..REPORTED
     },
+];
+
+pub static THIRD_ROWS: [Row; 6] = [
     // Two drivers, each asked for its physical devices; a manifest with a fault is noted.
     Row {
         files: &[DRIVER, SECOND_DRIVER, UNVERSIONED],
@@ -640,6 +645,9 @@ pub static ROWS: [Row; 26] = [
         ],
         ..BARE
     },
+];
+
+pub static LAST_ROWS: [Row; 6] = [
     // The images of a swapchain on a surface: the first stands for one object both times, and its last value is told.
     Row {
         events: &[
@@ -666,7 +674,6 @@ pub static ROWS: [Row; 26] = [
         ],
         ..PLAIN
     },
-    // A queue is known by what was asked for.
     Row {
         events: &[
             "b 1 vkGetDeviceQueue %1.3 = %1.4 void : 0,0",
@@ -689,7 +696,6 @@ pub static ROWS: [Row; 26] = [
         ],
         ..PLAIN
     },
-    // A creation that failed.
     Row {
         events: &[
             "b 1 vkCreateBuffer %1.3 = %1.4 VK_ERROR_OUT_OF_HOST_MEMORY",

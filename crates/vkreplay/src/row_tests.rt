@@ -3,7 +3,7 @@ ghost use Rattle.std.specs.Prelude.{IsTrue};
 ghost use Rattle.model_driver.specs.Driver.{are_handles};
 
 use crate::case_tests::all_calls;
-use crate::row_table::{ROWS, Row};
+use crate::row_table::{FIRST_ROWS, LAST_ROWS, Row, SECOND_ROWS, THIRD_ROWS};
 use crate::tests::{run_set, streams_over};
 use model_driver::{AdverseDriver, Driver, ModelDriver, RecordingDriver};
 use std::alloc::{AllocError, Global};
@@ -61,57 +61,64 @@ fn prints<D: Driver>(
     Ok(())
 }
 
-#[test]
-fn each_row_prints_its_text_and_tells_its_calls(rt: HostRuntime) -> Result<(), Fail> {
-    let alloc = rt.alloc();
-    for row in ROWS.iter() {
-        let mut driver = RecordingDriver::new(alloc, ModelDriver::new(alloc));
-        prints(&rt, alloc, row, &mut driver)?;
-        let told = lines_of(alloc, row.start.told, row.told)?;
-        let calls = all_calls(alloc, driver.log())?;
-        assert!(rt; calls.as_slice() == told.as_bytes(), "{told}");
-    }
+// A row under the model driver, whose calls must be as they stand there.
+fn tells(rt: &impl Abort, alloc: Global, row: &Row) -> Result<(), Fail> {
+    let mut driver = RecordingDriver::new(alloc, ModelDriver::new(alloc));
+    prints(rt, alloc, row, &mut driver)?;
+    let told = lines_of(alloc, row.start.told, row.told)?;
+    let calls = all_calls(alloc, driver.log())?;
+    assert!(rt; calls.as_slice() == told.as_bytes(), "{told}");
     Ok(())
 }
 
-// Whatever handles are answered, the text is the same. Behind these a driver answers 1.
-fn other_handles(rt: &impl Abort, alloc: Global, handles: &[u64]) -> Result<(), Fail>
+// A row under a driver that answers these handles, and 1 behind them: the text is the same.
+fn prints_under(rt: &impl Abort, alloc: Global, row: &Row, handles: &[u64]) -> Result<(), Fail>
     requires { IsTrue (are_handles handles.now) }
 {
-    for row in ROWS.iter() {
-        let mut driver = AdverseDriver::new(Vec::from_slice(alloc, handles)?);
-        prints(rt, alloc, row, &mut driver)?;
+    let mut driver = AdverseDriver::new(Vec::from_slice(alloc, handles)?);
+    prints(rt, alloc, row, &mut driver)
+}
+
+// One handle for all; the greatest one for all; one for each object; those that the layer for unique handles counts itself; and
+// these in another order.
+fn prints_under_each(rt: &impl Abort, alloc: Global, row: &Row) -> Result<(), Fail> {
+    const M: u64 = u64::MAX;
+    prints_under(rt, alloc, row, &[1])?;
+    prints_under(rt, alloc, row, &[M, M, M, M, M, M, M, M, M, M, M, M])?;
+    prints_under(
+        rt,
+        alloc,
+        row,
+        &[109, 108, 107, 106, 105, 104, 103, 102, 101],
+    )?;
+    prints_under(rt, alloc, row, &[1, 2, 3, 4, 5, 6, 7, 8, 9, 10, 11, 12])?;
+    prints_under(rt, alloc, row, &[2, 1, 4, 3, 6, 5, 8, 7, 10, 9, 12, 11])
+}
+
+fn all_hold(rt: &impl Abort, alloc: Global, rows: &[Row]) -> Result<(), Fail> {
+    for row in rows {
+        tells(rt, alloc, row)?;
+        prints_under_each(rt, alloc, row)?;
     }
     Ok(())
 }
 
 #[test]
-fn one_handle_for_all_changes_no_text(rt: HostRuntime) -> Result<(), Fail> {
-    other_handles(&rt, rt.alloc(), &[1])
+fn the_first_rows_hold_under_each_driver(rt: HostRuntime) -> Result<(), Fail> {
+    all_hold(&rt, rt.alloc(), &FIRST_ROWS)
 }
 
 #[test]
-fn the_greatest_handle_for_all_changes_no_text(rt: HostRuntime) -> Result<(), Fail> {
-    const M: u64 = u64::MAX;
-    other_handles(&rt, rt.alloc(), &[M, M, M, M, M, M, M, M, M, M, M, M])
+fn the_second_rows_hold_under_each_driver(rt: HostRuntime) -> Result<(), Fail> {
+    all_hold(&rt, rt.alloc(), &SECOND_ROWS)
 }
 
 #[test]
-fn a_handle_for_each_object_changes_no_text(rt: HostRuntime) -> Result<(), Fail> {
-    other_handles(
-        &rt,
-        rt.alloc(),
-        &[112, 111, 110, 109, 108, 107, 106, 105, 104, 103, 102, 101],
-    )
-}
-
-// The part that gives unique handles counts from 1 itself.
-#[test]
-fn the_handles_of_the_layer_itself_change_no_text(rt: HostRuntime) -> Result<(), Fail> {
-    other_handles(&rt, rt.alloc(), &[1, 2, 3, 4, 5, 6, 7, 8, 9, 10, 11, 12])
+fn the_third_rows_hold_under_each_driver(rt: HostRuntime) -> Result<(), Fail> {
+    all_hold(&rt, rt.alloc(), &THIRD_ROWS)
 }
 
 #[test]
-fn the_handles_of_the_layer_in_another_order_change_no_text(rt: HostRuntime) -> Result<(), Fail> {
-    other_handles(&rt, rt.alloc(), &[2, 1, 4, 3, 6, 5, 8, 7, 10, 9, 12, 11])
+fn the_last_rows_hold_under_each_driver(rt: HostRuntime) -> Result<(), Fail> {
+    all_hold(&rt, rt.alloc(), &LAST_ROWS)
 }
