@@ -1,5 +1,5 @@
 // A sink in memory.
-ghost use Rattle.std.specs.Prelude.{◌≡◌, ◌<◌, ◌-◌, ◌||◌, length, min, Some, IfOk, [], is_err, nat_le};
+ghost use Rattle.std.specs.Prelude.{◌≡◌, ◌<◌, ◌-◌, ◌||◌, length, min, Some, Ok, IfOk, [], is_err, nat_le};
 ghost use Rattle.replay_base.specs.Bytes.{TakesSome, Takes};
 ghost use Rattle.replay_base.specs.Faults.{HasCause, raised};
 ghost use Rattle.replay_base.specs.Memory.{SinkState, is_listed};
@@ -77,5 +77,12 @@ impl Sink for MemSink {
         let count = piece.len().min(self.room - self.bytes.len());
         self.bytes.extend_from_slice(&piece[..count]).unwrap();
         Ok(count)
+    }
+
+    fn flush(&mut self) -> Result<(), Failed>
+        ensures same { self.new ≡ self.old }
+        ensures ok { result ≡ Ok tt }
+    {
+        Ok(())
     }
 }

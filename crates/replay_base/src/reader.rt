@@ -218,7 +218,7 @@ impl<S: Source + Drop> LineReader<S> {
     /// What `advance` answers, where a whole line is kept, at the end or after an error; else none, and nothing is changed. It never asks
     /// the source, so a caller that would do something before the source lets it wait can do it at none.
     pub fn advance_kept(&mut self) -> Option<Result<Line, LineError>>
-        ensures kept { MatchOption result ((self.new ≡ self.old) × HasNoFeed (kept_of self.old)) (λ found. Reads (state_of S.left S.faults self.old) (state_of S.left S.faults self.new) found (line_of self.new)) }
+        ensures kept { MatchOption result ((self.new ≡ self.old) × HasNoFeed (kept_of self.old) × (self.old.error ≡ None) × (self.old.finished ≡ false)) (λ found. Reads (state_of S.left S.faults self.old) (state_of S.left S.faults self.new) found (line_of self.new)) }
         ensures source { self.new.source ≡ self.old.source }
         ensures ahead { length (kept_of self.new) ≤ MOST + 1 }
     {

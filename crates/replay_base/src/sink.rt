@@ -13,11 +13,20 @@ pub trait Sink {
     /// How often it has failed.
     ghost faults: { Self → ℕ };
 
+    /// How many of its bytes it hasn't handed on yet to where they go.
+    ghost held_back: { Self → ℕ } = { λ _. 0 };
+
     /// Takes 1 to all bytes of the piece, from its front, and none at a fault.
     fn write(&mut self, piece: &[u8]) -> Result<usize, Failed>
         requires { 0 < length piece.now }
         ensures count { TakesSome result piece.now }
         ensures bytes { Takes (held self.old) (held self.new) result piece.now }
+        ensures cause { HasCause (faults self.old) (faults self.new) result };
+
+    /// Hands on what the sink holds back. What it holds is the same before and after, also at a fault.
+    fn flush(&mut self) -> Result<(), Failed>
+        ensures held { held self.new ≡ held self.old }
+        ensures none { OnOk result (held_back self.new ≡ 0) }
         ensures cause { HasCause (faults self.old) (faults self.new) result };
 }
 
