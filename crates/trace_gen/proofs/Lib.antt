@@ -2,3 +2,4 @@ pub mod TurnLemmas
 pub mod TextLemmas
 pub mod WriteLemmas
 pub mod AcceptedLemmas
+pub mod StopLemmas

@@ -5,3 +5,4 @@ pub mod Writing
 pub mod Given
 pub mod Rows
 pub mod Accepted
+pub mod Stops
