@@ -66,6 +66,8 @@ options_from known given (Some name) [] = None
 abbrev pub commands : List (Word × List Word)
 commands = (codes "run", codes "root" ∷ codes "driver" ∷ codes "exe" ∷ [])
     ∷ (codes "chain", codes "root" ∷ codes "exe" ∷ codes "layers" ∷ [])
+    ∷ (codes "gen", codes "number" ∷ codes "calls" ∷ [])
+    ∷ (codes "soak", codes "root" ∷ codes "driver" ∷ codes "exe" ∷ codes "number" ∷ codes "calls" ∷ [])
     ∷ []
 
 -- the options of a command

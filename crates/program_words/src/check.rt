@@ -10,6 +10,10 @@ pub(crate) static RUN_OPTIONS: [&str; 3] = ["root", "driver", "exe"];
 
 pub(crate) static CHAIN_OPTIONS: [&str; 3] = ["root", "exe", "layers"];
 
+pub(crate) static GEN_OPTIONS: [&str; 2] = ["number", "calls"];
+
+pub(crate) static SOAK_OPTIONS: [&str; 5] = ["root", "driver", "exe", "number", "calls"];
+
 /// The options of a command.
 pub(crate) fn options_of(command: &str) -> Option<&'static [&'static str]>
     ensures { option_map (λ s. known_of s.now) result ≡ options_of command.now }
@@ -18,6 +22,10 @@ pub(crate) fn options_of(command: &str) -> Option<&'static [&'static str]>
         Some(RUN_OPTIONS.as_slice())
     } else if command == "chain" {
         Some(CHAIN_OPTIONS.as_slice())
+    } else if command == "gen" {
+        Some(GEN_OPTIONS.as_slice())
+    } else if command == "soak" {
+        Some(SOAK_OPTIONS.as_slice())
     } else {
         None
     }

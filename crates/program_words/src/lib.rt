@@ -4,8 +4,10 @@
 #![tactic(auto)]
 
 mod check;
+mod laws;
 mod read;
 #[cfg(test)]
 mod tests;
 
-pub use read::{ChainWords, Request, RunWords, WordsError, read_words};
+pub use laws::a_number_is_its_spelling;
+pub use read::{ChainWords, GenWords, Request, RunWords, SoakWords, WordsError, read_words};

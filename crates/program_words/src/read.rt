@@ -1,19 +1,23 @@
 // The words by `clap`.
-ghost use Rattle.std.specs.Prelude.{◌≡◌, [], ◌∷◌, false, is_some, Some, None, IfOk, IfErr, MatchResult, map, codes, option_map, true};
+ghost use Rattle.std.specs.Prelude.{◌≡◌, ◌≤◌, [], ◌∷◌, false, is_some, Some, None, IfOk, IfErr, IfSome, MatchResult, map, codes, option_map, true};
 ghost use Rattle.clap.specs.Words.{app_of, rule_of, rows_of, found_of, subcommand_rows_of, with_subcommand};
 ghost use Rattle.clap.specs.declared.builder.command.Command.TheViews.{out-Command};
+ghost use Rattle.trace_gen.specs.declared.turns.TheConstants.{MOST_CALLS as MOST};
 ghost use Rattle.program_words.specs.Content.{known_of, word_if_any, words_of};
-ghost use Rattle.program_words.specs.Meant.{chain_meant, meant, run_meant};
-ghost use Rattle.program_words.specs.Asked.{asked_of, chain_asked_of, policy_named, policy_of, run_of, words_ask};
+ghost use Rattle.program_words.specs.Meant.{chain_meant, gen_meant, meant, run_meant, soak_meant};
+ghost use Rattle.program_words.specs.Asked.{HasFewTurns, asked_of, chain_asked_of, gen_of, has_leading_zero, is_digits, is_numeral, number_given, number_up_to, policy_named, policy_of, run_of, soak_of, words_ask};
 ghost use Rattle.program_words.specs.Words.{understood, value_given, value_or_empty, Word, GivenOptions};
 ghost use Rattle.program_words.specs.Program.{alone, long_rule, new_leaf, program, option_row};
 
-use crate::check::{CHAIN_OPTIONS, RUN_OPTIONS, options_from, options_of};
+use crate::check::{
+    CHAIN_OPTIONS, GEN_OPTIONS, RUN_OPTIONS, SOAK_OPTIONS, options_from, options_of,
+};
 use clap::error::ErrorKind;
 use clap::{Arg, ArgMatches, Command};
 use model_driver::Policy;
 use std::alloc::{AllocError, Global};
 use thiserror::Error;
+use trace_gen::MOST_CALLS;
 
 /// The settings of a replay.
 #[derive(Clone, Copy)]
@@ -36,6 +40,22 @@ pub struct ChainWords<'a> {
     pub layers: &'a str,
 }
 
+/// The settings of a trace that is generated.
+#[derive(Clone, Copy)]
+pub struct GenWords {
+    /// What the trace is made from.
+    pub number: u64,
+    /// How many turns it has.
+    pub calls: u32,
+}
+
+/// The settings of a replay of a generated trace.
+#[derive(Clone, Copy)]
+pub struct SoakWords<'a> {
+    pub run: RunWords<'a>,
+    pub made: GenWords,
+}
+
 /// What a list of words asks for.
 #[derive(Clone, Copy)]
 pub enum Request<'a> {
@@ -43,6 +63,10 @@ pub enum Request<'a> {
     Run(RunWords<'a>),
     /// To show the chain of layers.
     Chain(ChainWords<'a>),
+    /// To generate a trace.
+    Gen(GenWords),
+    /// To replay a generated trace.
+    Soak(SoakWords<'a>),
 }
 
 /// Why words were not read.
@@ -98,7 +122,9 @@ fn program<'a>(alloc: Global) -> Result<Command<'a>, AllocError>
         .disable_help_flag(true)
         .disable_help_subcommand(true);
     let top = with_command(top, alloc, "run", RUN_OPTIONS.as_slice())?;
-    with_command(top, alloc, "chain", CHAIN_OPTIONS.as_slice())
+    let top = with_command(top, alloc, "chain", CHAIN_OPTIONS.as_slice())?;
+    let top = with_command(top, alloc, "gen", GEN_OPTIONS.as_slice())?;
+    with_command(top, alloc, "soak", SOAK_OPTIONS.as_slice())
 }
 
 // Whether the words are understood.
@@ -188,23 +214,91 @@ fn chain_words<'a>(options: &ArgMatches<'a>) -> ChainWords<'a>
     }
 }
 
+// Whether other digits follow a first `0`.
+fn has_leading_zero(word: &str) -> bool
+    ensures { result ≡ has_leading_zero word.now }
+{
+    let bytes = word.as_bytes();
+    bytes.len() > 1 && bytes[0] == b'0'
+}
+
+fn is_digits(word: &str) -> bool
+    ensures { result ≡ is_digits word.now }
+{
+    word.as_bytes().iter().all(|byte| byte.is_ascii_digit())
+}
+
+// Whether a word is one digit or more, without a leading zero.
+fn is_numeral(word: &str) -> bool
+    ensures { result ≡ is_numeral word.now }
+{
+    !word.is_empty() && is_digits(word) && !has_leading_zero(word)
+}
+
+// The number that a word spells, if it is at most `most`.
+fn number_up_to(most: u64, word: &str) -> Option<u64>
+    ensures { result ≡ number_up_to most word.now }
+{
+    if !is_numeral(word) {
+        return None;
+    }
+    match word.parse::<u64>() {
+        Ok(number) if number <= most => Some(number),
+        _ => None,
+    }
+}
+
+// The number that an option gives, if it is at most `most`.
+fn number_given(options: &ArgMatches<'_>, most: u64, name: &str) -> Option<u64>
+    ensures number { (given : GivenOptions) → rows_of (found_of options.now) ≡ map option_row given → result ≡ number_given most name.now given }
+    ensures most { IfSome result (λ number. number ≤ most) }
+{
+    number_up_to(most, value_given(options, name)?)
+}
+
+fn gen_words(options: &ArgMatches<'_>) -> Option<GenWords>
+    ensures words { (given : GivenOptions) → rows_of (found_of options.now) ≡ map option_row given → option_map gen_meant result ≡ gen_of given }
+    ensures few { IfSome result (λ made. made.calls ≤ MOST) }
+{
+    let number = number_given(options, u64::MAX, "number")?;
+    let calls = number_given(options, u64::from(MOST_CALLS), "calls")?;
+    Some(GenWords {
+        number,
+        calls: calls as u32,
+    })
+}
+
+fn soak_words<'a>(options: &ArgMatches<'a>) -> Option<SoakWords<'a>>
+    ensures words { (given : GivenOptions) → rows_of (found_of options.now) ≡ map option_row given → option_map soak_meant result ≡ soak_of given }
+    ensures few { IfSome result (λ soak. soak.made.calls ≤ MOST) }
+{
+    let run = run_words(options)?;
+    let made = gen_words(options)?;
+    Some(SoakWords { run, made })
+}
+
 fn request_of<'a>(command: &str, options: &ArgMatches<'a>) -> Option<Request<'a>>
-    ensures { (given : GivenOptions) → rows_of (found_of options.now) ≡ map option_row given → option_map meant result ≡ asked_of command.now given }
+    ensures words { (given : GivenOptions) → rows_of (found_of options.now) ≡ map option_row given → option_map meant result ≡ asked_of command.now given }
+    ensures few { IfSome result (λ request. HasFewTurns (meant request)) }
 {
     match command {
         "run" => Some(Request::Run(run_words(options)?)),
-        _ => Some(Request::Chain(chain_words(options))),
+        "chain" => Some(Request::Chain(chain_words(options))),
+        "gen" => Some(Request::Gen(gen_words(options)?)),
+        "soak" => Some(Request::Soak(soak_words(options)?)),
+        _ => None,
     }
 }
 
 /// Reads the words of a command line, without the program's name: a command, and then its options in any order, each at most
 /// once, as `--name VALUE` or `--name=VALUE`. A value isn't empty, and as a word of its own it doesn't begin with `-`. There is
-/// no help option.
+/// no help option. A number is digits alone, without a leading zero; the two numbers of `gen` and `soak` may not be left out.
 ///
 /// `Usage` comes for every other list of words; `NoMemory` may come for any.
 pub fn read_words<'a>(alloc: Global, words: &'a [String]) -> Result<Request<'a>, WordsError>
     // What is read is what the words ask for, and words are refused only where they are not understood. Only memory is free.
-    ensures { MatchResult result (λ r. words_ask (words_of words.now) ≡ Some (meant r)) (λ e. e ≡ WordsError.Usage → words_ask (words_of words.now) ≡ None) }
+    ensures words { MatchResult result (λ r. words_ask (words_of words.now) ≡ Some (meant r)) (λ e. e ≡ WordsError.Usage → words_ask (words_of words.now) ≡ None) }
+    ensures few { IfOk result (λ r. HasFewTurns (meant r)) }
 {
     match is_read(alloc, words) {
         Ok(true) => {}

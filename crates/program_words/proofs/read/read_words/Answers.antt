@@ -19,8 +19,8 @@ second p = p.1
 abbrev by_pair : Word × GivenOptions → Option Asked
 by_pair p = asked_of p.0 p.1
 
-pub returns-in_default : goal.returns-in_default
-returns-in_default c e = go (understood (words_of c.args.words.now)) refl
+pub returns-in_default-clause-words : goal.returns-in_default-clause-words
+returns-in_default-clause-words c e = go (understood (words_of c.args.words.now)) refl
   where
     go : (o : Option (Word × GivenOptions)) → understood (words_of c.args.words.now) ≡ o → option_and_then by_pair (understood (words_of c.args.words.now)) ≡ None
     go None is = ap (option_and_then by_pair) is
