@@ -13,3 +13,4 @@ pub mod Walked
 pub mod Below
 pub mod Sweeping
 pub mod Listing
+pub mod SeenQueues

@@ -1,5 +1,5 @@
 -- The links between records.
-use Rattle.std.proofs.Common.{◌≡◌, ◌≤◌, ◌<◌, ◌∙◌, ◌&&◌, ◌||◌, ◌==◌, ◌+◌, ◌-◌, ℕ, zero, suc, cond, Bool, true, false, Option, Some, None, List, [], ◌∷◌, ◌++◌, length, take, get_or, refl, sym, ap, arith, length-append, eq-eqb}
+use Rattle.std.proofs.Common.{◌≡◌, ◌≤◌, ◌<◌, ◌∙◌, ◌&&◌, ◌||◌, ◌==◌, ◌+◌, ◌-◌, ℕ, zero, suc, cond, Bool, true, false, Option, Some, None, List, [], ◌∷◌, ◌++◌, length, take, get_or, refl, sym, ap, subst, arith, length-append, eq-eqb}
 use Rattle.std.specs.Prelude.{filter, nat_lt, slice_get}
 use Rattle.std.specs.Option.{option_map_or}
 use Rattle.std.proofs.Math.ListN.{set}
@@ -10,7 +10,7 @@ use Rattle.object_records.specs.declared.kept_owner.KeptOwner.{KeptOwner}
 use Rattle.object_records.specs.declared.kept_owner.KeptOwner.TheVariants.{Nobody, At, Unborn}
 use Rattle.object_records.specs.declared.links.Links.{Links}
 use Rattle.object_records.specs.declared.record.ObjectRecord.{ObjectRecord}
-use Rattle.object_records.specs.Links.{AreFew, AreLinked, HasChild, IsLinked, IsPrevious, child_count, is_child_of, has_strays_in, is_owner_at, is_unborn, last_from, last_link, last_of, link_by, linked, linked_at, unlinked, unlinked_at}
+use Rattle.object_records.specs.Links.{AreFew, AreLinked, HasChild, IsLinked, IsPrevious, child_count, is_child_of, has_strays_in, is_owner_at, is_unborn, last_from, last_link, last_of, link_by, linked, linked_at, unlinked, unlinked_at, with_linked}
 use Rattle.object_records.specs.Table.{LivesAt, AreOwnersBefore, before_owned, ended_at}
 
 -- ---- links read and written
@@ -211,9 +211,9 @@ last_is links rs (At place) are low = go (slice_get links place) refl
     go (Some l) e = (are.each place l e).last
 
 -- a further record is linked, and all others stay so
-pub added_linked : (rs : List ObjectRecord) (links : List Links) (r : ObjectRecord) → AreLinked rs links → AreOwnersBefore 0 rs → before_owned r.owner ≤ length rs
+linked_more : (rs : List ObjectRecord) (links : List Links) (r : ObjectRecord) → AreLinked rs links → AreOwnersBefore 0 rs → before_owned r.owner ≤ length rs
     → AreLinked (rs ++ r ∷ []) (linked links r.owner (suc (length rs)) (r.is_created && r.lives) ++ record { last_owned = 0; previous = last_of links r.owner; children = 0 } ∷ [])
-added_linked rs links r are all low = record {
+linked_more rs links r are all low = record {
   count = omega (arith, length-append next (new ∷ []), long, are.count, length-append rs (r ∷ []));
   each = λ place l e. split place l e (nat_lt place (length rs)) refl;
 }
@@ -263,6 +263,11 @@ added_linked rs links r are all low = record {
         let least : length rs ≤ place = grind (arith, lt) in
         let at : place ≡ length rs = omega (arith, within, length-append next (new ∷ []), long, are.count, least) in
         last place l at (same_Some new l (sym (get_last next new place (omega (arith, at, long, are.count))) ∙ e))
+
+-- the same by the number of links
+pub added_linked : (rs : List ObjectRecord) (links : List Links) (r : ObjectRecord) → AreLinked rs links → AreOwnersBefore 0 rs → before_owned r.owner ≤ length rs → AreLinked (rs ++ r ∷ []) (with_linked links r.owner (r.is_created && r.lives))
+added_linked rs links r are all low =
+    subst (λ (n : ℕ). AreLinked (rs ++ r ∷ []) (linked links r.owner (suc n) (r.is_created && r.lives) ++ record { last_owned = 0; previous = last_of links r.owner; children = 0 } ∷ [])) (sym are.count) (linked_more rs links r are all low)
 
 -- ---- an end
 

@@ -8,13 +8,16 @@ use Rattle.std.specs.Option.{option_map}
 use Rattle.handle_map.specs.Pairs.{AreDistinct, MapEntry, has_pair, is_pair, values_of, with_values}
 use Rattle.object_model.specs.declared.Object.{Object}
 use Rattle.object_model.specs.Objects.{same}
+use Rattle.object_records.specs.declared.kept_owner.KeptOwner.{KeptOwner}
 use Rattle.object_records.specs.declared.record.ObjectRecord.{ObjectRecord}
 use Rattle.object_records.specs.declared.links.Links.{Links}
-use Rattle.object_records.specs.Links.{AreLinked, is_unborn, last_of, linked as linked_by, unlinked}
+use Rattle.object_records.specs.Links.{AreLinked, is_unborn, unlinked, with_linked}
 use Rattle.object_records.specs.Passed.{ArePassed, reopened}
+use Rattle.object_records.specs.Queues.{queue_owner, queues_seen}
 use Rattle.object_records.specs.Table.{AreOnce, AreOwnersBefore, IsTable, LivesAt, before_owned, ended_at, entries_from, objects_kept, place_from, place_in}
 use Rattle.object_records.proofs.Linking.{added_linked, ended_linked, living_read, strays_ended, strays_more}
 use Rattle.object_records.proofs.Passing.{added_passed, ended_passed}
+use Rattle.object_records.proofs.SeenQueues.{added_queues, ended_queues}
 
 -- what the index has under a pair is the place
 indexed_from : (k : ℕ) (rs : List ObjectRecord) (o : Object) → values_of (entries_from k rs) o.ty o.number ≡ option_map (λ place. place ∷ []) (place_from k (objects_kept rs) o)
@@ -100,50 +103,43 @@ ended_owners k (r ∷ rs) (suc place) all = (all.0, ended_owners (suc k) rs plac
 -- ---- the whole table
 
 -- what a further record makes of each part
-pub record Adds (rs next : List ObjectRecord) (es entries : List (MapEntry (List ℕ))) (links links' : List Links) (passed passed' : List ℕ) (strays strays' : Bool) (r : ObjectRecord) : Type 0 where
+pub record Adds (rs next : List ObjectRecord) (es entries : List (MapEntry (List ℕ))) (links links' queues queues' : List Links) (passed passed' : List ℕ) (strays strays' : Bool) (r : ObjectRecord) : Type 0 where
   pub records_are : next ≡ rs ++ r ∷ []
   pub place : ℕ
   pub place_is : place ≡ length rs
   pub entries_are : entries ≡ with_values es r.object.ty r.object.number (place ∷ [])
-  pub linked : List Links
-  pub link : ℕ
-  pub link_is : link ≡ suc (length rs)
   pub child : Bool
   pub child_is : child ≡ (r.is_created && r.lives)
-  pub linked_are : linked ≡ linked_by links r.owner link child
-  pub previous : ℕ
-  pub previous_is : previous ≡ last_of links r.owner
-  pub links_are : links' ≡ linked ++ record { last_owned = 0; previous = previous; children = 0 } ∷ []
+  pub links_are : links' ≡ with_linked links r.owner child
+  pub owner : KeptOwner
+  pub owner_is : owner ≡ queue_owner r
+  pub queues_are : queues' ≡ with_linked queues owner false
   pub passed_are : passed' ≡ reopened rs passed r.owner ++ 0 ∷ []
   pub stray_is : strays' ≡ (strays || is_unborn r.owner)
 
 -- with a further record all parts fit
-pub added_table : (rs next : List ObjectRecord) (es entries : List (MapEntry (List ℕ))) (links links' : List Links) (passed passed' : List ℕ) (strays strays' : Bool) (r : ObjectRecord) → IsTable rs es links passed strays → place_in rs r.object ≡ None → before_owned r.owner ≤ length rs
-    → Adds rs next es entries links links' passed passed' strays strays' r → IsTable next entries links' passed' strays'
-added_table rs next es entries links links' passed passed' strays strays' r table new low adds =
-    subst (λ (xs : List ObjectRecord). IsTable xs entries links' passed' strays') (sym adds.records_are) (record {
+pub added_table : (rs next : List ObjectRecord) (es entries : List (MapEntry (List ℕ))) (links links' queues queues' : List Links) (passed passed' : List ℕ) (strays strays' : Bool) (r : ObjectRecord) → IsTable rs es links queues passed strays → place_in rs r.object ≡ None
+    → before_owned r.owner ≤ length rs → Adds rs next es entries links links' queues queues' passed passed' strays strays' r → IsTable next entries links' queues' passed' strays'
+added_table rs next es entries links links' queues queues' passed passed' strays strays' r table new low adds =
+    subst (λ (xs : List ObjectRecord). IsTable xs entries links' queues' passed' strays') (sym adds.records_are) (record {
       indexed = adds.entries_are ∙ added_last es rs r adds.place table.indexed adds.place_is new;
       owners = owners_last rs r table.owners low;
-      linked = subst (λ (ls : List Links). AreLinked (rs ++ r ∷ []) ls) (sym links_is) (added_linked rs links r table.linked table.owners low);
+      linked = subst (λ (ls : List Links). AreLinked (rs ++ r ∷ []) ls) (sym (adds.links_are ∙ ap (λ u. with_linked links r.owner u) adds.child_is)) (added_linked rs links r table.linked table.owners low);
+      queued = subst (λ (ls : List Links). AreLinked (queues_seen (rs ++ r ∷ [])) ls) (sym (adds.queues_are ∙ ap (λ (w : KeptOwner). with_linked queues w false) adds.owner_is)) (added_queues rs queues r table.queued table.owners low);
       passing = subst (λ (ns : List ℕ). ArePassed (rs ++ r ∷ []) ns) (sym adds.passed_are) (added_passed rs passed r table.passing low);
       stray = adds.stray_is ∙ (ap (λ u. u || is_unborn r.owner) table.stray ∙ sym (strays_more rs r));
     })
-  where
-    links_is : links' ≡ linked_by links r.owner (suc (length rs)) (r.is_created && r.lives) ++ record { last_owned = 0; previous = last_of links r.owner; children = 0 } ∷ []
-    links_is =
-        adds.links_are
-        ∙ (ap (λ (ls : List Links). ls ++ record { last_owned = 0; previous = adds.previous; children = 0 } ∷ []) (adds.linked_are ∙ (ap (λ n. linked_by links r.owner n adds.child) adds.link_is ∙ ap (λ u. linked_by links r.owner (suc (length rs)) u) adds.child_is))
-        ∙ ap (λ (n : ℕ). linked_by links r.owner (suc (length rs)) (r.is_created && r.lives) ++ record { last_owned = 0; previous = n; children = 0 } ∷ []) adds.previous_is)
 
 -- after an end all parts fit
-pub ended_table : (rs : List ObjectRecord) (es : List (MapEntry (List ℕ))) (links links' : List Links) (passed : List ℕ) (strays : Bool) (place : ℕ) (r written : ObjectRecord) → IsTable rs es links passed strays → LivesAt rs place
-    → r ≡ get_or rs place r → written ≡ get_or rs place written → links' ≡ cond r.is_created (unlinked links r.owner) links → IsTable (set rs place (record written { lives = false })) es links' passed strays
-ended_table rs es links links' passed strays place r written table lives is was links_are =
+pub ended_table : (rs : List ObjectRecord) (es : List (MapEntry (List ℕ))) (links links' queues : List Links) (passed : List ℕ) (strays : Bool) (place : ℕ) (r written : ObjectRecord) → IsTable rs es links queues passed strays → LivesAt rs place
+    → r ≡ get_or rs place r → written ≡ get_or rs place written → links' ≡ cond r.is_created (unlinked links r.owner) links → IsTable (set rs place (record written { lives = false })) es links' queues passed strays
+ended_table rs es links links' queues passed strays place r written table lives is was links_are =
     let at = living_read rs place r is lives in
-    subst (λ (xs : List ObjectRecord). IsTable xs es links' passed strays) (sym (written_ended rs place written was)) (record {
+    subst (λ (xs : List ObjectRecord). IsTable xs es links' queues passed strays) (sym (written_ended rs place written was)) (record {
       indexed = table.indexed ∙ sym (ended_index 0 rs place);
       owners = ended_owners 0 rs place table.owners;
       linked = subst (λ (ls : List Links). AreLinked (ended_at rs place) ls) (sym links_are) (ended_linked rs links place r table.linked at.1 at.2);
+      queued = ended_queues rs queues place r table.queued at.1 at.2;
       passing = ended_passed rs passed place table.passing;
       stray = table.stray ∙ sym (strays_ended rs place);
     })

@@ -1,5 +1,6 @@
 pub mod Shape
 pub mod Links
 pub mod Passed
+pub mod Queues
 pub mod Table
 pub mod Records

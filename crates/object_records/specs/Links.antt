@@ -1,5 +1,5 @@
 -- How what an object owns is found from its record: the links between records, and the count of children. Source: this project.
-use Rattle.std.specs.Prelude.{◌≡◌, ◌≤◌, ◌<◌, ℕ, zero, suc, ◌+◌, ◌-◌, ◌==◌, Bool, true, false, ◌&&◌, if◌then◌else◌, Some, List, [], ◌∷◌, length, filter, map, take, slice_get, slice_index_or}
+use Rattle.std.specs.Prelude.{◌≡◌, ◌≤◌, ◌<◌, ℕ, zero, suc, ◌+◌, ◌-◌, ◌==◌, Bool, true, false, ◌&&◌, if◌then◌else◌, Some, List, [], ◌∷◌, ◌++◌, length, filter, map, take, slice_get, slice_index_or}
 use Rattle.std.specs.List.{list_any}
 use Rattle.std.specs.Option.{option_map_or}
 use Rattle.command_tables.specs.declared.types.ObjectType.{ObjectType}
@@ -101,6 +101,10 @@ abbrev pub linked : List Links → KeptOwner → ℕ → Bool → List Links
 linked links Nobody link child = links
 linked links (At place) link child = linked_at links place link child
 linked links (Unborn o) link child = links
+
+-- a further record that is linked, with its own links
+abbrev pub with_linked : List Links → KeptOwner → Bool → List Links
+with_linked links owner child = linked links owner (suc (length links)) child ++ record { last_owned = 0; previous = last_of links owner; children = 0 } ∷ []
 
 -- a child less at a place
 abbrev pub unlinked_at : List Links → ℕ → List Links

@@ -11,6 +11,7 @@ use Rattle.object_records.specs.declared.links.Links.{Links}
 use Rattle.object_records.specs.declared.record.ObjectRecord.{ObjectRecord}
 use Rattle.object_records.specs.Links.{AreLinked, has_strays_in}
 use Rattle.object_records.specs.Passed.{ArePassed}
+use Rattle.object_records.specs.Queues.{queues_seen}
 
 -- all records, the oldest first, and how many further ones can be held with no further memory
 pub record TableState : Type 0 where
@@ -33,11 +34,12 @@ abbrev pub AreOwnersBefore : ℕ → List ObjectRecord → Type 0
 AreOwnersBefore k [] = Unit {0}
 AreOwnersBefore k (r ∷ rs) = (before_owned r.owner ≤ k) × AreOwnersBefore (suc k) rs
 
--- the index, the links, what is passed over and the note of unborn owners fit the records, and their owners stand before them
-pub record IsTable (records : List ObjectRecord) (entries : List (MapEntry (List ℕ))) (links : List Links) (passed : List ℕ) (strays : Bool) : Type 0 where
+-- the index, the links, those between queues, what is passed over and the note of unborn owners fit the records, and their owners stand before them
+pub record IsTable (records : List ObjectRecord) (entries : List (MapEntry (List ℕ))) (links queues : List Links) (passed : List ℕ) (strays : Bool) : Type 0 where
   pub indexed : entries ≡ entries_from 0 records
   pub owners : AreOwnersBefore 0 records
   pub linked : AreLinked records links
+  pub queued : AreLinked (queues_seen records) queues
   pub passing : ArePassed records passed
   pub stray : strays ≡ has_strays_in records
 

@@ -10,6 +10,7 @@ mod links;
 mod living;
 mod look_ups;
 mod passed;
+mod queues;
 mod reading;
 mod record;
 mod record_table;

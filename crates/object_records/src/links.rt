@@ -1,10 +1,12 @@
 // How what an object owns is found.
-ghost use Rattle.std.specs.Prelude.{◌≡◌, ◌≤◌, true, ◌&&◌, length, if◌then◌else◌, vec_capacity};
-ghost use Rattle.object_records.specs.Links.{AreFew, HasChild, last_of, linked, unlinked};
+ghost use Rattle.std.specs.Prelude.{◌≡◌, ◌≤◌, ◌<◌, ◌+◌, true, ◌&&◌, length, if◌then◌else◌, vec_capacity};
+ghost use Rattle.object_records.specs.Links.{AreFew, HasChild, last_of, linked, unlinked, with_linked};
+ghost use Rattle.object_records.specs.Queues.{queue_owner};
 ghost use Rattle.object_records.specs.Table.{before_owned};
 
 use crate::kept_owner::KeptOwner;
 use crate::record::ObjectRecord;
+use command_tables::ObjectType;
 
 /// What is kept at an object of those that it owns, and the way on to the others of its own owner.
 #[derive(Clone, Copy)]
@@ -30,8 +32,20 @@ pub fn may_be_child(kept: ObjectRecord) -> bool
     kept.is_created && kept.lives
 }
 
-/// The owner of a further record links to it, and counts it where it is a child. Tells to which record it linked before.
-pub fn link_owner(links: &mut Vec<Links>, owner: KeptOwner, link: usize, is_child: bool) -> usize
+/// The owner of a queue's record; anything else has none here.
+#[tactic(auto, unfolding(command_tables::specs::Tests::same_type))]
+pub fn queue_owner(kept: ObjectRecord) -> KeptOwner
+    ensures { result ≡ queue_owner kept }
+{
+    if kept.object.ty == ObjectType::Queue {
+        kept.owner
+    } else {
+        KeptOwner::Nobody
+    }
+}
+
+// The owner of a further record links to it, and counts it where it is a child. Tells to which record it linked before.
+fn link_owner(links: &mut Vec<Links>, owner: KeptOwner, link: usize, is_child: bool) -> usize
     requires within { before_owned owner ≤ length links.old.items }
     requires few { AreFew links.old.items }
     ensures links { links.new.items ≡ linked links.old.items owner link is_child }
@@ -51,6 +65,27 @@ pub fn link_owner(links: &mut Vec<Links>, owner: KeptOwner, link: usize, is_chil
             above.last_owned
         }
     }
+}
+
+/// A further record with this owner gets its links, and is counted where it is a child.
+#[tactic(auto, using(crate::proofs::Linking::linked_length))]
+pub fn add_links(links: &mut Vec<Links>, owner: KeptOwner, is_child: bool)
+    requires within { before_owned owner ≤ length links.old.items }
+    requires few { AreFew links.old.items }
+    requires room { length links.old.items < vec_capacity links.old }
+    ensures links { links.new.items ≡ with_linked links.old.items owner is_child }
+    ensures count { length links.new.items ≡ length links.old.items + 1 }
+    ensures room { vec_capacity links.old ≤ vec_capacity links.new }
+{
+    let link = links.len() + 1;
+    let previous = link_owner(links, owner, link, is_child);
+    links
+        .push(Links {
+            last_owned: 0,
+            previous,
+            children: 0,
+        })
+        .unwrap();
 }
 
 // A child of an owner lives no longer.

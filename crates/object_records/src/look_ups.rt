@@ -242,7 +242,7 @@ pub(crate) fn note_owned(
 
 // The objects of a type whose owner is this object are added, looked for from record to record.
 #[tactic(auto, using(crate::proofs::Born::owned_more, crate::proofs::Kept::births_all))]
-fn list_among_all(
+pub(crate) fn list_among_all(
     table: &RecordTable,
     ty: ObjectType,
     owner: Object,
@@ -300,7 +300,7 @@ pub(crate) fn reverse_from(objects: &mut [Object], start: usize)
 }
 
 // The objects of a type whose owner stands at a place are added, in order of birth.
-fn list_linked(
+pub(crate) fn list_linked(
     table: &RecordTable,
     ty: ObjectType,
     place: usize,
@@ -313,23 +313,4 @@ fn list_linked(
     add_linked(table, ty, place, out)?;
     reverse_from(out.as_mut_slice(), start);
     Ok(())
-}
-
-// The objects of a type whose owner is this object are added, in order of birth. Only owners that weren't born have no links.
-#[tactic(auto, using(crate::proofs::Walked::owned_linked, crate::proofs::Kept::place_within))]
-pub(crate) fn list_owned(
-    table: &RecordTable,
-    ty: ObjectType,
-    owner: Object,
-    out: &mut Vec<Object>,
-) -> Result<(), NoMemory>
-    ensures { OnOk result (out.new.items ≡ out.old.items ++ owned_in (births_kept table.now.records) ty owner) }
-{
-    if table.has_strays() {
-        return list_among_all(table, ty, owner, out);
-    }
-    match table.place_of(owner) {
-        None => Ok(()),
-        Some(place) => list_linked(table, ty, place, out),
-    }
 }

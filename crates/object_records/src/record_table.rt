@@ -2,10 +2,11 @@
 ghost use Rattle.std.specs.Prelude.{◌≡◌, ◌≤◌, ◌<◌, ◌+◌, ◌++◌, ◌∷◌, [], length, slice_get, OnOk, Some, None};
 ghost use Rattle.object_records.specs.Links.{IsPrevious, child_count, has_strays_in, last_link};
 ghost use Rattle.object_records.specs.Passed.{IsPassed};
+ghost use Rattle.object_records.specs.Queues.{queues_seen};
 ghost use Rattle.object_records.specs.Table.{LivesAt, AreOnce, AreOwnersBefore, before_owned, ended_at, objects_kept, place_in};
 
 use crate::kept_owner::has_stray;
-use crate::links::{Links, link_owner, may_be_child, unlink};
+use crate::links::{Links, add_links, may_be_child, queue_owner, unlink};
 use crate::passed::reopen;
 use crate::record::ObjectRecord;
 use command_tables::NoMemory;
@@ -22,6 +23,8 @@ pub struct RecordTable {
     // at the place of its id; with many chains the way to it stays short.
     index: HandleMap<4096>,
     links: Vec<Links>,
+    // The links between the queues of each owner alone, since a device may have owned much else. They count no children.
+    queues: Vec<Links>,
     // At each record, before which place what it owns neither lives nor owns anything.
     passed: Vec<usize>,
     // Whether a record has an owner that wasn't born.
@@ -34,9 +37,9 @@ impl Model for RecordTable {
 
     ghost Value = { TableState };
 
-    ghost view = { λ t. record { records = t.records.items; spare = min (min (min (vec_capacity t.records - length t.records.items) (vec_capacity t.links - length t.links.items)) (vec_capacity t.passed - length t.passed.items)) (min t.index.spare t.index.room) } };
+    ghost view = { λ t. record { records = t.records.items; spare = min (min (min (vec_capacity t.records - length t.records.items) (vec_capacity t.links - length t.links.items)) (min (vec_capacity t.queues - length t.queues.items) (vec_capacity t.passed - length t.passed.items))) (min t.index.spare t.index.room) } };
 
-    ghost invariant = { λ t. IsTable t.records.items t.index.entries t.links.items t.passed.items t.has_strays };
+    ghost invariant = { λ t. IsTable t.records.items t.index.entries t.links.items t.queues.items t.passed.items t.has_strays };
 }
 
 impl RecordTable {
@@ -47,6 +50,7 @@ impl RecordTable {
             records: Vec::new(alloc),
             index: HandleMap::new(alloc),
             links: Vec::new(alloc),
+            queues: Vec::new(alloc),
             passed: Vec::new(alloc),
             has_strays: false,
         }
@@ -92,6 +96,7 @@ impl RecordTable {
     {
         self.records.reserve(n)?;
         self.links.reserve(n)?;
+        self.queues.reserve(n)?;
         self.passed.reserve(n)?;
         self.index.reserve(n, 1)
     }
@@ -109,15 +114,8 @@ impl RecordTable {
         self.index
             .insert(added.object.ty, added.object.number, &[place])
             .unwrap();
-        let link = self.records.len() + 1;
-        let previous = link_owner(&mut self.links, added.owner, link, may_be_child(added));
-        self.links
-            .push(Links {
-                last_owned: 0,
-                previous,
-                children: 0,
-            })
-            .unwrap();
+        add_links(&mut self.links, added.owner, may_be_child(added));
+        add_links(&mut self.queues, queue_owner(added), false);
         reopen(&mut self.passed, self.records.as_slice(), added.owner);
         self.passed.push(0).unwrap();
         self.has_strays = has_stray(self.has_strays, added.owner);
@@ -159,6 +157,24 @@ impl RecordTable {
         ensures { IsPrevious self.now.records place result }
     {
         self.links[place].previous
+    }
+
+    /// One more than the place of the latest queue whose owner stands at a place; 0 where there is none.
+    #[tactic(auto, using(crate::proofs::SeenQueues::last_queue_read))]
+    pub fn last_queue(&self, place: usize) -> usize
+        requires { place < length self.now.records }
+        ensures { result ≡ last_link (queues_seen self.now.records) place }
+    {
+        self.queues[place].last_owned
+    }
+
+    /// One more than the place of the queue before one at a place that has the same owner; 0 where there is none.
+    #[tactic(auto, using(crate::proofs::SeenQueues::previous_queue_read))]
+    pub fn previous_queue(&self, place: usize) -> usize
+        requires { place < length self.now.records }
+        ensures { IsPrevious (queues_seen self.now.records) place result }
+    {
+        self.queues[place].previous
     }
 
     /// The object of the record at a place lives no longer.

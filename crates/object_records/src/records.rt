@@ -12,7 +12,7 @@ ghost use Rattle.object_records.specs.Shape.{AreNewOnce, HasParams, arguments_of
 use crate::births::{add_births, owner_for};
 use crate::ends::{end_objects, may_end};
 use crate::record_table::RecordTable;
-use crate::{living, look_ups};
+use crate::{living, look_ups, queues};
 use command_tables::{Effect, LayerCall, NoMemory, ObjectType, OwnerOf, row};
 use object_model::Object;
 use std::alloc::Global;
@@ -91,7 +91,8 @@ impl ObjectRecords {
         look_ups::count_children(&self.table, object)
     }
 
-    /// Adds the objects of a type whose owner is this object, dead ones too, to a list.
+    /// Adds the objects of a type whose owner is this object, dead ones too, to a list. For queues nothing else that it owns is
+    /// looked at.
     pub fn list_owned(
         &self,
         ty: ObjectType,
@@ -100,7 +101,7 @@ impl ObjectRecords {
     ) -> Result<(), NoMemory>
         ensures { OnOk result (out.new.items ≡ out.old.items ++ owned_in self.now.births ty owner) }
     {
-        look_ups::list_owned(&self.table, ty, owner, out)
+        queues::list_owned(&self.table, ty, owner, out)
     }
 
     /// Adds the living objects of a type whose owner is this object to a list. Those that were dead when a call last ended what the

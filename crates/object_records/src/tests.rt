@@ -398,6 +398,70 @@ fn a_free_passes_over_nulls_and_repeats(rt: HostRuntime) -> Result<(), Fail> {
     Ok(())
 }
 
+// What a device owned besides its queues.
+const DEAD_BUFFERS: &[u32] = &[10, 1_000, 50_000];
+
+const FIRST_QUEUE: Object = Object {
+    ty: ObjectType::Queue,
+    number: 10,
+};
+
+const SECOND_QUEUE: Object = Object {
+    ty: ObjectType::Queue,
+    number: 11,
+};
+
+const OTHER_QUEUE: Object = Object {
+    ty: ObjectType::Queue,
+    number: 12,
+};
+
+// A buffer of the first device comes and goes.
+fn pass_buffer(alloc: Global, records: &mut ObjectRecords, handle: u64) -> Result<(), Fail> {
+    bear(alloc, records, CommandId::CreateBuffer, &[&[3]], handle)?;
+    end(alloc, records, CommandId::DestroyBuffer, &[&[3], &[handle]])
+}
+
+// The first device has a queue, so many dead buffers and a further queue; the second has one queue between these two.
+fn with_queues(alloc: Global, buffers: u32) -> Result<ObjectRecords, Fail> {
+    let mut records = two_devices(alloc)?;
+    bear(alloc, &mut records, CommandId::GetDeviceQueue, &[&[3]], 10)?;
+    bear(alloc, &mut records, CommandId::GetDeviceQueue, &[&[7]], 12)?;
+    for i in 0..buffers {
+        pass_buffer(alloc, &mut records, 20 + u64::from(i))?;
+    }
+    bear(alloc, &mut records, CommandId::GetDeviceQueue, &[&[3]], 11)?;
+    Ok(records)
+}
+
+fn has_queues(
+    alloc: Global,
+    records: &ObjectRecords,
+    device: Object,
+    queues: &[Object],
+) -> Result<bool, Fail> {
+    let mut listed = Vec::new(alloc);
+    records
+        .list_owned(ObjectType::Queue, device, &mut listed)
+        .ok()
+        .ok_or("memory")?;
+    Ok(listed.as_slice() == queues)
+}
+
+#[test]
+fn the_queues_of_a_device_are_listed_whatever_else_it_owned(rt: HostRuntime) -> Result<(), Fail> {
+    for i in 0..DEAD_BUFFERS.len() {
+        let mut records = with_queues(rt.alloc(), DEAD_BUFFERS[i])?;
+        assert!(rt; has_queues(rt.alloc(), &records, DEVICE, &[FIRST_QUEUE, SECOND_QUEUE])?);
+        assert!(rt; has_queues(rt.alloc(), &records, OTHER_DEVICE, &[OTHER_QUEUE])?);
+        assert!(rt; has_queues(rt.alloc(), &records, POOL, &[])?);
+        end(rt.alloc(), &mut records, CommandId::DestroyDevice, &[&[3]])?;
+        assert!(rt; has_queues(rt.alloc(), &records, DEVICE, &[FIRST_QUEUE, SECOND_QUEUE])?);
+        assert!(rt; !records.is_alive(SECOND_QUEUE) && records.is_alive(OTHER_QUEUE));
+    }
+    Ok(())
+}
+
 // A destroy, and which of instance, device, pool and a set live after it.
 #[derive(Clone, Copy)]
 struct Ended(CommandId, &'static [&'static [u64]], [bool; 4]);

@@ -1,6 +1,6 @@
 use Rattle.std.proofs.Common.{◌∙◌, ◌++◌, sym, ap, append-nil}
 use Rattle.object_records.proofs.Walked.{none_owned_unborn}
-use Rattle.object_records.proofs.look_ups.list_owned.Goals as goal
+use Rattle.object_records.proofs.queues.list_owned.Goals as goal
 
 pub returns-in-None : goal.returns-in-None
 returns-in-None c =

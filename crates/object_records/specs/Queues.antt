@@ -1,0 +1,19 @@
+-- The records as the links between queues see them. Source: this project.
+use Rattle.std.specs.Prelude.{false, if◌then◌else◌, List, map}
+use Rattle.command_tables.specs.declared.types.ObjectType.TheVariants as ty
+use Rattle.command_tables.specs.Tests.{same_type}
+use Rattle.object_records.specs.declared.kept_owner.KeptOwner.{KeptOwner}
+use Rattle.object_records.specs.declared.kept_owner.KeptOwner.TheVariants.{Nobody}
+use Rattle.object_records.specs.declared.record.ObjectRecord.{ObjectRecord}
+
+-- the owner of a queue; anything else has none here
+abbrev pub queue_owner : ObjectRecord → KeptOwner
+queue_owner r = if same_type r.object.ty ty.Queue then r.owner else Nobody
+
+-- a record with only a queue's owner, and as what is no child
+abbrev pub queue_seen : ObjectRecord → ObjectRecord
+queue_seen r = record r { is_created = false; owner = queue_owner r }
+
+-- all records so
+abbrev pub queues_seen : List ObjectRecord → List ObjectRecord
+queues_seen rs = map queue_seen rs
