@@ -6,7 +6,7 @@ use Rattle.env_filters.specs.Variables.{Variable}
 use Rattle.layer_search.specs.Paths.{most_paths}
 use Rattle.chain_build.specs.Override.{most_met, setup_of}
 use Rattle.chain_build.specs.Setup.{SetupContent}
-use Rattle.program_words.specs.Asked.{Asked, AsksChain, AsksRun, ChainAsked, RunAsked, words_ask}
+use Rattle.program_words.specs.Asked.{Asked, AsksChain, AsksGen, AsksRun, AsksSoak, ChainAsked, GenAsked, RunAsked, SoakAsked, words_ask}
 use Rattle.program_words.specs.Words.{Word}
 use Rattle.replay_base.specs.Files.{File}
 use Rattle.trace_format.specs.Content.{TraceEvent}
@@ -18,6 +18,7 @@ use Rattle.replay_model.specs.Setup.{Setup, is_too_long}
 use Rattle.replay_model.specs.Text.{reports_in}
 use Rattle.replay_model.specs.Stop.{Stop, Cause, Fault, LineBytes, Lines, Names, Layers, stop, events_of}
 use Rattle.report_text.specs.Setups.{trace_setup}
+use Rattle.trace_gen.specs.Text.{generated}
 use Rattle.replay_core.specs.Traffic.{text_of, end_line_of}
 use Rattle.replay_core.specs.declared.status.Status.{Status}
 use Rattle.replay_core.specs.declared.status.Status.TheVariants as status
@@ -90,11 +91,44 @@ abbrev pub run_output : List File → List Variable → RunAsked → List ℕ �
 run_output files env asked bytes =
     if nat_le (most_met files env asked.root asked.exe) most_paths then replay_output (trace_setup (setup_of files env asked.root asked.exe)) bytes else manifests_output
 
+-- the text of the trace that is made
+abbrev pub made_text : GenAsked → List ℕ
+made_text made = generated made.number made.calls
+
+-- the answer where a generated trace is asked for: its text
+abbrev pub gen_output : GenAsked → Answer
+gen_output made = record { bytes = made_text made; status = status.Clean; said = [] }
+
+-- a generated trace that was replayed to its end: its end line alone
+abbrev pub soaked_output : Setup → List TraceEvent → Answer
+soaked_output s events = record { bytes = end_line_of s events; status = end_status (reports_in (judged s events)); said = [] }
+
+-- a generated trace can stop at the limit on layers alone; nothing is written then
+abbrev pub barred_output : Answer
+barred_output = record { bytes = []; status = status.Limit; said = limit_line which.Chain }
+
+-- the answer to a generated trace that stops, or doesn't, with these events up to there
+abbrev pub soaked_at : Setup → Option Stop → List TraceEvent → Answer
+soaked_at s None events = soaked_output s events
+soaked_at s (Some place) events = barred_output
+
+-- the answer to a generated trace of these bytes under a setup
+abbrev pub soak_under : Setup → List ℕ → Answer
+soak_under s bytes = soaked_at s (stop s bytes) (events_of s bytes)
+
+-- the answer where the replay of a generated trace is asked for
+abbrev pub soak_output : List File → List Variable → SoakAsked → Answer
+soak_output files env asked =
+    if nat_le (most_met files env asked.run.root asked.run.exe) most_paths then soak_under (trace_setup (setup_of files env asked.run.root asked.run.exe)) (made_text asked.made)
+    else manifests_output
+
 -- the answer to what is asked for
 abbrev pub output_of : Option Asked → List Variable → List File → List ℕ → Answer
 output_of None env files bytes = usage_output
 output_of (Some (AsksRun asked)) env files bytes = run_output files env asked bytes
 output_of (Some (AsksChain asked)) env files bytes = chain_output files env asked
+output_of (Some (AsksGen made)) env files bytes = gen_output made
+output_of (Some (AsksSoak asked)) env files bytes = soak_output files env asked
 
 -- the answer to these words, with these variables and files, and a trace of these bytes
 abbrev pub output : List Word → List Variable → List File → List ℕ → Answer

@@ -12,11 +12,11 @@ use std::process::Abort;
 use std::test::Fail;
 
 #[derive(Drop)]
-struct ByteSource {
-    bytes: Vec<u8>,
-    at: usize,
-    fails_at: usize,
-    faults: u64,
+pub struct ByteSource {
+    pub bytes: Vec<u8>,
+    pub at: usize,
+    pub fails_at: usize,
+    pub faults: u64,
 }
 
 impl Source for ByteSource {
@@ -60,6 +60,10 @@ impl Sink for ByteSink {
         }
         self.faults = self.faults.saturating_add(1);
         Err(Failed)
+    }
+
+    fn flush(&mut self) -> Result<(), Failed> {
+        Ok(())
     }
 }
 
@@ -144,7 +148,7 @@ fn cut_run(alloc: Global, read: usize, written: usize) -> Result<Cut, Fail> {
     Ok(cut_of(alloc, &words, tree, trace, errs, written))
 }
 
-fn lines_in(text: &[u8]) -> usize {
+pub fn lines_in(text: &[u8]) -> usize {
     text.iter().filter(|byte| **byte == b'\n').count()
 }
 

@@ -1,32 +1,47 @@
 //! `vkreplay chain` shows which layers and drivers the manifests on this machine come to, and `vkreplay run` replays a recorded Vulkan
-//! trace from standard input through such a chain to model drivers.
+//! trace from standard input through such a chain to model drivers. `vkreplay gen` writes a generated trace, and `vkreplay soak` replays it.
 //! Its public call `replay_main` has the promises; `main` hands it the process's words, variables and streams.
 //! What a trace means, how it is replayed and how a chain is built is left to the crates below.
 #![tactic(auto)]
 
+ghost use Rattle.std.specs.Prelude.{◌≡◌, []};
+
+#[cfg(test)]
+mod block_tests;
+mod blocks;
 #[cfg(test)]
 mod case_tests;
 mod chain;
 #[cfg(test)]
 mod chain_tests;
+#[cfg(test)]
+mod cut_tests;
 mod environment;
 #[cfg(test)]
 mod environment_tests;
 #[cfg(test)]
 mod fault_tests;
+mod finish;
+#[cfg(test)]
+mod fuzz_tests;
 mod laws;
 mod process;
 #[cfg(test)]
 mod row_table;
 #[cfg(test)]
 mod row_tests;
+mod run;
 mod say;
 #[cfg(test)]
 mod size_tests;
+mod soak;
+#[cfg(test)]
+mod soak_tests;
 #[cfg(test)]
 mod tests;
 mod top;
 
+use blocks::BlockSink;
 use dispatch_chain::Kit;
 use environment::variables_of;
 use lifetime_layer::LifeState;
@@ -63,12 +78,25 @@ fn invocation(rt: &HostRuntime, alloc: Global) -> Result<Invocation, WordsError>
     }
 }
 
+// How many bytes standard output is given at once.
+const BLOCK_BYTES: usize = 1 << 16;
+
+// Room for a block of output. Where there is no memory for one, each line goes out by itself.
+fn block(alloc: Global) -> Vec<u8>
+    ensures { result.items ≡ [] }
+{
+    match Vec::with_capacity(alloc, BLOCK_BYTES) {
+        Ok(block) => block,
+        Err(_) => Vec::new(alloc),
+    }
+}
+
 fn main(rt: HostRuntime) -> ExitCode {
     let alloc = rt.alloc();
     let given = invocation(&rt, alloc);
     let mut tree = FsTree::new(&rt);
     let mut trace = ReadSource::new(rt.stdin());
-    let mut out = WriteSink::new(rt.stdout());
+    let mut out = BlockSink::new(WriteSink::new(rt.stdout()), block(alloc));
     let mut errs = WriteSink::new(rt.stderr());
     let mut driver = ModelDriver::new(alloc);
     let kit = Kit::new(

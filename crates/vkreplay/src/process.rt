@@ -1,5 +1,5 @@
 // From what the process was started with to its exit status.
-ghost use Rattle.std.specs.Prelude.{◌≡◌, None};
+ghost use Rattle.std.specs.Prelude.{◌≡◌, ◌≢◌, ◌⊎◌, None};
 ghost use Rattle.std.specs.Option.{option_map};
 ghost use Rattle.replay_base.specs.Changes.{changed};
 ghost use Rattle.replay_core.specs.Replayed.{run_of};
@@ -7,7 +7,8 @@ ghost use Rattle.vkreplay.specs.Exits.{Exits, asked_by};
 ghost use Rattle.vkreplay.specs.Outcome.{IsLeftBy};
 ghost use Rattle.vkreplay.specs.Showing.{tree_seen};
 
-use crate::top::{refuse_words, replay_main};
+use crate::finish::refuse_words;
+use crate::top::replay_main;
 use dispatch_chain::Kit;
 use env_filters::EnvList;
 use model_driver::Driver;
@@ -44,6 +45,7 @@ pub fn exit_status<T: Tree, S: Source, K: Sink, L: Sink, D: Driver>(
         let run = run_of source (D.log driver.old) (D.log driver.new) sink in
         let said = changed (L.held errs.old) (L.held errs.new) (L.faults errs.old) (L.faults errs.new) in
         Exits given (record { tree = seen; run = run; errs = said; policy_before = D.answers_by driver.old; policy = D.answers_by driver.new }) result }
+    ensures flushed { result ≢ 5 → (K.held_back out.new ≡ 0) ⊎ (out.new ≡ out.old) }
     ensures tree { IsLeftBy (asked_by given) tree.old tree.new }
 {
     match given {

@@ -26,7 +26,7 @@ fn put_calls(text: &mut String, lines: &[&str]) -> Result<(), AllocError> {
     Ok(())
 }
 
-fn trace_of(alloc: Global, row: &Row) -> Result<String, AllocError> {
+pub fn trace_of(alloc: Global, row: &Row) -> Result<String, AllocError> {
     let mut trace = String::from_str(alloc, "vktrace 1\n")?;
     put_lines(&mut trace, row.start.events)?;
     if row.with_returns {
@@ -37,7 +37,7 @@ fn trace_of(alloc: Global, row: &Row) -> Result<String, AllocError> {
     Ok(trace)
 }
 
-fn lines_of(alloc: Global, start: &[&str], rest: &[&str]) -> Result<String, AllocError> {
+pub fn lines_of(alloc: Global, start: &[&str], rest: &[&str]) -> Result<String, AllocError> {
     let mut text = String::new(alloc);
     put_lines(&mut text, start)?;
     put_lines(&mut text, rest)?;

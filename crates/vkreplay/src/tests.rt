@@ -1,6 +1,7 @@
 // Whole runs over memory: what each prints, says and asks the driver.
 use crate::chain_tests::{DRIVER, Pairs, VALIDATION, tree_of, variables};
-use crate::top::{Finished, replay_main};
+use crate::finish::Finished;
+use crate::top::replay_main;
 use command_tables::CommandId;
 use dispatch_chain::Kit;
 use env_filters::EnvList;

@@ -3,7 +3,7 @@ use Rattle.replay_base.specs.Changes.{changed}
 use Rattle.replay_core.specs.declared.error.ReplayError.{ReplayError}
 use Rattle.vkreplay.specs.Said.{Said}
 use Rattle.vkreplay.specs.Statuses.{line_of}
-use Rattle.vkreplay.proofs.top.refuse.Goals as goal
+use Rattle.vkreplay.proofs.finish.refuse.Goals as goal
 
 pub returns-in-Trace-clause-line : goal.returns-in-Trace-clause-line
 returns-in-Trace-clause-line g c =

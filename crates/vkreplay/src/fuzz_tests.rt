@@ -1,0 +1,314 @@
+// Traces and trees that are changed at random, with a fixed seed: what holds of a run whatever came.
+ghost use Rattle.std.specs.Prelude.{IsTrue};
+ghost use Rattle.model_driver.specs.Driver.{are_handles};
+
+use crate::chain_tests::{DRIVER, HOME, VALIDATION, put, tree_of, variables};
+use crate::tests::{TWICE, finished_of, sink, words_of};
+use model_driver::{AdverseDriver, Driver, ModelDriver};
+use replay_base::{MemSink, MemSource};
+use replay_core::Status;
+use std::alloc::{AllocError, Global};
+use std::process::Abort;
+use std::test::Fail;
+
+// How many changed traces are tried of each stored one.
+const ROUNDS: u32 = 40;
+
+// Two threads that submit to one queue, a buffer that is used behind its end, and sets that end with their pool.
+const MIXED: &str = "vktrace 1
+b 1 vkCreateInstance = %1.1 VK_SUCCESS
+r 1
+b 1 vkEnumeratePhysicalDevices %1.1 = %1.2 VK_SUCCESS
+r 1
+b 1 vkCreateDevice %1.2 = %1.3 VK_SUCCESS
+r 1
+b 1 vkGetDeviceQueue %1.3 = %1.4 void
+r 1
+b 1 vkCreateBuffer %1.3 = %1.5 VK_SUCCESS
+r 1
+b 1 vkQueueSubmit %1.4 [] [] [] null VK_SUCCESS
+b 2 vkQueueSubmit %1.4 [] [] [] null VK_SUCCESS
+r 1
+r 2
+b 2 vkDestroyBuffer %1.3 %1.5 void
+r 2
+b 1 vkGetBufferMemoryRequirements %1.3 %1.5 void
+r 1
+b 1 vkCreateCommandPool %1.3 = %1.6 VK_SUCCESS
+r 1
+b 1 vkAllocateCommandBuffers %1.3 %1.6 = %1.7,%1.8 VK_SUCCESS
+r 1
+b 1 vkDestroyCommandPool %1.3 %1.6 void
+r 1
+b 2 vkBeginCommandBuffer %1.8 VK_SUCCESS
+r 2
+b 1 vkDestroyDevice %1.3 void
+r 1
+b 1 vkDestroyInstance %1.1 void
+r 1
+";
+
+// Knuth's MMIX generator.
+#[derive(Clone, Copy)]
+struct Dice {
+    number: u64,
+}
+
+impl Dice {
+    // A number below a bound, or 0 where there is none.
+    fn below(&mut self, bound: usize) -> usize {
+        self.number = self
+            .number
+            .wrapping_mul(6_364_136_223_846_793_005)
+            .wrapping_add(1_442_695_040_888_963_407);
+        ((self.number / (1 << 33)) as usize)
+            .checked_rem(bound)
+            .unwrap_or(0)
+    }
+}
+
+// What a run came to.
+#[derive(Drop)]
+struct Came {
+    status: Status,
+    out: MemSink,
+    errs: MemSink,
+}
+
+fn came_under<D: Driver>(
+    alloc: Global,
+    trace: &[u8],
+    manifest: &[u8],
+    driver: &mut D,
+) -> Result<Came, Fail> {
+    let words = words_of(alloc, "run")?;
+    let env = variables(
+        alloc,
+        &[HOME, ("VK_INSTANCE_LAYERS", "VK_LAYER_KHRONOS_validation")],
+    )?;
+    let mut tree = tree_of(alloc, &[DRIVER])?;
+    put(&mut tree, VALIDATION.0, manifest)?;
+    let mut trace = MemSource::new(Vec::from_slice(alloc, trace)?, Vec::new(alloc));
+    let mut out = MemSink::new(alloc, 65_536, Vec::new(alloc))
+        .ok()
+        .ok_or("no memory")?;
+    let mut errs = sink(alloc, 0)?;
+    let status = finished_of(
+        alloc, &words, &env, &mut tree, &mut trace, &mut out, &mut errs, driver,
+    )
+    .status;
+    Ok(Came { status, out, errs })
+}
+
+// Bytes with one that is another, a piece that is missing or doubled, or an end that is missing.
+fn with_bytes_changed(alloc: Global, dice: &mut Dice, bytes: &[u8]) -> Result<Vec<u8>, AllocError> {
+    let kind = dice.below(4);
+    let at = dice.below(bytes.len());
+    let end = at.saturating_add(dice.below(12));
+    let other = (32 + dice.below(95)) as u8;
+    let mut changed = Vec::new(alloc);
+    for (i, byte) in bytes.iter().enumerate() {
+        let within = at <= i && i < end;
+        if kind == 0 && i == at {
+            changed.push(other)?;
+        } else if (kind != 1 || !within) && (kind != 2 || i < at) {
+            changed.push(*byte)?;
+        }
+        if kind == 3 && within {
+            changed.push(*byte)?;
+        }
+    }
+    Ok(changed)
+}
+
+// Lines of which two have changed places, or one stands in the place of another.
+fn with_lines_changed(alloc: Global, dice: &mut Dice, bytes: &[u8]) -> Result<Vec<u8>, AllocError> {
+    let mut lines: Vec<&[u8]> = Vec::new(alloc);
+    for line in bytes.split(|byte| *byte == b'\n') {
+        lines.push(line)?;
+    }
+    let first = dice.below(lines.len());
+    let second = dice.below(lines.len());
+    let swapped = dice.below(2) == 0;
+    let mut changed = Vec::new(alloc);
+    for (i, line) in lines.iter().enumerate() {
+        let from = if i == first {
+            second
+        } else if i == second && swapped {
+            first
+        } else {
+            i
+        };
+        changed.extend_from_slice(lines.get(from).copied().unwrap_or(*line))?;
+        changed.push(b'\n')?;
+    }
+    changed.pop();
+    Ok(changed)
+}
+
+fn changed(alloc: Global, dice: &mut Dice, bytes: &[u8]) -> Result<Vec<u8>, AllocError> {
+    if dice.below(2) == 0 {
+        with_lines_changed(alloc, dice, bytes)
+    } else {
+        with_bytes_changed(alloc, dice, bytes)
+    }
+}
+
+fn lines_with(text: &[u8], front: &[u8]) -> usize {
+    let mut count: usize = 0;
+    for line in text.split(|byte| *byte == b'\n') {
+        count = count.saturating_add(usize::from(line.starts_with(front)));
+    }
+    count
+}
+
+// The text without an end line.
+fn without_end(text: &[u8]) -> &[u8] {
+    let mut lines = 0;
+    let mut kept: usize = 0;
+    for line in text.split(|byte| *byte == b'\n') {
+        if line.starts_with(b"end ") {
+            lines += 1;
+        }
+        if lines == 0 {
+            kept = kept.saturating_add(line.len()).saturating_add(1);
+        }
+    }
+    &text[..kept.min(text.len())]
+}
+
+// The output is whole lines. Where the run came to its end, the end line is the last one, and it counts the returns and the reports
+// above it; otherwise there is none, and one line is said.
+fn is_whole(rt: &impl Abort, alloc: Global, came: &Came, trace: &[u8]) -> Result<(), Fail> {
+    let out = came.out.bytes();
+    let said = came.errs.bytes();
+    assert!(rt; out.is_empty() || out.ends_with(b"\n"), "{trace:?}");
+    let reports = lines_with(out, b"report ");
+    if came.status == Status::Clean || came.status == Status::Reported {
+        let calls = lines_with(out, b"ret ");
+        let front = format!(in alloc; "end calls={calls} skipped=")?;
+        let end = format!(in alloc; " reports={reports}\n")?;
+        assert!(rt; lines_with(out, front.as_bytes()) == 1, "{trace:?}");
+        assert!(rt; out.ends_with(end.as_bytes()), "{trace:?}");
+        assert!(rt;
+            (came.status == Status::Clean) == (reports == 0),
+            "{trace:?}"
+        );
+        assert!(rt; said.is_empty(), "{trace:?}");
+    } else {
+        assert!(rt; lines_with(out, b"end ") == 0, "{trace:?}");
+        assert!(rt; lines_with(said, b"vkreplay: ") == 1, "{trace:?}");
+    }
+    Ok(())
+}
+
+// Another run came to the same.
+fn is_same(rt: &impl Abort, one: &Came, other: &Came, trace: &[u8]) {
+    assert_eq!(rt; one.status, other.status);
+    assert!(rt; one.out.bytes() == other.out.bytes(), "{trace:?}");
+    assert!(rt; one.errs.bytes() == other.errs.bytes(), "{trace:?}");
+}
+
+fn answers_make_no_difference(
+    rt: &impl Abort,
+    alloc: Global,
+    came: &Came,
+    trace: &[u8],
+    manifest: &[u8],
+    handles: &[u64],
+) -> Result<(), Fail>
+    requires { IsTrue (are_handles handles.now) }
+{
+    let mut driver = AdverseDriver::new(Vec::from_slice(alloc, handles)?);
+    let other = came_under(alloc, trace, manifest, &mut driver)?;
+    is_same(rt, came, &other, trace);
+    Ok(())
+}
+
+// The lines of a front of a trace, and what they come to: a front of what the whole comes to.
+fn front_comes_first(
+    rt: &impl Abort,
+    alloc: Global,
+    dice: &mut Dice,
+    came: &Came,
+    trace: &[u8],
+    manifest: &[u8],
+) -> Result<(), Fail> {
+    let count = dice.below(lines_with(trace, b""));
+    let mut front = Vec::new(alloc);
+    for line in trace.split(|byte| *byte == b'\n').take(count) {
+        front.extend_from_slice(line)?;
+        front.push(b'\n')?;
+    }
+    let cut = came_under(alloc, &front, manifest, &mut ModelDriver::new(alloc))?;
+    assert!(rt;
+        came.out.bytes().starts_with(without_end(cut.out.bytes())),
+        "{trace:?}"
+    );
+    Ok(())
+}
+
+// All that holds of any run.
+fn holds(
+    rt: &impl Abort,
+    alloc: Global,
+    dice: &mut Dice,
+    trace: &[u8],
+    manifest: &[u8],
+) -> Result<(), Fail> {
+    const M: u64 = u64::MAX;
+    let came = came_under(alloc, trace, manifest, &mut ModelDriver::new(alloc))?;
+    is_whole(rt, alloc, &came, trace)?;
+    let again = came_under(alloc, trace, manifest, &mut ModelDriver::new(alloc))?;
+    is_same(rt, &came, &again, trace);
+    answers_make_no_difference(rt, alloc, &came, trace, manifest, &[])?;
+    answers_make_no_difference(
+        rt,
+        alloc,
+        &came,
+        trace,
+        manifest,
+        &[M, M, M, M, M, M, M, M, M],
+    )?;
+    answers_make_no_difference(
+        rt,
+        alloc,
+        &came,
+        trace,
+        manifest,
+        &[2, 1, 4, 3, 6, 5, 8, 7, 9],
+    )?;
+    front_comes_first(rt, alloc, dice, &came, trace, manifest)
+}
+
+// Changes a trace more and more, and begins again now and then.
+fn traces_hold(rt: &impl Abort, alloc: Global, dice: &mut Dice, stored: &str) -> Result<(), Fail> {
+    let manifest = VALIDATION.1.as_bytes();
+    let mut trace = Vec::from_slice(alloc, stored.as_bytes())?;
+    for round in 0..ROUNDS {
+        if round % 4 == 0 {
+            trace = Vec::from_slice(alloc, stored.as_bytes())?;
+        }
+        trace = changed(alloc, dice, &trace)?;
+        holds(rt, alloc, dice, &trace, manifest)?;
+    }
+    Ok(())
+}
+
+#[test]
+fn changed_traces_keep_what_holds_of_any(rt: HostRuntime) -> Result<(), Fail> {
+    let mut dice = Dice { number: 11 };
+    traces_hold(&rt, rt.alloc(), &mut dice, TWICE)?;
+    traces_hold(&rt, rt.alloc(), &mut dice, MIXED)
+}
+
+#[test]
+fn changed_manifests_keep_what_holds_of_any(rt: HostRuntime) -> Result<(), Fail> {
+    let alloc = rt.alloc();
+    let mut dice = Dice { number: 12 };
+    for _ in 0..ROUNDS {
+        let manifest = with_bytes_changed(alloc, &mut dice, VALIDATION.1.as_bytes())?;
+        holds(&rt, alloc, &mut dice, MIXED.as_bytes(), &manifest)?;
+    }
+    Ok(())
+}
