@@ -1,10 +1,9 @@
 #!/usr/bin/env python3
-"""compare.py PROGRAM [NUMBER [CALLS]]: measures the built program beside the plain one of bench/baseline on one generated trace.
+"""compare.py PROGRAM [NUMBER [CALLS ..]]: measures the built program beside the plain one of bench/baseline on generated traces.
 
-It builds the plain program with rustc -O, makes the trace, checks that both programs make the same one and that both replays end with the same
-line, and prints the best of five runs of each: processor time in seconds, and the greatest resident memory in MB. The first is `gen | run`
-with no layers, the second the same through the validation layer, the third and the fourth are `soak`. A command that PROGRAM doesn't have is
-left out. Nothing here is part of the gate, and times differ from machine to machine."""
+It builds the plain program with rustc -O, and for each number of turns (10000, 100000 and 1000000) makes the trace with both, checks
+that both make the same one and that both replays end with the same line, and prints a row for `run` on the trace in a file and one for
+`soak`, each with no layers and through the validation layer. README.md says how to read them."""
 import os
 import pathlib
 import subprocess
@@ -14,7 +13,7 @@ import tempfile
 HERE = pathlib.Path(__file__).resolve().parent
 MACHINE = HERE.parent / "examples" / "machine"
 VALIDATION = {"VK_INSTANCE_LAYERS": "VK_LAYER_KHRONOS_validation"}
-
+RUNS = 5
 
 # A process of its own runs and waits for the program, since the memory of whoever starts one counts for it until it runs.
 WAITER = """
@@ -34,46 +33,59 @@ def run(words, env, stdin, output):
     return int(status), float(seconds), float(memory)
 
 
-def best(words, env, stdin, output):
-    runs = [run(words, env, stdin, output) for _ in range(5)]
-    return runs[0][0], min(r[1] for r in runs), min(r[2] for r in runs)
+def both(ours, plain):
+    """The best of some runs of each, in turns, so that both see the same machine."""
+    pairs = [(run(*ours), run(*plain)) for _ in range(RUNS)]
+    statuses = {pair[0][0] for pair in pairs}
+    best = [(min(pair[side][1] for pair in pairs), min(pair[side][2] for pair in pairs)) for side in (0, 1)]
+    return statuses, best[0], best[1]
 
 
 def last_line(path):
     with open(path, "rb") as file:
+        file.seek(max(0, os.path.getsize(path) - 4096))
         return file.read().rstrip(b"\n").rsplit(b"\n", 1)[-1]
 
 
+def calls_of(line):
+    return int(line.split(b"calls=")[1].split()[0])
+
+
 def main():
-    if len(sys.argv) not in (2, 3, 4):
+    if len(sys.argv) < 2:
         sys.exit(__doc__)
     program = os.path.abspath(sys.argv[1])
     number = sys.argv[2] if len(sys.argv) > 2 else "7"
-    calls = sys.argv[3] if len(sys.argv) > 3 else "1000000"
+    sizes = [int(word) for word in sys.argv[3:]] or [10_000, 100_000, 1_000_000]
+    print("| what | turns | s | calls a second | MB | s a call, to the size before | plain s | plain MB | plain s / s |")
+    print("|---|---|---|---|---|---|---|---|---|")
+    before = {}
     with tempfile.TemporaryDirectory() as room:
         plain = f"{room}/baseline"
         subprocess.run(["rustc", "-O", "--edition", "2021", "-o", plain, HERE / "baseline" / "main.rs"], check=True)
-        trace, text, other = f"{room}/trace", f"{room}/text", f"{room}/other"
         root = ["--root", str(MACHINE)]
-        made = ["--number", number, "--calls", calls]
-        run([plain, "gen", number, calls], {}, os.devnull, trace)
-        if run([program, "gen", *made], {}, os.devnull, text)[0] == 0:
-            same = pathlib.Path(trace).read_bytes() == pathlib.Path(text).read_bytes()
-            print(f"gen: {'the same trace' if same else 'ANOTHER TRACE'}")
-        rows = [
-            ("run, no layers", [program, "run", *root], {}, [plain, "run"], trace),
-            ("run, validated", [program, "run", *root], VALIDATION, [plain, "run", "--validate"], trace),
-            ("soak, no layers", [program, "soak", *root, *made], {}, [plain, "soak", number, calls], os.devnull),
-            ("soak, validated", [program, "soak", *root, *made], VALIDATION, [plain, "soak", number, calls, "--validate"], os.devnull),
-        ]
-        for title, words, env, plain_words, stdin in rows:
-            status, seconds, memory = best(words, env, stdin, text)
-            if status not in (0, 1):
-                print(f"{title}: status {status}, left out")
-                continue
-            _, plain_seconds, plain_memory = best(plain_words, {}, stdin, other)
-            ends = "" if last_line(text) == last_line(other) else ", ANOTHER END LINE"
-            print(f"{title}: {seconds:.2f} s, {memory:.1f} MB; plain {plain_seconds:.2f} s, {plain_memory:.1f} MB; ratio {seconds / plain_seconds:.2f}{ends}")
+        for turns in sizes:
+            trace, text, other = f"{room}/trace", f"{room}/text", f"{room}/other"
+            made = ["--number", number, "--calls", str(turns)]
+            run([plain, "gen", number, str(turns)], {}, os.devnull, trace)
+            run([program, "gen", *made], {}, os.devnull, text)
+            if pathlib.Path(trace).read_bytes() != pathlib.Path(text).read_bytes():
+                sys.exit(f"another trace of {turns} turns")
+            rows = [
+                ("run", [program, "run", *root], {}, [plain, "run"], trace),
+                ("run, validated", [program, "run", *root], VALIDATION, [plain, "run", "--validate"], trace),
+                ("soak", [program, "soak", *root, *made], {}, [plain, "soak", number, str(turns)], os.devnull),
+                ("soak, validated", [program, "soak", *root, *made], VALIDATION, [plain, "soak", number, str(turns), "--validate"], os.devnull),
+            ]
+            for title, words, env, plain_words, stdin in rows:
+                statuses, ours, theirs = both((words, env, stdin, text), (plain_words, {}, stdin, other))
+                if statuses != {0} or last_line(text) != last_line(other):
+                    sys.exit(f"{title}, {turns} turns: statuses {statuses}, {last_line(text)} and {last_line(other)}")
+                calls = calls_of(last_line(text))
+                cost = ours[0] / calls
+                growth = f"{cost / before[title]:.2f}" if title in before else ""
+                before[title] = cost
+                print(f"| {title} | {turns} | {ours[0]:.3f} | {calls / ours[0]:.0f} | {ours[1]:.1f} | {growth} | {theirs[0]:.3f} | {theirs[1]:.1f} | {theirs[0] / ours[0]:.2f} |", flush=True)
 
 
 main()
