@@ -105,7 +105,7 @@ fn with_bytes_changed(alloc: Global, dice: &mut Dice, bytes: &[u8]) -> Result<Ve
     let kind = dice.below(4);
     let at = dice.below(bytes.len());
     let end = at.saturating_add(dice.below(12));
-    let other = (32 + dice.below(95)) as u8;
+    let other = u8::try_from(dice.below(95)).unwrap_or(0).saturating_add(32);
     let mut changed = Vec::new(alloc);
     for (i, byte) in bytes.iter().enumerate() {
         let within = at <= i && i < end;
@@ -164,13 +164,13 @@ fn lines_with(text: &[u8], front: &[u8]) -> usize {
 
 // The text without an end line.
 fn without_end(text: &[u8]) -> &[u8] {
-    let mut lines = 0;
+    let mut is_over = false;
     let mut kept: usize = 0;
     for line in text.split(|byte| *byte == b'\n') {
         if line.starts_with(b"end ") {
-            lines += 1;
+            is_over = true;
         }
-        if lines == 0 {
+        if !is_over {
             kept = kept.saturating_add(line.len()).saturating_add(1);
         }
     }
