@@ -14,8 +14,6 @@ mod case_tests;
 mod chain;
 #[cfg(test)]
 mod chain_tests;
-#[cfg(test)]
-mod cut_tests;
 mod environment;
 #[cfg(test)]
 mod environment_tests;
@@ -35,8 +33,6 @@ mod say;
 #[cfg(test)]
 mod size_tests;
 mod soak;
-#[cfg(test)]
-mod soak_tests;
 #[cfg(test)]
 mod tests;
 mod top;
