@@ -1,4 +1,4 @@
-// Traces and trees that are changed at random, with a fixed seed: what holds of a run whatever came.
+// Traces that are changed at random, with a fixed seed: what holds of a run whatever came.
 ghost use Rattle.std.specs.Prelude.{IsTrue};
 ghost use Rattle.model_driver.specs.Driver.{are_handles};
 
@@ -300,15 +300,4 @@ fn changed_traces_keep_what_holds_of_any(rt: HostRuntime) -> Result<(), Fail> {
     let mut dice = Dice { number: 11 };
     traces_hold(&rt, rt.alloc(), &mut dice, TWICE)?;
     traces_hold(&rt, rt.alloc(), &mut dice, MIXED)
-}
-
-#[test]
-fn changed_manifests_keep_what_holds_of_any(rt: HostRuntime) -> Result<(), Fail> {
-    let alloc = rt.alloc();
-    let mut dice = Dice { number: 12 };
-    for _ in 0..ROUNDS {
-        let manifest = with_bytes_changed(alloc, &mut dice, VALIDATION.1.as_bytes())?;
-        holds(&rt, alloc, &mut dice, MIXED.as_bytes(), &manifest)?;
-    }
-    Ok(())
 }
