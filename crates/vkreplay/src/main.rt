@@ -34,6 +34,8 @@ mod say;
 mod size_tests;
 mod soak;
 #[cfg(test)]
+mod soak_tests;
+#[cfg(test)]
 mod tests;
 mod top;
 
