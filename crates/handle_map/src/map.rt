@@ -149,6 +149,10 @@ impl<const S: usize> HandleMap<S> {
         ensures found { IfSome result (λ values. values_of self.now.entries ty id ≡ Some values.now) }
         ensures none { IfNone result (values_of self.now.entries ty id ≡ None) }
     {
+        // A new id is mostly greater than all before: no chain need be walked to its end for it.
+        if self.greatest < id {
+            return None;
+        }
         match place_of::<S>(&self.entries, &self.firsts, ty, id) {
             None => None,
             Some(place) => {
