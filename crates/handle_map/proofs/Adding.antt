@@ -60,10 +60,10 @@ greatest_more (e ∷ es) x = ap (max e.id) (greatest_more es x) ∙ omega arith
 
 -- ---- links
 
-got_before : (es : List Entry) (e : Entry) (p : ℕ) (other : Entry) → p < length es → get_or (es ++ e ∷ []) p other ≡ get_or es p other
+pub got_before : (es : List Entry) (e : Entry) (p : ℕ) (other : Entry) → p < length es → get_or (es ++ e ∷ []) p other ≡ get_or es p other
 got_before es e p other below = get_or-append es (e ∷ []) other p below
 
-got_last : (es : List Entry) (e : Entry) (p : ℕ) (other : Entry) → p ≡ length es → get_or (es ++ e ∷ []) p other ≡ e
+pub got_last : (es : List Entry) (e : Entry) (p : ℕ) (other : Entry) → p ≡ length es → get_or (es ++ e ∷ []) p other ≡ e
 got_last es e p other at = ap (λ n. get_or (es ++ e ∷ []) n other) at ∙ get_or-append_seam es e [] other
 
 link_more : (chains : ℕ) (es : List Entry) (e : Entry) (chain count link : ℕ) → count ≤ length es → IsLink chains es chain count link → IsLink chains (es ++ e ∷ []) chain count link

@@ -3,3 +3,4 @@ pub mod Flat
 pub mod Tables
 pub mod Adding
 pub mod Putting
+pub mod Bounding

@@ -45,10 +45,11 @@ pub fn walk<const S: usize>(
     None
 }
 
-/// The place of a pair: that of a dense id, or else on its chain.
+/// The place of a pair: that before a link, where it stands there, or else on its chain.
 pub fn place_of<const S: usize>(
     entries: &[Entry],
     firsts: &[usize],
+    link: u64,
     ty: ObjectType,
     id: u64,
 ) -> Option<usize>
@@ -58,8 +59,8 @@ pub fn place_of<const S: usize>(
     ensures found { IfSome result (IsPlace entries.now ty id) }
     ensures none { IfNone result (HasNoPlace entries.now ty id) }
 {
-    if id != 0 && id <= entries.len() as u64 && is_of(&entries[id as usize - 1], ty, id) {
-        return Some(id as usize - 1);
+    if link != 0 && link <= entries.len() as u64 && is_of(&entries[link as usize - 1], ty, id) {
+        return Some(link as usize - 1);
     }
     match firsts.get(chain_of::<S>(ty, id)) {
         None => None,

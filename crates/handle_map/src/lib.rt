@@ -3,8 +3,10 @@
 //! Leaves to others what the ids and the values stand for.
 #![tactic(auto)]
 
+mod bounds;
 mod chain;
 mod entry;
+mod hints;
 mod map;
 #[cfg(test)]
 mod tests;

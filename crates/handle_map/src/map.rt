@@ -3,8 +3,10 @@ ghost use Rattle.std.specs.Prelude.{◌≡◌, ◌≤◌, ◌<◌, ◌+◌, ◌^
 ghost use Rattle.handle_map.specs.Chains.{put_at};
 ghost use Rattle.handle_map.specs.Pairs.{AreDistinct, HasSpare, greatest_id, has_pair, values_of, with_values};
 
+use crate::bounds::{is_above, least_bound};
 use crate::chain::{chain_of, make_chains, place_of};
 use crate::entry::Entry;
+use crate::hints::Hints;
 use crate::values::write;
 use command_tables::{NoMemory, ObjectType};
 use std::alloc::Global;
@@ -18,19 +20,23 @@ pub struct HandleMap<const S: usize> {
     values: Vec<u64>,
     // For each chain one more than the place of its last entry, or 0; empty until room is first made.
     firsts: Vec<usize>,
+    hints: Hints,
     greatest: u64,
+    // No id of a type that is numbered apart is greater than this one.
+    apart: u64,
 }
 
 impl<const S: usize> Model for HandleMap<S> {
     ghost use Rattle.std.specs.Prelude.{◌-◌, if◌then◌else◌, nat_le, length, vec_capacity};
     ghost use Rattle.handle_map.specs.Pairs.{MapState};
+    ghost use Rattle.handle_map.specs.Bounds.{IsBounded};
     ghost use Rattle.handle_map.specs.Chains.{IsTable, entries_of};
 
     ghost Value = { MapState };
 
     ghost view = { λ m. record { entries = entries_of m.values.items m.entries.items; spare = if nat_le S (length m.firsts.items) then vec_capacity m.entries - length m.entries.items else 0; room = vec_capacity m.values - length m.values.items } };
 
-    ghost invariant = { λ m. IsTable S m.entries.items m.values.items m.firsts.items m.greatest };
+    ghost invariant = { λ m. IsTable S m.entries.items m.values.items m.firsts.items m.greatest × IsBounded m.entries.items m.apart };
 }
 
 impl<const S: usize> HandleMap<S> {
@@ -42,7 +48,9 @@ impl<const S: usize> HandleMap<S> {
             entries: Vec::new(alloc),
             values: Vec::new(alloc),
             firsts: Vec::new(alloc),
+            hints: Hints::new(alloc),
             greatest: 0,
+            apart: 0,
         }
     }
 
@@ -118,9 +126,12 @@ impl<const S: usize> HandleMap<S> {
             len: values.len(),
             room: values.len(),
         };
+        let place = self.entries.len();
+        self.hints.note(ty, id, place);
         self.entries.push(entry).unwrap();
         self.firsts[chain] = self.entries.len();
         self.greatest = self.greatest.max(id);
+        self.apart = least_bound(self.apart, ty, id);
         Ok(())
     }
 
@@ -135,10 +146,11 @@ impl<const S: usize> HandleMap<S> {
         ensures room { self.old.room ≤ self.new.room + length values.now }
     {
         // A new id is mostly the next one: no chain need be walked for it.
-        if id > self.greatest {
+        if is_above(self.greatest, self.apart, ty, id) {
             return self.add(ty, id, values);
         }
-        match place_of::<S>(&self.entries, &self.firsts, ty, id) {
+        let link = self.hints.link(ty, id);
+        match place_of::<S>(&self.entries, &self.firsts, link, ty, id) {
             Some(place) => self.put(place, values),
             None => self.add(ty, id, values),
         }
@@ -149,11 +161,12 @@ impl<const S: usize> HandleMap<S> {
         ensures found { IfSome result (λ values. values_of self.now.entries ty id ≡ Some values.now) }
         ensures none { IfNone result (values_of self.now.entries ty id ≡ None) }
     {
-        // A new id is mostly greater than all before: no chain need be walked to its end for it.
-        if self.greatest < id {
+        // A new id is mostly the next one: no chain need be walked to its end for it.
+        if is_above(self.greatest, self.apart, ty, id) {
             return None;
         }
-        match place_of::<S>(&self.entries, &self.firsts, ty, id) {
+        let link = self.hints.link(ty, id);
+        match place_of::<S>(&self.entries, &self.firsts, link, ty, id) {
             None => None,
             Some(place) => {
                 let entry = self.entries[place];

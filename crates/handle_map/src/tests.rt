@@ -143,3 +143,31 @@ fn many_dense_ids(rt: HostRuntime) -> Result<(), Fail> {
     assert!(rt; map.get(ObjectType::Buffer, 100_001).is_none());
     Ok(())
 }
+
+// Two numberings beside each other: ids of queues are lesser than those of buffers, and an image has the id of one of them.
+#[test]
+fn ids_that_are_numbered_apart(rt: HostRuntime) -> Result<(), Fail> {
+    let mut map: HandleMap<1> = HandleMap::new(rt.alloc());
+    for k in 1..1001u64 {
+        map.insert(ObjectType::Buffer, k * 2, &[k])
+            .ok()
+            .ok_or("memory")?;
+        map.insert(ObjectType::Queue, k, &[k + 5000])
+            .ok()
+            .ok_or("memory")?;
+    }
+    map.insert(ObjectType::Image, 6, &[9]).ok().ok_or("memory")?;
+    map.insert(ObjectType::Queue, 1 << 40, &[8])
+        .ok()
+        .ok_or("memory")?;
+    for k in 1..1001u64 {
+        assert!(rt; map.get(ObjectType::Buffer, k * 2) == Some([k].as_slice()));
+        assert!(rt; map.get(ObjectType::Queue, k) == Some([k + 5000].as_slice()));
+        assert!(rt; map.get(ObjectType::Buffer, k * 2 - 1).is_none());
+        assert!(rt; map.get(ObjectType::Queue, k + 1000).is_none());
+    }
+    assert!(rt; map.get(ObjectType::Image, 6) == Some([9].as_slice()));
+    assert!(rt; map.get(ObjectType::Queue, 1 << 40) == Some([8].as_slice()));
+    assert!(rt; map.get(ObjectType::Queue, u64::MAX).is_none());
+    Ok(())
+}

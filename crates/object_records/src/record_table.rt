@@ -19,8 +19,8 @@ use std::marker::Model;
 #[derive(Drop)]
 pub struct RecordTable {
     records: Vec<ObjectRecord>,
-    // The place of each record, by its object's pair. Drivers' own handles come between the dense ids, so that no record need stand
-    // at the place of its id; with many chains the way to it stays short.
+    // The place of each record, by its object's pair. Handles of other origin come between dense ids, so that a record need not stand at
+    // the place of its id; the map has hints for that. Where ids are sparse, many chains keep the way to an entry short.
     index: HandleMap<4096>,
     links: Vec<Links>,
     // The links between the queues of each owner alone, since a device may have owned much else. They count no children.

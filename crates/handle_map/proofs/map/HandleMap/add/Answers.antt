@@ -2,13 +2,23 @@ use Rattle.std.proofs.Common.{◌≡◌, ◌<◌, ◌+◌, ◌++◌, [], ◌∷�
 use Rattle.handle_map.specs.declared.entry.Entry.{Entry}
 use Rattle.handle_map.specs.Chains.{chain_of, chains_made}
 use Rattle.handle_map.specs.Pairs.{MapState, has_pair}
+use Rattle.handle_map.proofs.Bounding.{bounded_more, bounded_same}
 use Rattle.handle_map.proofs.Adding.{Adds, added_entries, added_table, kept_table, made_all, read_at}
 use Rattle.handle_map.proofs.map.HandleMap.add.Goals as goal
 
+pub invariant_of-self-in_err-reserve : goal.invariant_of-self-in_err-reserve
+invariant_of-self-in_err-reserve g c = (
+  kept_table g.row.S c.self.inside.entries.items c.reserve.new.self.items c.self.inside.values.items c.self.inside.values.items c.self.inside.firsts.items c.make_chains.new.firsts.items c.self.inside.greatest c.self.invariant.0
+      c.in_err-reserve.ensures.items refl c.in_ok-make_chains.ensures.ok,
+  bounded_same c.self.inside.entries.items c.reserve.new.self.items c.self.inside.apart c.in_err-reserve.ensures.items c.self.invariant.1,
+)
+
 pub invariant_of-self-in_err-reserve-2 : goal.invariant_of-self-in_err-reserve-2
-invariant_of-self-in_err-reserve-2 g c =
-    kept_table g.row.S c.self.inside.entries.items c.reserve.new.self.items c.self.inside.values.items c.reserve-2.new.self.items c.self.inside.firsts.items c.make_chains.new.firsts.items c.self.inside.greatest c.self.invariant
-    c.in_ok-reserve.ensures.items c.in_err-reserve-2.ensures.items c.in_ok-make_chains.ensures.ok
+invariant_of-self-in_err-reserve-2 g c = (
+  kept_table g.row.S c.self.inside.entries.items c.reserve.new.self.items c.self.inside.values.items c.reserve-2.new.self.items c.self.inside.firsts.items c.make_chains.new.firsts.items c.self.inside.greatest c.self.invariant.0
+      c.in_ok-reserve.ensures.items c.in_err-reserve-2.ensures.items c.in_ok-make_chains.ensures.ok,
+  bounded_same c.self.inside.entries.items c.reserve.new.self.items c.self.inside.apart c.in_ok-reserve.ensures.items c.self.invariant.1,
+)
 
 pub invariant_of-self-2 : goal.invariant_of-self-2
 invariant_of-self-2 g c =
@@ -17,7 +27,7 @@ invariant_of-self-2 g c =
     let chain_is : c.chain_of-chain.result ≡ chain_of g.row.S c.args.ty c.args.id = c.chain_of-chain.ensures.value in
     let chain : chain_of g.row.S c.args.ty c.args.id < g.row.S = subst (λ n. n < g.row.S) chain_is c.chain_of-chain.ensures.within in
     let made : c.make_chains.new.firsts.items ≡ chains_made g.row.S c.self.inside.firsts.items = c.in_ok-make_chains.ensures.ok in
-    let all : length (chains_made g.row.S c.self.inside.firsts.items) ≡ g.row.S = made_all g.row.S c.self.inside.entries.items c.self.inside.firsts.items c.self.invariant.first in
+    let all : length (chains_made g.row.S c.self.inside.firsts.items) ≡ g.row.S = made_all g.row.S c.self.inside.entries.items c.self.inside.firsts.items c.self.invariant.0.first in
     let count : c.len.result ≡ length c.self.inside.entries.items + 1 = omega (arith, c.len.ensures, ap length entries_are, length-append c.self.inside.entries.items (e ∷ [])) in
     let within : c.chain_of-chain.result < length c.make_chains.new.firsts.items = omega (arith, c.chain_of-chain.ensures.within, ap length made, all) in
     let next : c.index-next.result.now ≡ get_or (chains_made g.row.S c.self.inside.firsts.items) (chain_of g.row.S c.args.ty c.args.id) 0
@@ -35,8 +45,10 @@ invariant_of-self-2 g c =
       start = omega (arith, c.len-start.ensures, ap length c.in_ok-reserve-2.ensures.items);
       len = refl;
       room = refl;
-    } in
-    added_table g.row.S c.self.inside.entries.items c.push.new.self.items c.self.inside.values.items c.extend_from_slice.new.self.items c.self.inside.firsts.items (set c.make_chains.new.firsts.items c.chain_of-chain.result c.len.result) c.args.values.now c.self.inside.greatest c.max-self-inside.result e c.self.invariant adds (subst (λ (m : MapState). has_pair m.entries c.args.ty c.args.id ≡ false) (sym c.self.view_is) c.requires)
+    } in (
+      added_table g.row.S c.self.inside.entries.items c.push.new.self.items c.self.inside.values.items c.extend_from_slice.new.self.items c.self.inside.firsts.items (set c.make_chains.new.firsts.items c.chain_of-chain.result c.len.result) c.args.values.now c.self.inside.greatest c.max-self-inside.result e c.self.invariant.0 adds (subst (λ (m : MapState). has_pair m.entries c.args.ty c.args.id ≡ false) (sym c.self.view_is) c.requires),
+      bounded_more c.self.inside.entries.items c.push.new.self.items e c.self.inside.apart c.least_bound-self-inside.result entries_are c.least_bound-self-inside.ensures c.self.invariant.1,
+    )
 
 pub returns-clause-ok : goal.returns-clause-ok
 returns-clause-ok g c =
@@ -45,7 +57,7 @@ returns-clause-ok g c =
     let chain_is : c.chain_of-chain.result ≡ chain_of g.row.S c.args.ty c.args.id = c.chain_of-chain.ensures.value in
     let chain : chain_of g.row.S c.args.ty c.args.id < g.row.S = subst (λ n. n < g.row.S) chain_is c.chain_of-chain.ensures.within in
     let made : c.make_chains.new.firsts.items ≡ chains_made g.row.S c.self.inside.firsts.items = c.in_ok-make_chains.ensures.ok in
-    let all : length (chains_made g.row.S c.self.inside.firsts.items) ≡ g.row.S = made_all g.row.S c.self.inside.entries.items c.self.inside.firsts.items c.self.invariant.first in
+    let all : length (chains_made g.row.S c.self.inside.firsts.items) ≡ g.row.S = made_all g.row.S c.self.inside.entries.items c.self.inside.firsts.items c.self.invariant.0.first in
     let count : c.len.result ≡ length c.self.inside.entries.items + 1 = omega (arith, c.len.ensures, ap length entries_are, length-append c.self.inside.entries.items (e ∷ [])) in
     let within : c.chain_of-chain.result < length c.make_chains.new.firsts.items = omega (arith, c.chain_of-chain.ensures.within, ap length made, all) in
     let next : c.index-next.result.now ≡ get_or (chains_made g.row.S c.self.inside.firsts.items) (chain_of g.row.S c.args.ty c.args.id) 0
@@ -64,4 +76,4 @@ returns-clause-ok g c =
       len = refl;
       room = refl;
     } in
-    rw (← c.self.view_is) (added_entries g.row.S c.self.inside.entries.items c.push.new.self.items c.self.inside.values.items c.extend_from_slice.new.self.items c.self.inside.firsts.items (set c.make_chains.new.firsts.items c.chain_of-chain.result c.len.result) c.args.values.now c.self.inside.greatest c.max-self-inside.result e c.self.invariant adds)
+    rw (← c.self.view_is) (added_entries g.row.S c.self.inside.entries.items c.push.new.self.items c.self.inside.values.items c.extend_from_slice.new.self.items c.self.inside.firsts.items (set c.make_chains.new.firsts.items c.chain_of-chain.result c.len.result) c.args.values.now c.self.inside.greatest c.max-self-inside.result e c.self.invariant.0 adds)

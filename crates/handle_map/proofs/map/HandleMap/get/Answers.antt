@@ -1,6 +1,7 @@
-use Rattle.std.proofs.Common.{◌<◌, subst, arith}
+use Rattle.std.proofs.Common.{◌∙◌, sym}
 use Rattle.handle_map.specs.Chains.{entries_of}
-use Rattle.handle_map.proofs.Adding.{got, no_values, none_above, none_of}
+use Rattle.handle_map.proofs.Bounding.{none_is_above}
+use Rattle.handle_map.proofs.Adding.{got, no_values, none_of}
 use Rattle.handle_map.proofs.map.HandleMap.get.Goals as goal
 
 pub returns-in-None-clause-none : goal.returns-in-None-clause-none
@@ -11,11 +12,11 @@ returns-in-None-clause-none g c =
 pub returns-in-Some-clause-found : goal.returns-in-Some-clause-found
 returns-in-Some-clause-found g c =
     rw (← c.self.view_is)
-    (got c.self.inside.entries.items c.self.inside.values.items c.deref-in-Some.result.now c.args.ty c.args.id c.in-Some.place c.index-entry.result.now c.self.invariant.distinct (rw c.deref.ensures.value at c.in-Some.ensures.found)
+    (got c.self.inside.entries.items c.self.inside.values.items c.deref-in-Some.result.now c.args.ty c.args.id c.in-Some.place c.index-entry.result.now c.self.invariant.0.distinct (rw c.deref.ensures.value at c.in-Some.ensures.found)
     c.index-entry.ensures c.deref-in-Some.ensures.value)
 
-pub returns-then-self-id-clause-none : goal.returns-then-self-id-clause-none
-returns-then-self-id-clause-none g c =
+pub returns-then-is_above-clause-none : goal.returns-then-is_above-clause-none
+returns-then-is_above-clause-none g c =
     rw (← c.self.view_is)
     (no_values (entries_of c.self.inside.values.items c.self.inside.entries.items) c.args.ty c.args.id
-    (none_above (entries_of c.self.inside.values.items c.self.inside.entries.items) c.args.ty c.args.id (subst (λ n. n < c.args.id) c.self.invariant.most (omega arith))))
+    (none_is_above c.self.inside.entries.items c.self.inside.values.items c.self.inside.greatest c.self.inside.apart c.args.ty c.args.id c.self.invariant.0.most c.self.invariant.1 (sym c.is_above.ensures ∙ c.if-is_above.true)))

@@ -1,8 +1,9 @@
-use Rattle.std.proofs.Common.{◌≡◌, ◌<◌, subst, arith}
-use Rattle.handle_map.specs.Chains.{IsPlace, entries_of, put_at}
+use Rattle.std.proofs.Common.{◌≡◌, ◌∙◌, sym, arith}
+use Rattle.handle_map.specs.Chains.{IsPlace, put_at}
 use Rattle.handle_map.specs.declared.entry.Entry.{Entry}
 use Rattle.handle_map.specs.Pairs.{with_values}
-use Rattle.handle_map.proofs.Adding.{greatest_so, none_above, none_of, on_ok_is, with_new, with_put}
+use Rattle.handle_map.proofs.Bounding.{none_is_above}
+use Rattle.handle_map.proofs.Adding.{greatest_so, none_of, on_ok_is, with_new, with_put}
 use Rattle.handle_map.proofs.map.HandleMap.insert.Goals as goal
 
 pub add-requires-in-None : goal.add-requires-in-None
@@ -13,7 +14,7 @@ returns-in-Some-clause-ok g c =
     let at : IsPlace c.self.inside.entries.items c.args.ty c.args.id c.in-Some.place = rw c.deref.ensures.value at c.in-Some.ensures.found in
     let d : Entry = record { ty = c.args.ty; id = 0; next = 0; start = 0; len = 0; room = 0 } in
     let same : put_at c.args.self.now.entries c.in-Some.place c.args.values.now ≡ with_values c.args.self.now.entries c.args.ty c.args.id c.args.values.now
-    = rw (← c.self.view_is) (with_put c.self.inside.entries.items c.self.inside.values.items c.args.ty c.args.id c.in-Some.place d c.args.values.now c.self.invariant.distinct at.within (at.pair d)) in
+    = rw (← c.self.view_is) (with_put c.self.inside.entries.items c.self.inside.values.items c.args.ty c.args.id c.in-Some.place d c.args.values.now c.self.invariant.0.distinct at.within (at.pair d)) in
     on_ok_is c.put.result _ _ _ same c.put.ensures.ok
 
 pub returns-in-None-clause-ok : goal.returns-in-None-clause-ok
@@ -30,13 +31,13 @@ returns-in-None-clause-greatest g c = greatest_so c.add-in-None.result c.add-in-
 
 pub add-requires : goal.add-requires
 add-requires g c =
-    (omega arith, rw (← c.self.view_is) (none_above (entries_of c.self.inside.values.items c.self.inside.entries.items) c.args.ty c.args.id (subst (λ n. n < c.args.id) c.self.invariant.most (omega arith))))
+    (omega arith, rw (← c.self.view_is) (none_is_above c.self.inside.entries.items c.self.inside.values.items c.self.inside.greatest c.self.inside.apart c.args.ty c.args.id c.self.invariant.0.most c.self.invariant.1 (sym c.is_above.ensures ∙ c.if-is_above.true)))
 
-pub returns-then-id-self-clause-ok : goal.returns-then-id-self-clause-ok
-returns-then-id-self-clause-ok g c =
+pub returns-then-is_above-clause-ok : goal.returns-then-is_above-clause-ok
+returns-then-is_above-clause-ok g c =
     on_ok_is c.add.result _ _ _
-    (with_new c.args.self.now.entries c.args.ty c.args.id c.args.values.now (rw (← c.self.view_is) (none_above (entries_of c.self.inside.values.items c.self.inside.entries.items) c.args.ty c.args.id (subst (λ n. n < c.args.id) c.self.invariant.most (omega arith)))))
+    (with_new c.args.self.now.entries c.args.ty c.args.id c.args.values.now (rw (← c.self.view_is) (none_is_above c.self.inside.entries.items c.self.inside.values.items c.self.inside.greatest c.self.inside.apart c.args.ty c.args.id c.self.invariant.0.most c.self.invariant.1 (sym c.is_above.ensures ∙ c.if-is_above.true))))
     c.add.ensures.ok
 
-pub returns-then-id-self-clause-greatest : goal.returns-then-id-self-clause-greatest
-returns-then-id-self-clause-greatest g c = greatest_so c.add.result c.add.new.self.entries c.args.self.now.entries c.args.ty c.args.id c.args.values.now (returns-then-id-self-clause-ok g c)
+pub returns-then-is_above-clause-greatest : goal.returns-then-is_above-clause-greatest
+returns-then-is_above-clause-greatest g c = greatest_so c.add.result c.add.new.self.entries c.args.self.now.entries c.args.ty c.args.id c.args.values.now (returns-then-is_above-clause-ok g c)
