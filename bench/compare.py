@@ -1,14 +1,17 @@
 #!/usr/bin/env python3
-"""compare.py PROGRAM [NUMBER [CALLS ..]]: measures the built program beside the plain one of bench/baseline on generated traces.
+"""compare.py PROGRAM [NUMBER [CALLS ..]]: measures the built program beside the plain one of bench/baseline.
 
-It builds the plain program with rustc -O, and for each number of turns (10000, 100000 and 1000000) makes the trace with both, checks
-that both make the same one and that both replays end with the same line, and prints a row for `run` on the trace in a file and one for
-`soak`, each with no layers and through the validation layer. README.md says how to read them."""
+It builds the plain program with rustc -O, and for each number of turns (10000, 100000 and 1000000) makes the generated trace with both,
+checks that both make the same one and that both replays end with the same line, and prints a row for `run` on the trace in a file and one
+for `soak`, each with no layers and through the validation layer; and then the same rows for `run` on the three kinds of traces that
+traces.py makes, of about as many calls. README.md says how to read them."""
 import os
 import pathlib
 import subprocess
 import sys
 import tempfile
+
+import traces
 
 HERE = pathlib.Path(__file__).resolve().parent
 MACHINE = HERE.parent / "examples" / "machine"
@@ -51,6 +54,29 @@ def calls_of(line):
     return int(line.split(b"calls=")[1].split()[0])
 
 
+def measure(title, turns, ours, plain, before):
+    """Prints the row of one way to replay."""
+    statuses, used, plain_used = both(ours, plain)
+    last, plain_last = last_line(ours[3]), last_line(plain[3])
+    if statuses != {0} or last != plain_last:
+        sys.exit(f"{title}, {turns} turns: statuses {statuses}, {last} and {plain_last}")
+    calls = calls_of(last)
+    cost = used[0] / calls
+    growth = f"{cost / before[title]:.2f}" if title in before else ""
+    before[title] = cost
+    print(f"| {title} | {turns} | {used[0]:.3f} | {calls / used[0]:.0f} | {used[1]:.1f} | {growth} | {plain_used[0]:.3f} | {plain_used[1]:.1f} | {plain_used[0] / used[0]:.2f} |", flush=True)
+
+
+def generated(program, plain, room, number, turns):
+    """Makes the generated trace with both programs."""
+    trace, other = f"{room}/trace", f"{room}/other"
+    run([plain, "gen", number, str(turns)], {}, os.devnull, trace)
+    run([program, "gen", "--number", number, "--calls", str(turns)], {}, os.devnull, other)
+    if pathlib.Path(trace).read_bytes() != pathlib.Path(other).read_bytes():
+        sys.exit(f"another trace of {turns} turns")
+    return trace
+
+
 def main():
     if len(sys.argv) < 2:
         sys.exit(__doc__)
@@ -60,32 +86,26 @@ def main():
     print("| what | turns | s | calls a second | MB | s a call, to the size before | plain s | plain MB | plain s / s |")
     print("|---|---|---|---|---|---|---|---|---|")
     before = {}
+    root = ["--root", str(MACHINE)]
+    layers = [("", {}, []), (", validated", VALIDATION, ["--validate"])]
     with tempfile.TemporaryDirectory() as room:
-        plain = f"{room}/baseline"
+        plain, text, other = f"{room}/baseline", f"{room}/text", f"{room}/said"
         subprocess.run(["rustc", "-O", "--edition", "2021", "-o", plain, HERE / "baseline" / "main.rs"], check=True)
-        root = ["--root", str(MACHINE)]
         for turns in sizes:
-            trace, text, other = f"{room}/trace", f"{room}/text", f"{room}/other"
+            trace = generated(program, plain, room, number, turns)
+            for title, env, words in layers:
+                measure("run" + title, turns, ([program, "run", *root], env, trace, text), ([plain, "run", *words], {}, trace, other), before)
             made = ["--number", number, "--calls", str(turns)]
-            run([plain, "gen", number, str(turns)], {}, os.devnull, trace)
-            run([program, "gen", *made], {}, os.devnull, text)
-            if pathlib.Path(trace).read_bytes() != pathlib.Path(text).read_bytes():
-                sys.exit(f"another trace of {turns} turns")
-            rows = [
-                ("run", [program, "run", *root], {}, [plain, "run"], trace),
-                ("run, validated", [program, "run", *root], VALIDATION, [plain, "run", "--validate"], trace),
-                ("soak", [program, "soak", *root, *made], {}, [plain, "soak", number, str(turns)], os.devnull),
-                ("soak, validated", [program, "soak", *root, *made], VALIDATION, [plain, "soak", number, str(turns), "--validate"], os.devnull),
-            ]
-            for title, words, env, plain_words, stdin in rows:
-                statuses, ours, theirs = both((words, env, stdin, text), (plain_words, {}, stdin, other))
-                if statuses != {0} or last_line(text) != last_line(other):
-                    sys.exit(f"{title}, {turns} turns: statuses {statuses}, {last_line(text)} and {last_line(other)}")
-                calls = calls_of(last_line(text))
-                cost = ours[0] / calls
-                growth = f"{cost / before[title]:.2f}" if title in before else ""
-                before[title] = cost
-                print(f"| {title} | {turns} | {ours[0]:.3f} | {calls / ours[0]:.0f} | {ours[1]:.1f} | {growth} | {theirs[0]:.3f} | {theirs[1]:.1f} | {theirs[0] / ours[0]:.2f} |", flush=True)
+            for title, env, words in layers:
+                ours = ([program, "soak", *root, *made], env, os.devnull, text)
+                measure("soak" + title, turns, ours, ([plain, "soak", number, str(turns), *words], {}, os.devnull, other), before)
+            for kind, calls in traces.CALLS.items():
+                count = turns // calls
+                with open(trace, "w") as file:
+                    traces.write(kind, count, file)
+                for title, env, words in layers:
+                    measure(kind + title, count, ([program, "run", *root], env, trace, text), ([plain, "run", *words], {}, trace, other), before)
 
 
-main()
+if __name__ == "__main__":
+    main()
