@@ -109,7 +109,7 @@ impl<S> LineReader<S> {
 }
 
 impl<S: Source + Drop> LineReader<S> {
-    ghost use Rattle.std.specs.Prelude.{◌≡◌, ◌≢◌, ◌+◌, ◌≤◌, ◌<◌, length, take, drop, ℕ, IfOk, OnOk, OnErr, MatchOption, Err, None, Some, false};
+    ghost use Rattle.std.specs.Prelude.{◌≡◌, ◌≢◌, ◌+◌, ◌≤◌, ◌<◌, length, take, drop, ℕ, IfOk, IfSome, IsOk, OnOk, OnErr, MatchOption, Err, None, Some, false};
     ghost use Rattle.replay_base.specs.Bytes.{IsSpent};
     ghost use Rattle.replay_base.specs.Faults.{HasCause, raised};
     ghost use Rattle.replay_base.specs.Lines.{HasNoFeed};
@@ -221,6 +221,7 @@ impl<S: Source + Drop> LineReader<S> {
         ensures kept { MatchOption result ((self.new ≡ self.old) × HasNoFeed (kept_of self.old) × (self.old.error ≡ None) × (self.old.finished ≡ false)) (λ found. Reads (state_of S.left S.faults self.old) (state_of S.left S.faults self.new) found (line_of self.new)) }
         ensures source { self.new.source ≡ self.old.source }
         ensures ahead { length (kept_of self.new) ≤ MOST + 1 }
+        ensures fine { self.old.error ≡ None → IfSome result (λ found. IsOk found) }
     {
         if let Some(error) = self.error {
             return Some(Err(error));
