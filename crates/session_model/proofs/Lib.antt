@@ -9,3 +9,10 @@ pub mod Steps
 pub mod Idle
 pub mod Shapes
 pub mod Running
+pub mod Lines
+pub mod Owning
+pub mod Enough
+pub mod Listed
+pub mod Laws
+pub mod Retrievals
+pub mod Depth

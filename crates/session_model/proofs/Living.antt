@@ -39,7 +39,7 @@ new_of before created owners (x ∷ made) o known = go (new_of before created ow
     go ih false e true f = let is : x ≡ o = same_is x o f in let no : born_in before o ≡ false = sym (ap (born_in before) is) ∙ e in cc
     go ih false e false f = rw f ih
 
-new_given : (before : List Birth) (args : List (List Argument)) (e : Effect) (made : List Object) (o : Object) → born_in before o ≡ true → born_in (births_given before args e made) o ≡ false
+pub new_given : (before : List Birth) (args : List (List Argument)) (e : Effect) (made : List Object) (o : Object) → born_in before o ≡ true → born_in (births_given before args e made) o ≡ false
 new_given before args (eff.Create t owner many) made o known = new_of before true (owners_given before args owner) made o known
 new_given before args (eff.Retrieve t owner many) made o known = new_of before false (owners_given before args owner) made o known
 new_given before args eff.None made o known = refl

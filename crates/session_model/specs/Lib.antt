@@ -2,6 +2,8 @@ pub mod Session
 pub mod Beginning
 pub mod Returning
 pub mod Stands
+pub mod Living
+pub mod Enough
 pub mod Steps
 pub mod Running
 pub mod Samples

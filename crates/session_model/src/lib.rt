@@ -5,14 +5,16 @@
 
 mod samples;
 
-ghost use Rattle.std.specs.Prelude.{◌≡◌, ℕ, Some, List, [], ◌∷◌, reverse};
+ghost use Rattle.std.specs.Prelude.{◌≡◌, ◌≤◌, ℕ, true, Some, List, [], ◌∷◌, length, reverse};
 ghost use Rattle.command_tables.specs.Calls.{ReplyContent};
 ghost use Rattle.trace_format.specs.Content.{BeginEvent, TraceEvent, Begin, Return};
 ghost use Rattle.object_model.specs.declared.Object.{Object};
-ghost use Rattle.object_model.specs.History.{Birth};
+ghost use Rattle.object_model.specs.History.{Birth, alive, births, owners_in};
+ghost use Rattle.object_model.specs.Objects.{is_in};
 ghost use Rattle.replay_model.specs.Setup.{Setup};
 ghost use Rattle.replay_model.specs.Direct.{Sent};
-ghost use Rattle.replay_model.specs.Judged.{judged};
+ghost use Rattle.replay_model.specs.Births.{made_by};
+ghost use Rattle.replay_model.specs.Judged.{judged, made_of};
 ghost use Rattle.replay_model.specs.Past.{Opened};
 ghost use Rattle.replay_model.specs.Text.{end_line, end_of};
 ghost use Rattle.chain_model.specs.Simulated.{Held};
@@ -20,6 +22,8 @@ ghost use Rattle.chain_model.specs.Traces.{GivesGuarded, IsTrace};
 ghost use Rattle.session_model.specs.Running.{AreAnsweredInRun, RanWell, session_of, session_started};
 ghost use Rattle.session_model.specs.Session.{SessionKept, nothing_kept};
 ghost use Rattle.session_model.specs.Beginning.{LivesPast, living_past};
+ghost use Rattle.session_model.specs.Enough.{IsOpenOf, SaysOfCalls, SaysOfReturns, history_of, living_retrievals};
+ghost use Rattle.session_model.specs.Living.{AreOfLiving};
 ghost use Rattle.session_model.specs.Returning.{LivesSince, held_of_thread, living_since, sent_of_thread};
 ghost use Rattle.session_model.specs.Stands.{BeginsWell, HasCall, HasNoCall, ReturnsWell, Stands};
 ghost use Rattle.session_model.specs.Steps.{BeginSteps, ReturnSteps};
@@ -77,4 +81,21 @@ pub fn what_lives_can_be_listed()
 pub fn the_end_line_is_the_traces()
     ensures { (s : Setup) (k : SessionKept) (events : List TraceEvent) (replies : List ReplyContent) → Stands s k events replies →
         end_line k.calls k.skipped k.reports ≡ end_of (judged s events) }
+{}
+
+/// An owner of what lives, at any depth, lives; and no object has more than three owners.
+pub fn owners_of_what_lives_live()
+    ensures live { (s : Setup) (events : List TraceEvent) (x y : Object) → IsTrace events → alive (history_of s events) x ≡ true →
+        is_in (owners_in (births (history_of s events)) x) y ≡ true → alive (history_of s events) y ≡ true }
+    ensures three { (s : Setup) (events : List TraceEvent) (x : Object) → IsTrace events → length (owners_in (births (history_of s events)) x) ≤ 3 }
+{}
+
+/// A session that kept the births of what lives alone would judge, end, make and retrieve the same, and the retrievals of what lives are
+/// enough too.
+pub fn births_of_what_lives_are_enough()
+    ensures calls { (s : Setup) (events : List TraceEvent) (ls : List Birth) → IsTrace events → AreOfLiving ls (history_of s events) → SaysOfCalls s events ls }
+    ensures returns { (s : Setup) (events : List TraceEvent) (ls : List Birth) (thread : ℕ) (o : Opened) → IsTrace events → AreOfLiving ls (history_of s events) →
+        IsOpenOf s events thread o → SaysOfReturns s events ls o }
+    ensures retrievals { (s : Setup) (events : List TraceEvent) (o : Opened) → IsTrace events →
+        made_by s.drivers (births (history_of s events)) (alive (history_of s events)) (living_retrievals s events) o ≡ made_of s (judged s events) o }
 {}
