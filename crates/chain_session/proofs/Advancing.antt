@@ -1,22 +1,19 @@
 -- One event more of a trace.
-use Rattle.std.proofs.Common.{◌≡◌, ◌∙◌, ℕ, suc, ◌+◌, Option, Some, None, List, [], ◌∷◌, ◌++◌, length, reverse, refl, ap, sym, subst}
+use Rattle.std.proofs.Common.{◌≡◌, ◌∙◌, ℕ, suc, Option, Some, None, List, [], ◌∷◌, ◌++◌, length, reverse, refl, ap, sym, subst}
 use Rattle.std.proofs.lemmas.List.{length-reverse}
-use Rattle.std.specs.List.{zip}
 use Rattle.command_tables.specs.Calls.{DriverCallContent, ReplyContent}
 use Rattle.model_driver.specs.Logs.{Log, logged}
-use Rattle.trace_format.specs.Content.{BeginEvent, TraceEvent, Begin}
+use Rattle.trace_format.specs.Content.{BeginEvent, Begin}
 use Rattle.replay_model.specs.Setup.{Setup}
-use Rattle.chain_model.specs.Traces.{IsTrace}
 use Rattle.session_model.specs.Session.{SessionKept, nothing_kept}
 use Rattle.session_model.specs.Beginning.{calls_told, kept_after_begin}
 use Rattle.session_model.specs.Stands.{AreRepliesTo, BeginsWell}
-use Rattle.session_model.specs.Steps.{BeginSteps}
 use Rattle.session_model.proofs.Began.{begins_well}
 use Rattle.session_model.proofs.Shapes.{begin_steps}
 use Rattle.chain_session.specs.declared.kept.Kept.{Kept}
 use Rattle.chain_session.specs.Beginning.{BeginsAs, CanBegin, CutShort}
 use Rattle.chain_session.specs.Shown.{Shows}
-use Rattle.chain_session.specs.Standing.{Advances, CanCome, CutBefore, ShowsOnce, StandsFor}
+use Rattle.chain_session.specs.Standing.{Advances, CanCome, CutBefore, ShowsOnce}
 use Rattle.chain_session.specs.Telling.{FrontAsked}
 use Rattle.chain_session.proofs.Told.{none_asked}
 

@@ -1,5 +1,5 @@
 -- A begin by what the program keeps is the begin by the definitions.
-use Rattle.std.proofs.Common.{◌≡◌, ◌∙◌, ℕ, suc, ◌+◌, Bool, true, false, not, cond, ◌||◌, ◌&&◌, Option, Some, None, List, [], ◌∷◌, ◌++◌, length, map, refl, ap, sym, subst}
+use Rattle.std.proofs.Common.{◌≡◌, ◌∙◌, ℕ, ◌+◌, Bool, true, false, not, cond, ◌||◌, ◌&&◌, Option, Some, None, List, [], ◌∷◌, ◌++◌, length, map, refl, ap, sym, subst}
 use Rattle.std.proofs.lemmas.List.{map-append, length-map}
 use Rattle.std.specs.Prelude.{is_some}
 use Rattle.std.specs.List.{flat_map, zip}
@@ -8,7 +8,6 @@ use Rattle.command_tables.specs.Effects.{succeeds}
 use Rattle.command_tables.specs.Tests.{same_command}
 use Rattle.command_tables.specs.declared.types.Code.{Code}
 use Rattle.command_tables.specs.declared.types.CommandId.TheVariants as cmd
-use Rattle.command_tables.specs.Table.{row_of}
 use Rattle.model_driver.specs.Driver.{reply_shown}
 use Rattle.model_driver.specs.Logs.{Log, logged}
 use Rattle.trace_format.specs.Content.{BeginEvent}
@@ -17,8 +16,8 @@ use Rattle.object_model.specs.declared.PartKind.{PartKind}
 use Rattle.object_model.specs.Findings.{Findings, Report, at_place, is_failing}
 use Rattle.replay_model.specs.declared.Named.{Named}
 use Rattle.replay_model.specs.Setup.{Setup, parts_of, refusal_of}
-use Rattle.replay_model.specs.Past.{Opened, arguments_in, is_skipped}
-use Rattle.replay_model.specs.Judged.{Begun, is_refused}
+use Rattle.replay_model.specs.Past.{Opened, is_skipped}
+use Rattle.replay_model.specs.Judged.{is_refused}
 use Rattle.replay_model.specs.Direct.{answers_to}
 use Rattle.replay_model.specs.Text.{chain_text, report_text}
 use Rattle.layer_model.specs.Terminator.{told_call}
@@ -32,12 +31,12 @@ use Rattle.chain_model.specs.Traces.{starts_chain}
 use Rattle.dispatch_chain.specs.Holding.{HeldCalls, IsHeldOf}
 use Rattle.dispatch_chain.specs.Seats.{kinds_of}
 use Rattle.session_model.specs.Session.{SessionKept}
-use Rattle.session_model.specs.Beginning.{LivesPast, begin_lines, begun_kept, calls_told, drivers_kept, findings_kept, kept_after_begin, loader_kept, walk_kept}
+use Rattle.session_model.specs.Beginning.{LivesPast, begun_kept, calls_told, drivers_kept, findings_kept, loader_kept, walk_kept}
 use Rattle.session_model.specs.Stands.{AreRepliesTo}
 use Rattle.chain_session.specs.declared.call.OpenCall.{OpenCall}
 use Rattle.chain_session.specs.declared.kept.Kept.{Kept}
 use Rattle.chain_session.specs.Beginning.{Begins}
-use Rattle.chain_session.specs.Judging.{IsJudged, comes_down, found_at, found_first, walk_at}
+use Rattle.chain_session.specs.Judging.{IsJudged, found_at}
 use Rattle.chain_session.specs.Keeping.{KeepsBegun}
 use Rattle.chain_session.specs.Opened.{opened_of, sent_of}
 use Rattle.chain_session.specs.Opening.{opened_first}

@@ -1,5 +1,5 @@
 -- The steps of a begin, put together.
-use Rattle.std.proofs.Common.{◌≡◌, ◌∙◌, ℕ, ◌+◌, Bool, true, false, cond, ◌&&◌, Option, Some, None, List, [], ◌∷◌, ◌++◌, length, map, refl, ap, sym, subst, append_assoc}
+use Rattle.std.proofs.Common.{◌≡◌, ◌∙◌, ℕ, ◌+◌, Bool, true, false, cond, ◌&&◌, Option, List, [], ◌++◌, length, map, ap, sym, subst, append_assoc}
 use Rattle.std.specs.Prelude.{is_some}
 use Rattle.std.specs.List.{AllByRecursion, flat_map}
 use Rattle.command_tables.specs.Calls.{DriverCallContent, call_content}
@@ -15,7 +15,7 @@ use Rattle.replay_model.specs.Past.{Opened, is_skipped}
 use Rattle.replay_model.specs.Text.{chain_text, report_text}
 use Rattle.chain_build.specs.declared.answers.Chain.{Chain as Built}
 use Rattle.layer_model.specs.Walks.{PartState}
-use Rattle.terminator.specs.Calls.{TerminatorState, targets_of}
+use Rattle.terminator.specs.Calls.{targets_of}
 use Rattle.lifetime_layer.specs.declared.verdict.Verdict.{Verdict}
 use Rattle.lifetime_layer.specs.Reports.{reports_of}
 use Rattle.dispatch_chain.specs.Seats.{kinds_of}

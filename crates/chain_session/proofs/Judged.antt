@@ -1,5 +1,5 @@
 -- A call that was judged.
-use Rattle.std.proofs.Common.{◌≡◌, ◌∙◌, ℕ, Bool, true, false, not, cond, ◌||◌, Option, Some, None, List, [], ◌∷◌, ◌++◌, refl, ap, sym, subst, map}
+use Rattle.std.proofs.Common.{◌≡◌, ◌∙◌, ℕ, Bool, true, false, Option, Some, None, List, [], ◌∷◌, ◌++◌, refl, ap, sym}
 use Rattle.std.specs.Prelude.{is_some}
 use Rattle.command_tables.specs.Calls.{call_content}
 use Rattle.command_tables.specs.Table.{ParamSpec, row_of}
@@ -10,7 +10,6 @@ use Rattle.object_model.specs.Objects.{is_in}
 use Rattle.object_model.specs.Rules.{Failure, failure, loader_failures, parameter_holds, unless}
 use Rattle.command_tables.specs.declared.types.Rule.TheVariants as rule
 use Rattle.object_model.specs.declared.PartKind.{PartKind}
-use Rattle.replay_model.specs.Past.{Opened}
 use Rattle.layer_model.specs.Walks.{PartState}
 use Rattle.lifetime_layer.specs.declared.verdict.Verdict.{Verdict}
 use Rattle.lifetime_layer.specs.Reports.{reports_of}
@@ -20,7 +19,7 @@ use Rattle.dispatch_chain.specs.Rows.{picked}
 use Rattle.dispatch_chain.specs.Seats.{kinds_of}
 use Rattle.chain_session.specs.declared.call.OpenCall.{OpenCall}
 use Rattle.chain_session.specs.Opened.{opened_of}
-use Rattle.chain_session.specs.Judging.{IsJudged, comes_down, found_at, found_first, loader_report, walk_at}
+use Rattle.chain_session.specs.Judging.{IsJudged, loader_report, walk_at}
 
 -- ---- the loader
 

@@ -1,11 +1,10 @@
 -- A return, by what a session keeps.
 use Rattle.std.proofs.Common.{◌≡◌, ℕ, Option, Some, None, List, [], ◌∷◌, sym, subst}
 use Rattle.command_tables.specs.Calls.{ReplyContent}
-use Rattle.model_driver.specs.Logs.{Log}
 use Rattle.trace_format.specs.Content.{TraceEvent, Return}
 use Rattle.replay_model.specs.Direct.{Sent}
 use Rattle.replay_model.specs.Setup.{Setup}
-use Rattle.chain_model.specs.Traces.{GivesGuarded, IsTrace}
+use Rattle.chain_model.specs.Traces.{IsTrace}
 use Rattle.session_model.specs.Session.{nothing_kept}
 use Rattle.session_model.specs.Returning.{sent_of_thread}
 use Rattle.session_model.specs.Stands.{HasCall}

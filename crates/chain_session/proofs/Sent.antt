@@ -1,18 +1,18 @@
 -- A call that went to its drivers.
-use Rattle.std.proofs.Common.{◌≡◌, ◌∙◌, ℕ, Bool, true, false, cond, List, [], ◌∷◌, map, refl, ap, sym, subst}
-use Rattle.command_tables.specs.Calls.{CallContent, DriverCallContent, ReplyContent, call_content}
+use Rattle.std.proofs.Common.{◌≡◌, ◌∙◌, ℕ, true, false, cond, List, [], ◌∷◌, map, refl, ap, sym, subst}
+use Rattle.command_tables.specs.Calls.{CallContent, ReplyContent, call_content}
 use Rattle.model_driver.specs.Driver.{reply_shown}
 use Rattle.model_driver.specs.Logs.{Log}
 use Rattle.object_model.specs.Values.{Value}
 use Rattle.layer_model.specs.Ids.{IdMap}
 use Rattle.layer_model.specs.Terminator.{told_call}
-use Rattle.replay_model.specs.Past.{Opened, is_skipped}
+use Rattle.replay_model.specs.Past.{is_skipped}
 use Rattle.terminator.specs.Calls.{TerminatorState, drivers_for, targets_of}
 use Rattle.chain_session.specs.declared.call.OpenCall.{OpenCall}
 use Rattle.chain_session.specs.Opened.{opened_of}
-use Rattle.chain_session.specs.Sending.{IsSentTo, calls_due, drivers_due, drivers_told}
+use Rattle.chain_session.specs.Sending.{IsSentTo, calls_due, drivers_told}
 use Rattle.chain_session.specs.Telling.{AreAsked, FrontAsked}
-use Rattle.chain_session.proofs.Told.{none_asked, none_told}
+use Rattle.chain_session.proofs.Told.{none_told}
 
 -- each call is told to its driver
 told_drivers : (m : IdMap (List Value)) (c : CallContent) (ds : List ℕ) → drivers_told (map (told_call m c) ds) ≡ ds

@@ -1,5 +1,5 @@
 -- The place that stops a call has the last report.
-use Rattle.std.proofs.Common.{◌≡◌, ◌∙◌, ℕ, ◌+◌, Bool, true, false, Option, Some, None, List, [], ◌∷◌, ◌++◌, if◌then◌else◌, refl, ap, sym, map, length, slice_get, ◌-◌, arith}
+use Rattle.std.proofs.Common.{◌≡◌, ◌∙◌, ℕ, ◌+◌, Bool, true, false, Option, Some, None, List, [], ◌∷◌, ◌++◌, if◌then◌else◌, refl, ap, sym, length, slice_get, ◌-◌, arith}
 use Rattle.std.specs.Prelude.{is_some}
 use Rattle.command_tables.specs.Calls.{CallContent}
 use Rattle.object_model.specs.Findings.{Findings, Report, above, at_place, is_failing}
@@ -9,7 +9,7 @@ use Rattle.layer_model.specs.Reading.{read_call}
 use Rattle.layer_model.specs.Walks.{PartState, Threads, Lifetimes, Unique, enter_parts, passed, stopped}
 use Rattle.std.specs.Option.{option_map}
 use Rattle.lifetime_layer.specs.declared.finding.Finding.{Finding}
-use Rattle.lifetime_layer.specs.Reports.{report_of, reports_of}
+use Rattle.lifetime_layer.specs.Reports.{reports_of}
 use Rattle.chain_session.specs.Judging.{last_place, stopped_by}
 
 last_at : (f : Finding) (xs : List Finding) → option_map (λ (x : Finding). x.place) (slice_get (f ∷ xs) (length xs)) ≡ last_place (reports_of (f ∷ xs))

@@ -1,12 +1,12 @@
 -- What drivers were told.
-use Rattle.std.proofs.Common.{◌≡◌, ◌∙◌, ℕ, zero, suc, ◌+◌, ◌<◌, List, [], ◌∷◌, ◌++◌, length, map, take, get_or, Option, Some, None, refl, ap, sym, subst, arith, append_assoc, drop, add-one}
+use Rattle.std.proofs.Common.{◌≡◌, ◌∙◌, ℕ, zero, suc, ◌+◌, ◌<◌, List, [], ◌∷◌, ◌++◌, length, map, take, get_or, Some, None, refl, ap, sym, subst, append_assoc, drop, add-one}
 use Rattle.std.proofs.Math.Seq.{drop-cons}
 use Rattle.std.proofs.lemmas.List.{map-append, take-append-drop, take_more}
-use Rattle.std.specs.List.{zip, AllByRecursion}
+use Rattle.std.specs.List.{zip}
 use Rattle.command_tables.specs.Calls.{DriverCallContent, ReplyContent}
 use Rattle.model_driver.specs.declared.driver.DriverCall.{DriverCall}
 use Rattle.model_driver.specs.declared.driver.DriverReply.{DriverReply}
-use Rattle.model_driver.specs.Driver.{HasShape, IsAnsweredBy, call_shown, reply_shown}
+use Rattle.model_driver.specs.Driver.{IsAnsweredBy, call_shown, reply_shown}
 use Rattle.model_driver.specs.Logs.{Log, logged}
 use Rattle.session_model.specs.Stands.{AreRepliesTo}
 use Rattle.chain_session.specs.Telling.{AreAsked, AskedOnce, FrontAsked}

@@ -1,5 +1,5 @@
 -- How a call is judged at its begin. Source: this project.
-use Rattle.std.specs.Prelude.{◌≡◌, ◌≤◌, ℕ, Bool, true, false, not, ◌||◌, if◌then◌else◌, Option, Some, None, List, [], ◌∷◌, length, map}
+use Rattle.std.specs.Prelude.{◌≡◌, ◌≤◌, ℕ, Bool, true, not, ◌||◌, if◌then◌else◌, Option, Some, None, List, [], ◌∷◌, length, map}
 use Rattle.command_tables.specs.Calls.{call_content}
 use Rattle.command_tables.specs.Table.{row_of}
 use Rattle.command_tables.specs.declared.types.Rule.TheVariants as rule

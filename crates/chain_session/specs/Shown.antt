@@ -9,7 +9,6 @@ use Rattle.object_model.specs.declared.PartKind.{PartKind}
 use Rattle.replay_model.specs.Past.{is_skipped}
 use Rattle.replay_model.specs.Setup.{Setup, parts_of, refusal_of}
 use Rattle.chain_build.specs.declared.answers.Chain.{Chain}
-use Rattle.layer_model.specs.Ids.{no_ids}
 use Rattle.chain_model.specs.Simulated.{Held}
 use Rattle.chain_model.specs.Traces.{starts_chain}
 use Rattle.dispatch_chain.specs.Holding.{IsHeldOf}

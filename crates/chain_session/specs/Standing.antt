@@ -1,6 +1,6 @@
 -- A session stands for the events of a trace and the replies of its drivers, and what one event more does. Events and replies stand newest first.
 -- Source: this project.
-use Rattle.std.specs.Prelude.{◌≡◌, ◌∷◌, ◌++◌, ℕ, List, [], Option, Some, None, length}
+use Rattle.std.specs.Prelude.{◌≡◌, ◌∷◌, ◌++◌, ℕ, List, Option, Some, None, length}
 use Rattle.command_tables.specs.Calls.{ReplyContent}
 use Rattle.command_tables.specs.Tests.{same_command}
 use Rattle.command_tables.specs.declared.types.CommandId.TheVariants as cmd

@@ -1,4 +1,4 @@
-use Rattle.std.proofs.Common.{◌≡◌, ◌∙◌, ap, refl, subst, sym, false}
+use Rattle.std.proofs.Common.{◌∙◌, ap, refl, subst, sym}
 use Rattle.std.specs.List.{AllByRecursion}
 use Rattle.command_tables.specs.Calls.{call_content}
 use Rattle.command_tables.specs.Tests.{same_command}

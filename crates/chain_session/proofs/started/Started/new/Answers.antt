@@ -1,4 +1,4 @@
-use Rattle.std.proofs.Common.{◌≡◌, length, map, rules, sym, ◌∙◌}
+use Rattle.std.proofs.Common.{◌≡◌, length, rules, sym, ◌∙◌}
 use Rattle.std.proofs.lemmas.List.{length-map}
 use Rattle.layer_search.specs.Contents.{found_driver}
 use Rattle.chain_build.specs.Setup.{setup_content}
