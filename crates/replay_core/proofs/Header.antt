@@ -1,22 +1,21 @@
 -- The first line of a trace.
-use Rattle.std.proofs.Common.{◌≡◌, ◌∙◌, ℕ, ◌+◌, ◌≤◌, Some, None, List, [], ◌∷◌, ◌++◌, length, refl, sym, ap, cond, inl, inr, arith}
-use Rattle.std.specs.Prelude.{Bool, true, false, if◌then◌else◌, Option, Result, Ok, Err}
+use Rattle.std.proofs.Common.{◌≡◌, ◌∙◌, ℕ, ◌+◌, ◌≤◌, Some, None, List, [], ◌∷◌, ◌++◌, length, refl, ap, inl, inr, arith}
+use Rattle.std.specs.Prelude.{Bool, true, false, if◌then◌else◌, Option, Err}
 use Rattle.std.specs.Option.{option_map}
 use Rattle.std.specs.Str.{bytes_eq}
 use Rattle.replay_base.specs.Lines.{lines_of}
 use Rattle.replay_base.specs.Reader.{IsAtEnd, ReaderState, TakesLine}
 use Rattle.replay_base.specs.declared.limit.TheConstants.{MOST_LINE_BYTES}
 use Rattle.replay_base.specs.declared.limit.Which.TheVariants as which
-use Rattle.trace_format.specs.declared.fault.TraceFault.{TraceFault}
 use Rattle.trace_format.specs.declared.fault.TraceFault.TheVariants as fault
 use Rattle.trace_format.specs.Accepting.{header, header_fault}
 use Rattle.replay_base.specs.Changes.{Stood}
 use Rattle.replay_model.specs.Setup.{Setup}
-use Rattle.replay_model.specs.Stop.{Stop, Cause, Fault, LineBytes, Lines, at_fault, cause_before, cause_or, events_behind, events_in, events_of, header_cause, placed_behind, stop, stop_behind, stop_in}
+use Rattle.replay_model.specs.Stop.{Cause, Fault, LineBytes, Lines, at_fault, cause_before, cause_or, events_behind, events_in, events_of, header_cause, placed_behind, stop, stop_behind, stop_in}
 use Rattle.chain_session.specs.declared.kept.Kept.{Kept}
 use Rattle.replay_core.specs.declared.error.ReplayError.{ReplayError}
 use Rattle.replay_core.specs.declared.error.ReplayError.TheVariants as error
-use Rattle.replay_core.specs.Given.{Halts, HasGiven, IsBarred, StopsAt, TakesHeader, TakesLineOr, TakesNext, source_of}
+use Rattle.replay_core.specs.Given.{Halts, IsBarred, StopsAt, TakesHeader, TakesLineOr, TakesNext, source_of}
 use Rattle.replay_core.specs.Plays.{Plays}
 use Rattle.replay_core.specs.Traffic.{Traffic}
 use Rattle.replay_core.proofs.Playing.{nothing_out}

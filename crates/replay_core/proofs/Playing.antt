@@ -1,5 +1,5 @@
 -- A replay, one event longer.
-use Rattle.std.proofs.Common.{◌≡◌, ℕ, Bool, true, false, cond, Option, Some, None, List, [], ◌∷◌, ◌++◌, length, refl, sym, ◌∙◌, ap, subst, append_assoc, append-nil}
+use Rattle.std.proofs.Common.{◌≡◌, ℕ, Bool, true, false, cond, Option, Some, None, List, [], ◌∷◌, ◌++◌, length, take, refl, sym, ◌∙◌, ap, subst, append_assoc, append-nil}
 use Rattle.command_tables.specs.Calls.{DriverCallContent, ReplyContent}
 use Rattle.model_driver.specs.Logs.{Log, logged}
 use Rattle.trace_format.specs.Content.{TraceEvent}
@@ -29,8 +29,16 @@ logged_nil : (log : Log) → log ≡ logged log []
 logged_nil None = refl
 logged_nil (Some xs) = ap (λ ys. Some ys) (sym (append-nil xs))
 
-lines_more : (s : Setup) (events : List TraceEvent) (e : TraceEvent) → lines_of_events s (e ∷ events) ≡ lines_of_events s events ++ lines_behind s events e
+pub lines_more : (s : Setup) (events : List TraceEvent) (e : TraceEvent) → lines_of_events s (e ∷ events) ≡ lines_of_events s events ++ lines_behind s events e
 lines_more s events e = lines-judge s (judged s events) e
+
+take_all : (bs : List ℕ) → take (length bs) bs ≡ bs
+take_all [] = refl
+take_all (b ∷ bs) = ap (λ more. b ∷ more) (take_all bs)
+
+-- what has grown by a whole text has grown by a front of it
+pub whole_grown : (h new : Option (List ℕ)) (bs : List ℕ) → new ≡ grown h bs → GrownByFront h new bs
+whole_grown h new bs is = record { count = length bs; front = is ∙ ap (grown h) (sym (take_all bs)) }
 
 -- before the first event
 pub played_none : (s : Setup) (x : Option Kept) (t : Traffic) → x ≡ None → t.log ≡ t.old_log → t.sink.new ≡ t.sink.old → Played s x [] t

@@ -1,9 +1,13 @@
 -- How far a replay has come in the lines of a trace.
 use Rattle.std.proofs.Common.{◌≡◌, ◌∙◌, ℕ, ◌+◌, ◌≤◌, ◌<◌, Bool, true, false, cond, Option, Some, None, List, [], ◌∷◌, ◌++◌, length, refl, sym, ap, subst, append_assoc, append-nil, inl, inr, arith}
-use Rattle.std.specs.Prelude.{◌⊎◌, Result, Ok, Err}
+use Rattle.std.specs.Prelude.{Result, Ok, Err}
 use Rattle.std.specs.Option.{option_map}
 use Rattle.std.proofs.lemmas.List.{length-append}
-use Rattle.replay_base.specs.Changes.{Change, Gave, Stood, changed}
+use Rattle.model_driver.specs.Logs.{Log}
+use Rattle.replay_base.specs.Bytes.{GrownByFront, grown}
+use Rattle.replay_base.specs.Changes.{Change, FailedOnce, Gave, Stood, changed}
+use Rattle.replay_base.specs.Faults.{raised}
+use Rattle.replay_base.proofs.Written.{grown_grown}
 use Rattle.replay_base.specs.Lines.{lines_of}
 use Rattle.replay_base.specs.Reader.{IsAtEnd, ReaderState, TakesLine}
 use Rattle.replay_base.specs.declared.limit.TheConstants.{MOST_LINE_BYTES}
@@ -15,16 +19,16 @@ use Rattle.trace_format.specs.Grammar.{IsEvent}
 use Rattle.trace_format.specs.Reading.{read_line}
 use Rattle.trace_format.specs.State.{Accepted, SumsUp, TraceSeen}
 use Rattle.replay_model.specs.Setup.{Setup}
-use Rattle.replay_model.specs.Stop.{Stop, Cause, Fault, LineBytes, Lines, Names, Layers, at_fault, cause_before, events_from, events_in, events_of, events_or, exceeds_layers, line_after, line_at, placed_in, stop, stop_from, stop_in}
-use Rattle.replay_model.proofs.Stops.{events_here, events_next, events_placed, line_barred, line_exceeding, line_faulty, line_layered, line_looked, line_misplaced, line_placed, placed_more, stop_here, stop_placed}
+use Rattle.replay_model.specs.Stop.{Cause, Fault, LineBytes, Lines, Names, Layers, at_fault, cause_before, events_from, events_in, events_of, events_or, exceeds_layers, line_after, line_at, placed_in, stop, stop_in}
+use Rattle.replay_model.proofs.Stops.{events_here, events_placed, line_barred, line_exceeding, line_faulty, line_layered, line_looked, line_misplaced, line_placed, placed_more, stop_here, stop_placed}
 use Rattle.chain_model.specs.Traces.{IsTrace}
 use Rattle.chain_session.specs.declared.kept.Kept.{Kept}
 use Rattle.replay_core.specs.declared.error.ReplayError.{ReplayError}
 use Rattle.replay_core.specs.declared.error.ReplayError.TheVariants as error
-use Rattle.replay_core.specs.Given.{EndsBehind, FinishesAt, GoesOn, Halts, HasGiven, IsBarred, StopsAt, StopsByLimit, TakesHeader, TakesLineOr, TakesNext, source_of}
-use Rattle.replay_core.specs.Plays.{Behind, InStep, LineCut, LinePlayed, LineRanOut, LineStep, LineStops, Plays, PlaysLine, PlayedAll, PlayedTo, RanOut, Step, Steps}
-use Rattle.replay_core.specs.Traffic.{Traffic, Start, upto, through, Played, WentOut, IsFront, RanOutBehind}
-use Rattle.replay_core.proofs.Playing.{played_none, went_out, still_out, ran_out_before}
+use Rattle.replay_core.specs.Given.{FinishesAt, GoesOn, IsBarred, StopsAt, TakesBehind, TakesHeader, TakesLineOr, TakesNext}
+use Rattle.replay_core.specs.Plays.{Behind, BrokeInLines, InStep, LineCut, LinePlayed, LineRanOut, LineStep, LineStops, Plays, PlaysLine, PlayedTo, RanOut, Step, Steps}
+use Rattle.replay_core.specs.Traffic.{Traffic, Start, upto, through, traffic_of, Played, IsFront, RanOutBehind, lines_behind, lines_of_events}
+use Rattle.replay_core.proofs.Playing.{lines_more, played_none, went_out, still_out, ran_out_before, whole_grown}
 use Rattle.replay_core.proofs.Reading.{Given, LongNext, all_lines, behind_of, gave_all, gave_lines, gave_so_many, given_next, given_start, has_given, long_next, own_lines}
 use Rattle.replay_core.proofs.Sessions.{trace_next}
 
@@ -277,6 +281,69 @@ far_halts s left faults r new state x n t line (error.Limit which.Names) far ahe
 far_halts s left faults r new state x n t line (error.Limit which.Chain) far ahead stood bars = absurd bars
 far_halts s left faults r new state x n t line (error.Limit which.Events) far ahead stood bars = absurd bars
 far_halts s left faults r new state x n t line (error.Limit which.Devices) far ahead stood bars = absurd bars
+
+-- ---- the sink hands on what it holds back
+
+-- where the sink holds what it held, and failed as often, all is as it was
+pub far_same : (s : Setup) (left : Option (List ℕ)) (faults : ℕ) (r : ReaderState) (state : TraceSeen) (x : Option Kept) (n : ℕ) (old_log log : Log) (first held kept : Option (List ℕ)) (before count now : ℕ) → kept ≡ held → now ≡ count
+    → SoFar s left faults r state x n (traffic_of old_log log (changed first held before count)) → SoFar s left faults r state x n (traffic_of old_log log (changed first kept before now))
+far_same s left faults r state x n old_log log first held kept before count now same_held same_count far =
+    subst (λ (h : Option (List ℕ)). SoFar s left faults r state x n (traffic_of old_log log (changed first h before now))) (sym same_held)
+    (subst (λ (f : ℕ). SoFar s left faults r state x n (traffic_of old_log log (changed first held before f))) (sym same_count) far)
+
+-- all lines so far are no more than these, and their events are the first of the trace
+so_far : (s : Setup) (left : Option (List ℕ)) (faults : ℕ) (r : ReaderState) (state : TraceSeen) (x : Option Kept) (n : ℕ) (t : Traffic) (far : SoFar s left faults r state x n t) (count : ℕ) → length r.kept ≤ MOST_LINE_BYTES + 1 → length far.events + 1 ≤ count
+    → GoesOn s far.events count (since left faults r)
+so_far s left faults r state x n t far count ahead most =
+    let are = all_lines left r (far.first ∷ far.lines) far.given in
+    record {
+      bytes = far.given.bytes ++ behind_of r;
+      read = has_given (since left faults r) r (far.first ∷ far.lines) count far.given refl (omega (arith, far.size, most)) ahead;
+      front = front_same (events_of s (far.given.bytes ++ behind_of r)) (events_from s (2 + length far.lines) far.events (lines_of (behind_of r))) far.events
+          (ap (events_in s) are ∙ events_placed s far.first far.lines (lines_of (behind_of r)) far.events far.placed)
+          (more_events s (2 + length far.lines) far.events (lines_of (behind_of r)));
+      stood = far.stood;
+    }
+
+-- the text of all events so far stands: of the last of them all lines do
+whole_front : (h new : Option (List ℕ)) (a b : List ℕ) → new ≡ grown h (a ++ b) → GrownByFront (grown h a) new b
+whole_front h new a b is = whole_grown (grown h a) new b (is ∙ sym (grown_grown h a b))
+
+-- so the sink failed behind the lines of the last event
+fails_behind : (s : Setup) (left : Option (List ℕ)) (faults : ℕ) (r : ReaderState) (state : TraceSeen) (x : Option Kept) (n : ℕ) (t : Traffic) (sink : Change) (events : List TraceEvent) (far : SoFar s left faults r state x n t) → events ≡ far.events
+    → length r.kept ≤ MOST_LINE_BYTES + 1 → 2 < n → sink.old ≡ t.sink.old → sink.new ≡ t.sink.new → FailedOnce sink → BrokeInLines s (since left faults r) (traffic_of t.old_log t.log sink)
+fails_behind s left faults r state x n t sink [] far are ahead behind old new failed = absurd (omega (arith, ap length are, far.size, far.number, behind))
+fails_behind s left faults r state x n t sink (e ∷ events) far are ahead behind old new failed =
+    let played : Played s x (e ∷ events) t = subst (λ (es : List TraceEvent). Played s x es t) (sym are) far.played in
+    let goes : GoesOn s far.events (length events + 2) (since left faults r) = so_far s left faults r state x n t far (length events + 2) ahead (omega (arith, ap length are)) in
+    record {
+      events = events;
+      event = e;
+      goes = subst (λ (es : List TraceEvent). GoesOn s es (length events + 2) (since left faults r)) (sym are) goes;
+      cut = record {
+        replies = played.replies;
+        told = record { each = played.told.each; told = played.told.told };
+        wrote = whole_front sink.old sink.new (lines_of_events s events) (lines_behind s events e)
+            (new ∙ (played.wrote ∙ (ap (λ h. grown h (lines_of_events s (e ∷ events))) (sym old) ∙ ap (grown sink.old) (lines_more s events e))));
+      };
+      failed = failed;
+    }
+
+-- there is no line that may be looked at, or the sink failed before the source was asked for one
+pub far_behind : (s : Setup) (left : Option (List ℕ)) (faults : ℕ) (r new : ReaderState) (state : TraceSeen) (x : Option Kept) (n : ℕ) (old_log log : Log) (first held kept : Option (List ℕ)) (before count now : ℕ) (line : List ℕ) (e : ReplayError)
+    → SoFar s left faults r state x n (traffic_of old_log log (changed first held before count)) → length new.kept ≤ MOST_LINE_BYTES + 1 → count ≡ before → TakesBehind r new n line (changed held kept count now) (Err e)
+    → Plays s x (since left faults new) (traffic_of old_log log (changed first kept before now)) (Err e)
+far_behind s left faults r new state x n old_log log first held kept before count now line error.Write far ahead stood takes =
+    let far2 : SoFar s left faults new state x n (traffic_of old_log log (changed first held before count)) = subst (λ (q : ReaderState). SoFar s left faults q state x n (traffic_of old_log log (changed first held before count))) (sym takes.0) far in
+    fails_behind s left faults new state x n (traffic_of old_log log (changed first held before count)) (changed first kept before now) far2.events far2 refl ahead takes.1.behind refl takes.1.held (takes.1.failed ∙ ap raised stood)
+far_behind s left faults r new state x n old_log log first held kept before count now line error.Read far ahead stood takes =
+    far_halts s left faults r new state x n (traffic_of old_log log (changed first kept before now)) line error.Read (far_same s left faults r state x n old_log log first held kept before count now takes.1.0 takes.1.1 far) ahead (takes.1.1 ∙ stood) takes.0
+far_behind s left faults r new state x n old_log log first held kept before count now line error.NoMemory far ahead stood takes =
+    far_halts s left faults r new state x n (traffic_of old_log log (changed first kept before now)) line error.NoMemory (far_same s left faults r state x n old_log log first held kept before count now takes.1.0 takes.1.1 far) ahead (takes.1.1 ∙ stood) takes.0
+far_behind s left faults r new state x n old_log log first held kept before count now line (error.Trace l f) far ahead stood takes =
+    far_halts s left faults r new state x n (traffic_of old_log log (changed first kept before now)) line (error.Trace l f) (far_same s left faults r state x n old_log log first held kept before count now takes.1.0 takes.1.1 far) ahead (takes.1.1 ∙ stood) takes.0
+far_behind s left faults r new state x n old_log log first held kept before count now line (error.Limit w) far ahead stood takes =
+    far_halts s left faults r new state x n (traffic_of old_log log (changed first kept before now)) line (error.Limit w) (far_same s left faults r state x n old_log log first held kept before count now takes.1.0 takes.1.1 far) ahead (takes.1.1 ∙ stood) takes.0
 
 -- ---- behind the last line
 

@@ -111,6 +111,29 @@ TakesLineOr old new number line (Err (error.Limit which.Lines)) = IsBarred old n
 TakesLineOr old new number line (Err (error.Limit which.LineBytes)) = IsBarred old new number line LineBytes
 TakesLineOr old new number line (Err other) = ⊥
 
+-- ---- what is held back meanwhile
+
+-- nothing went into the sink, and it didn't fail
+abbrev pub IsQuiet : Change → Type 0
+IsQuiet sink = (sink.new ≡ sink.old) × Stood sink
+
+-- the sink failed as it handed on what it held back of the events in front of the line with this number; it holds what it held
+pub record FailsBehind (number : ℕ) (sink : Change) : Type 0 where
+  pub behind : 2 < number
+  pub held : sink.new ≡ sink.old
+  pub failed : FailedOnce sink
+
+-- what the sink held back was handed on, or it failed
+abbrev pub HandsOn : ℕ → Change → Result (Unit {0}) ReplayError → Type 0
+HandsOn number sink (Ok done) = IsQuiet sink
+HandsOn number sink (Err error.Write) = FailsBehind number sink
+HandsOn number sink (Err other) = ⊥
+
+-- whether there is a line with this number, or why it isn't looked at; the sink may fail before the source is asked for it
+abbrev pub TakesBehind : ReaderState → ReaderState → ℕ → List ℕ → Change → Result Bool ReplayError → Type 0
+TakesBehind old new number line sink (Err error.Write) = (new ≡ old) × FailsBehind number sink
+TakesBehind old new number line sink result = TakesLineOr old new number line result × IsQuiet sink
+
 -- ---- the header
 
 -- the first line was taken, and it is the header

@@ -102,7 +102,7 @@ pub record CutInNotes (s : Setup) (events : List TraceEvent) (sink : Change) : T
   pub none : events ≡ []
   pub wrote : GrownByFront sink.old sink.new s.notes
 
--- the sink failed in the lines of the last of these events: the text of the others stands, and a front of these lines
+-- the sink failed in the lines of the last of these events, or behind them, as it handed them on: the text of the others stands, and a front of these lines
 pub record CutInLast (s : Setup) (events : List TraceEvent) (sink : Change) : Type 0 where
   pub others : List TraceEvent
   pub last : TraceEvent
@@ -120,7 +120,7 @@ abbrev pub IsCut : Setup → List ℕ → List TraceEvent → Change → Type 0
 IsCut s bytes events sink = CutInNotes s events sink ⊎ (CutInLast s events sink ⊎ CutInEnd s bytes events sink)
 
 -- The sink failed. The drivers were told just the calls of the events so far that weren't skipped: of none, where it failed in the notes; up to the one
--- in whose lines it failed; or of all, where it failed in the end line. No more of the source was read than the lines of these events, the header among
+-- in whose lines it failed, or behind them; or of all, where it failed in the end line. No more of the source was read than the lines of these events, the header among
 -- them, and 65,537 bytes.
 pub record BrokeIn (s : Setup) (run : Run) : Type 0 where
   pub bytes : List ℕ

@@ -12,7 +12,7 @@ ghost use Rattle.replay_core.specs.Plays.{Plays};
 ghost use Rattle.replay_core.specs.Traffic.{traffic_of};
 
 use crate::error::ReplayError;
-use crate::lines::{next_line, read_header};
+use crate::lines::{line_behind, read_header};
 use crate::player::Player;
 use chain_build::Setup;
 use dispatch_chain::Kit;
@@ -34,7 +34,7 @@ fn finish(state: &TraceState, number: u64) -> Result<(), ReplayError>
 }
 
 /// The trace of a reader that has given nothing yet, up to the first line that stops the replay. A line is replayed before the next is
-/// read.
+/// read, and its text handed on before the source is asked for more.
 pub fn play<S: Source + Drop, K: Sink, D: Driver>(
     player: &mut Player,
     reader: &mut LineReader<S>,
@@ -62,7 +62,7 @@ pub fn play<S: Source + Drop, K: Sink, D: Driver>(
     }
     let mut number: u64 = 2;
     loop {
-        match next_line(reader, number) {
+        match line_behind(reader, number, out) {
             Err(error) => return Err(error),
             Ok(false) => return finish(&player.state, number),
             Ok(true) => {}

@@ -60,14 +60,28 @@ fn text_of_notes(alloc: Global, setup: &Setup) -> Result<Vec<u8>, NoMemory>
     Ok(text)
 }
 
-/// The notes of a setup. All memory of them is taken before any of them is written.
+// A text that stands in memory, none of which is held back then.
+fn hand_text<K: Sink>(text: &[u8], out: &mut K) -> Result<(), ReplayError>
+    ensures { let sink = changed (K.held out.old) (K.held out.new) (K.faults out.old) (K.faults out.new) in
+        PutsText text.now sink result }
+{
+    match put_text(text, out) {
+        Err(error) => Err(error),
+        Ok(()) => match out.flush() {
+            Ok(()) => Ok(()),
+            Err(_) => Err(ReplayError::Write),
+        },
+    }
+}
+
+/// The notes of a setup, which are handed on before a trace is read. All memory of them is taken before any of them is written.
 pub fn put_notes<K: Sink>(alloc: Global, setup: &Setup, out: &mut K) -> Result<(), ReplayError>
     ensures { let sink = changed (K.held out.old) (K.held out.new) (K.faults out.old) (K.faults out.new) in
         PutsText (setup_notes (setup_content setup.now)) sink result }
 {
     match text_of_notes(alloc, setup) {
         Err(_) => Err(ReplayError::NoMemory),
-        Ok(text) => put_text(&text, out),
+        Ok(text) => hand_text(&text, out),
     }
 }
 

@@ -1,11 +1,12 @@
 // Runs over a source and a sink that move one byte a call and fail at one of their calls.
 ghost use Rattle.std.specs.Prelude.{None};
 
+use crate::blocks::BlockSink;
 use crate::chain_tests::{DRIVER, tree_of};
 use crate::tests::{TWICE, TWICE_TEXT, finished_of, sink, words_of};
 use env_filters::EnvList;
 use model_driver::{Driver, ModelDriver, RecordingDriver};
-use replay_base::{Failed, MemSink, MemTree, Sink, Source};
+use replay_base::{Failed, MemSink, MemSource, MemTree, Sink, Source};
 use replay_core::Status;
 use std::alloc::{AllocError, Global};
 use std::process::Abort;
@@ -220,5 +221,57 @@ fn one_byte_a_call_is_enough(rt: HostRuntime) -> Result<(), Fail> {
     assert_eq!(rt; cut.status, Status::Reported);
     assert!(rt; cut.out.as_slice() == TWICE_TEXT.as_bytes());
     assert_eq!(rt; cut.told, 4);
+    Ok(())
+}
+
+// Counts the pieces that it takes.
+#[derive(Drop)]
+struct PieceSink {
+    pieces: usize,
+}
+
+impl Sink for PieceSink {
+    ghost held = { λ _. None };
+
+    ghost faults = { λ _. 0 };
+
+    fn write(&mut self, piece: &[u8]) -> Result<usize, Failed> {
+        self.pieces = self.pieces.saturating_add(1);
+        Ok(piece.len())
+    }
+
+    fn flush(&mut self) -> Result<(), Failed> {
+        Ok(())
+    }
+}
+
+// How many pieces a sink in blocks hands on of a run over a source.
+fn pieces_of<S: Source>(alloc: Global, trace: &mut S) -> Result<usize, Fail> {
+    let words = words_of(alloc, "run")?;
+    let mut tree = tree_of(alloc, &[DRIVER])?;
+    let mut errs = sink(alloc, 0)?;
+    let mut out = BlockSink::new(PieceSink { pieces: 0 }, Vec::with_capacity(alloc, 4096)?);
+    let mut driver = ModelDriver::new(alloc);
+    let _finished = finished_of(
+        alloc,
+        &words,
+        &EnvList::new(alloc),
+        &mut tree,
+        trace,
+        &mut out,
+        &mut errs,
+        &mut driver,
+    );
+    Ok(out.inner.pieces)
+}
+
+// Seven events of the trace write something, and the end line is one piece more. Where the source gives all at once, all lines are one.
+#[test]
+fn nothing_is_held_back_while_the_source_may_wait(rt: HostRuntime) -> Result<(), Fail> {
+    let alloc = rt.alloc();
+    let mut slow = source_at(alloc, usize::MAX)?;
+    assert_eq!(rt; pieces_of(alloc, &mut slow)?, 8);
+    let mut whole = MemSource::new(Vec::from_slice(alloc, TWICE.as_bytes())?, Vec::new(alloc));
+    assert_eq!(rt; pieces_of(alloc, &mut whole)?, 2);
     Ok(())
 }

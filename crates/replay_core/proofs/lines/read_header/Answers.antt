@@ -1,4 +1,4 @@
-use Rattle.std.proofs.Common.{◌≡◌, ◌∙◌, false, true, [], ap, subst, sym, Ok}
+use Rattle.std.proofs.Common.{◌≡◌, ◌∙◌, false, [], ap, subst, sym, Ok}
 use Rattle.std.specs.Str.{bytes_eq}
 use Rattle.trace_format.specs.Accepting.{header}
 use Rattle.replay_base.specs.Reader.{line_of, state_of}
