@@ -1,12 +1,13 @@
--- Bounds of the ids of a table, and pairs that are above them.
+-- Bounds of the ids of a table, and pairs that are beyond them.
 use Rattle.std.proofs.Common.{◌≡◌, ◌≤◌, ◌<◌, ◌∙◌, ◌&&◌, ◌||◌, ◌==◌, ℕ, max, cond, Bool, true, false, List, [], ◌∷◌, ◌++◌, length, get_or, refl, ap, sym, subst, arith, eq-eqb, length-append, get_or-set_same, get_or-set_other}
-use Rattle.std.specs.Prelude.{nat_eq, nat_lt}
+use Rattle.std.specs.Prelude.{nat_eq, nat_lt, min}
 use Rattle.std.proofs.Math.ListN.{set, length-set}
 use Rattle.std.proofs.lemmas.Bool.{eqb-true, ltb-true}
 use Rattle.command_tables.specs.declared.types.ObjectType.{ObjectType}
 use Rattle.command_tables.specs.Tests.{same_type}
+use Rattle.handle_map.specs.declared.bounds.Bounds.{Bounds}
 use Rattle.handle_map.specs.declared.entry.Entry.{Entry}
-use Rattle.handle_map.specs.Bounds.{IsBounded, is_above, is_numbered_apart}
+use Rattle.handle_map.specs.Bounds.{IsBounded, bounds_with, is_beyond, is_numbered_apart}
 use Rattle.handle_map.specs.Chains.{HasNoPlace, entries_of, is_at}
 use Rattle.handle_map.specs.Pairs.{greatest_id, has_pair}
 use Rattle.handle_map.proofs.Links.{type_is}
@@ -16,76 +17,121 @@ and_true : (a b : Bool) → (a && b) ≡ true → (a ≡ true) × (b ≡ true)
 and_true true b e = (refl, e)
 and_true false b e = cc e
 
--- the same entries have the same bound
-pub bounded_same : (es es' : List Entry) (most : ℕ) → es' ≡ es → IsBounded es most → IsBounded es' most
-bounded_same es es' most same bounded = subst (λ (xs : List Entry). IsBounded xs most) (sym same) bounded
+-- the same entries have the same bounds
+pub bounded_same : (es es' : List Entry) (bounds : Bounds) → es' ≡ es → IsBounded es bounds → IsBounded es' bounds
+bounded_same es es' bounds same bounded = subst (λ (xs : List Entry). IsBounded xs bounds) (sym same) bounded
 
--- the bound with an entry more
-pub bounded_more : (es es' : List Entry) (e : Entry) (most bound : ℕ) → es' ≡ es ++ e ∷ [] → bound ≡ cond (is_numbered_apart e.ty) (max most e.id) most → IsBounded es most → IsBounded es' bound
-bounded_more es es' e most bound same is bounded = bounded_same (es ++ e ∷ []) es' bound same (λ p other below apart. go p other below apart (nat_lt p (length es)) refl)
+-- the bounds with an entry more
+pub bounded_more : (es es' : List Entry) (e : Entry) (bounds more : Bounds) → es' ≡ es ++ e ∷ [] → more ≡ bounds_with bounds e.ty e.id → IsBounded es bounds → IsBounded es' more
+bounded_more es es' e bounds more same is bounded = bounded_same (es ++ e ∷ []) es' more same (record {
+  least = λ p other below. under p other below (nat_lt p (length es)) refl;
+  apart = λ p other below apart. over p other below apart (nat_lt p (length es)) refl;
+})
   where
-    most_stays : (b : Bool) → bound ≡ cond b (max most e.id) most → most ≤ bound
-    most_stays true at = omega (arith, at)
-    most_stays false at = omega (arith, at)
+    least_is : more.least ≡ min bounds.least e.id
+    least_is = ap (λ (b : Bounds). b.least) is
 
-    last : (b : Bool) → bound ≡ cond b (max most e.id) most → b ≡ true → e.id ≤ bound
+    apart_is : more.apart ≡ cond (is_numbered_apart e.ty) (max bounds.apart e.id) bounds.apart
+    apart_is = ap (λ (b : Bounds). b.apart) is
+
+    at_end : (q : ℕ) → q < length (es ++ e ∷ []) → nat_lt q (length es) ≡ false → q ≡ length es
+    at_end q below lt = grind (arith, below, lt, length-append es (e ∷ []))
+
+    stays : (b : Bool) → more.apart ≡ cond b (max bounds.apart e.id) bounds.apart → bounds.apart ≤ more.apart
+    stays true at = omega (arith, at)
+    stays false at = omega (arith, at)
+
+    last : (b : Bool) → more.apart ≡ cond b (max bounds.apart e.id) bounds.apart → b ≡ true → e.id ≤ more.apart
     last true at so = omega (arith, at)
     last false at so = cc so
 
-    go : (p : ℕ) (other : Entry) → p < length (es ++ e ∷ []) → is_numbered_apart (get_or (es ++ e ∷ []) p other).ty ≡ true → (b : Bool) → nat_lt p (length es) ≡ b → (get_or (es ++ e ∷ []) p other).id ≤ bound
-    go p other below apart true lt =
+    under : (p : ℕ) (other : Entry) → p < length (es ++ e ∷ []) → (b : Bool) → nat_lt p (length es) ≡ b → more.least ≤ (get_or (es ++ e ∷ []) p other).id
+    under p other below true lt =
         let within : p < length es = ltb-true p (length es) lt in
         let same_entry : get_or (es ++ e ∷ []) p other ≡ get_or es p other = got_before es e p other within in
-        let old : (get_or es p other).id ≤ most = bounded p other within (ap (λ (u : Entry). is_numbered_apart u.ty) (sym same_entry) ∙ apart) in
-        let stays : most ≤ bound = most_stays (is_numbered_apart e.ty) is in
-        omega (arith, old, stays, ap (λ (u : Entry). u.id) same_entry)
-    go p other below apart false lt =
-        let at : p ≡ length es = at_end p below lt in
-        let same_entry : get_or (es ++ e ∷ []) p other ≡ e = got_last es e p other at in
-        let own : e.id ≤ bound = last (is_numbered_apart e.ty) is (ap (λ (u : Entry). is_numbered_apart u.ty) (sym same_entry) ∙ apart) in
+        omega (arith, bounded.least p other within, least_is, ap (λ (u : Entry). u.id) same_entry)
+    under p other below false lt =
+        let same_entry : get_or (es ++ e ∷ []) p other ≡ e = got_last es e p other (at_end p below lt) in
+        omega (arith, least_is, ap (λ (u : Entry). u.id) same_entry)
+
+    over : (p : ℕ) (other : Entry) → p < length (es ++ e ∷ []) → is_numbered_apart (get_or (es ++ e ∷ []) p other).ty ≡ true → (b : Bool) → nat_lt p (length es) ≡ b → (get_or (es ++ e ∷ []) p other).id ≤ more.apart
+    over p other below apart true lt =
+        let within : p < length es = ltb-true p (length es) lt in
+        let same_entry : get_or (es ++ e ∷ []) p other ≡ get_or es p other = got_before es e p other within in
+        let old : (get_or es p other).id ≤ bounds.apart = bounded.apart p other within (ap (λ (u : Entry). is_numbered_apart u.ty) (sym same_entry) ∙ apart) in
+        omega (arith, old, stays (is_numbered_apart e.ty) apart_is, ap (λ (u : Entry). u.id) same_entry)
+    over p other below apart false lt =
+        let same_entry : get_or (es ++ e ∷ []) p other ≡ e = got_last es e p other (at_end p below lt) in
+        let own : e.id ≤ more.apart = last (is_numbered_apart e.ty) apart_is (ap (λ (u : Entry). is_numbered_apart u.ty) (sym same_entry) ∙ apart) in
         omega (arith, own, ap (λ (u : Entry). u.id) same_entry)
-      where
-        at_end : (q : ℕ) → q < length (es ++ e ∷ []) → nat_lt q (length es) ≡ false → q ≡ length es
-        at_end q below lt = grind (arith, below, lt, length-append es (e ∷ []))
 
 -- an entry of the same pair in its place
-pub bounded_put : (es : List Entry) (place : ℕ) (d e : Entry) (most : ℕ) → place < length es → e.ty ≡ (get_or es place d).ty → e.id ≡ (get_or es place d).id → IsBounded es most → IsBounded (set es place e) most
-bounded_put es place d e most within ty id bounded p other below apart = go (nat_eq p place) refl
+pub bounded_put : (es : List Entry) (place : ℕ) (d e : Entry) (bounds : Bounds) → place < length es → e.ty ≡ (get_or es place d).ty → e.id ≡ (get_or es place d).id → IsBounded es bounds → IsBounded (set es place e) bounds
+bounded_put es place d e bounds within ty id bounded = record {
+  least = λ p other below. under p other below (nat_eq p place) refl;
+  apart = λ p other below apart. over p other below apart (nat_eq p place) refl;
+}
   where
-    go : (b : Bool) → nat_eq p place ≡ b → (get_or (set es place e) p other).id ≤ most
-    go true at =
-        let new : get_or (set es place e) p other ≡ e = ap (λ n. get_or (set es place e) n other) (eqb-true p place at) ∙ get_or-set_same es place e other within in
-        let old : (get_or es place d).id ≤ most = bounded place d within (ap is_numbered_apart (sym ty) ∙ (ap (λ (u : Entry). is_numbered_apart u.ty) (sym new) ∙ apart)) in
-        omega (arith, old, id, ap (λ (u : Entry). u.id) new)
-    go false at =
-        let same : get_or (set es place e) p other ≡ get_or es p other = get_or-set_other es place p e other (λ (k : p ≡ place). let t : nat_eq p place ≡ true = eq-eqb p place k in cc) in
-        let old : (get_or es p other).id ≤ most = bounded p other (omega (arith, below, length-set es place e)) (ap (λ (u : Entry). is_numbered_apart u.ty) (sym same) ∙ apart) in
-        omega (arith, old, ap (λ (u : Entry). u.id) same)
+    new : (p : ℕ) (other : Entry) → nat_eq p place ≡ true → get_or (set es place e) p other ≡ e
+    new p other at = ap (λ n. get_or (set es place e) n other) (eqb-true p place at) ∙ get_or-set_same es place e other within
 
--- no entry has an id above the bound
-none_over : (es : List Entry) (most : ℕ) (t : ObjectType) (id : ℕ) → IsBounded es most → is_numbered_apart t ≡ true → most < id → HasNoPlace es t id
-none_over es most t id bounded apart above p other below = go (is_at t id (get_or es p other)) refl
+    same : (p : ℕ) (other : Entry) → nat_eq p place ≡ false → get_or (set es place e) p other ≡ get_or es p other
+    same p other at = get_or-set_other es place p e other (λ (k : p ≡ place). let t : nat_eq p place ≡ true = eq-eqb p place k in cc)
+
+    under : (p : ℕ) (other : Entry) → p < length (set es place e) → (b : Bool) → nat_eq p place ≡ b → bounds.least ≤ (get_or (set es place e) p other).id
+    under p other below true at = omega (arith, bounded.least place d within, id, ap (λ (u : Entry). u.id) (new p other at))
+    under p other below false at =
+        let old : bounds.least ≤ (get_or es p other).id = bounded.least p other (omega (arith, below, length-set es place e)) in
+        omega (arith, old, ap (λ (u : Entry). u.id) (same p other at))
+
+    over : (p : ℕ) (other : Entry) → p < length (set es place e) → is_numbered_apart (get_or (set es place e) p other).ty ≡ true → (b : Bool) → nat_eq p place ≡ b → (get_or (set es place e) p other).id ≤ bounds.apart
+    over p other below apart true at =
+        let old : (get_or es place d).id ≤ bounds.apart = bounded.apart place d within (ap is_numbered_apart (sym ty) ∙ (ap (λ (u : Entry). is_numbered_apart u.ty) (sym (new p other at)) ∙ apart)) in
+        omega (arith, old, id, ap (λ (u : Entry). u.id) (new p other at))
+    over p other below apart false at =
+        let old : (get_or es p other).id ≤ bounds.apart = bounded.apart p other (omega (arith, below, length-set es place e)) (ap (λ (u : Entry). is_numbered_apart u.ty) (sym (same p other at)) ∙ apart) in
+        omega (arith, old, ap (λ (u : Entry). u.id) (same p other at))
+
+-- an entry of the pair is an entry of this type and id
+pair_is : (t : ObjectType) (id : ℕ) (e : Entry) → is_at t id e ≡ true → (e.ty ≡ t) × (e.id ≡ id)
+pair_is t id e is =
+    let parts = and_true (same_type e.ty t) (e.id == id) is in
+    (type_is e.ty t parts.0, eqb-true e.id id parts.1)
+
+-- no entry has an id above the bound of its kind
+none_over : (es : List Entry) (bounds : Bounds) (t : ObjectType) (id : ℕ) → IsBounded es bounds → is_numbered_apart t ≡ true → bounds.apart < id → HasNoPlace es t id
+none_over es bounds t id bounded apart above p other below = go (is_at t id (get_or es p other)) refl
   where
     go : (b : Bool) → is_at t id (get_or es p other) ≡ b → is_at t id (get_or es p other) ≡ false
     go true is =
-        let parts = and_true (same_type (get_or es p other).ty t) ((get_or es p other).id == id) is in
-        let type : (get_or es p other).ty ≡ t = type_is (get_or es p other).ty t parts.0 in
-        let same : (get_or es p other).id ≡ id = eqb-true (get_or es p other).id id parts.1 in
-        let within : (get_or es p other).id ≤ most = bounded p other below (ap is_numbered_apart type ∙ apart) in
-        absurd (omega (arith, within, same, above))
+        let pair = pair_is t id (get_or es p other) is in
+        let within : (get_or es p other).id ≤ bounds.apart = bounded.apart p other below (ap is_numbered_apart pair.0 ∙ apart) in
+        absurd (omega (arith, within, pair.1, above))
     go false is = is
 
--- no entry is of a pair above the bounds
-pub none_is_above : (es : List Entry) (values : List ℕ) (greatest most : ℕ) (t : ObjectType) (id : ℕ) → greatest ≡ greatest_id (entries_of values es) → IsBounded es most → is_above greatest most t id ≡ true
-    → has_pair (entries_of values es) t id ≡ false
-none_is_above es values greatest most t id is bounded above = go (nat_lt greatest id) refl
+-- no entry has an id below the least
+none_under : (es : List Entry) (bounds : Bounds) (t : ObjectType) (id : ℕ) → IsBounded es bounds → id < bounds.least → HasNoPlace es t id
+none_under es bounds t id bounded less p other below = go (is_at t id (get_or es p other)) refl
   where
-    rest : (b : Bool) → nat_lt greatest id ≡ b → b ≡ false → (is_numbered_apart t && nat_lt most id) ≡ true
-    rest true at not = cc not
-    rest false at not = ap (λ b. b || (is_numbered_apart t && nat_lt most id)) (sym at) ∙ above
+    go : (b : Bool) → is_at t id (get_or es p other) ≡ b → is_at t id (get_or es p other) ≡ false
+    go true is =
+        let pair = pair_is t id (get_or es p other) is in
+        absurd (omega (arith, bounded.least p other below, pair.1, less))
+    go false is = is
 
-    go : (b : Bool) → nat_lt greatest id ≡ b → has_pair (entries_of values es) t id ≡ false
-    go true lt = none_above (entries_of values es) t id (subst (λ n. n < id) is (ltb-true greatest id lt))
-    go false lt =
-        let parts = and_true (is_numbered_apart t) (nat_lt most id) (rest false lt refl) in
-        none_of es values t id (none_over es most t id bounded parts.0 (ltb-true most id parts.1))
+-- no entry is of a pair beyond the bounds
+pub none_is_beyond : (es : List Entry) (values : List ℕ) (bounds : Bounds) (t : ObjectType) (id : ℕ) → bounds.greatest ≡ greatest_id (entries_of values es) → IsBounded es bounds → is_beyond bounds t id ≡ true
+    → has_pair (entries_of values es) t id ≡ false
+none_is_beyond es values bounds t id is bounded beyond = go (nat_lt id bounds.least) (nat_lt bounds.greatest id) refl refl
+  where
+    rest : (a b : Bool) → nat_lt id bounds.least ≡ a → nat_lt bounds.greatest id ≡ b → a ≡ false → b ≡ false → (is_numbered_apart t && nat_lt bounds.apart id) ≡ true
+    rest true b low high not none = cc not
+    rest false true low high not none = cc none
+    rest false false low high not none = ap (λ c. c || (is_numbered_apart t && nat_lt bounds.apart id)) (sym high) ∙ (ap (λ c. c || (nat_lt bounds.greatest id || (is_numbered_apart t && nat_lt bounds.apart id))) (sym low) ∙ beyond)
+
+    go : (a b : Bool) → nat_lt id bounds.least ≡ a → nat_lt bounds.greatest id ≡ b → has_pair (entries_of values es) t id ≡ false
+    go true b low high = none_of es values t id (none_under es bounds t id bounded (ltb-true id bounds.least low))
+    go false true low high = none_above (entries_of values es) t id (subst (λ n. n < id) is (ltb-true bounds.greatest id high))
+    go false false low high =
+        let parts = and_true (is_numbered_apart t) (nat_lt bounds.apart id) (rest false false low high refl refl) in
+        none_of es values t id (none_over es bounds t id bounded parts.0 (ltb-true bounds.apart id parts.1))

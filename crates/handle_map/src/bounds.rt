@@ -1,24 +1,39 @@
-// Ids that no entry can have, since they are above all that have one.
-ghost use Rattle.std.specs.Prelude.{◌≡◌, if◌then◌else◌, max};
-ghost use Rattle.handle_map.specs.Bounds.{is_above, is_numbered_apart};
+// Ids that no entry can have, since they lie beyond all that have one.
+ghost use Rattle.std.specs.Prelude.{◌≡◌};
+ghost use Rattle.handle_map.specs.Bounds.{bounds_with, is_beyond};
 
 use crate::hints::is_numbered_apart;
 use command_tables::ObjectType;
 
-/// Whether an id is above the greatest of all, or above the greatest of those that are numbered apart with it.
-pub fn is_above(greatest: u64, apart: u64, ty: ObjectType, id: u64) -> bool
-    ensures { result ≡ is_above greatest apart ty id }
-{
-    greatest < id || (is_numbered_apart(ty) && apart < id)
+/// Bounds of the ids of a map.
+#[derive(Clone, Copy)]
+pub struct Bounds {
+    /// No id is less. Ids are numbered from 1 on, so that a null is told by this bound.
+    pub least: u64,
+    /// The greatest id, or 0.
+    pub greatest: u64,
+    /// No id of a type that is numbered apart is greater.
+    pub apart: u64,
 }
 
-/// The greatest id that is numbered apart, with this one more.
-pub fn least_bound(apart: u64, ty: ObjectType, id: u64) -> u64
-    ensures { result ≡ (if is_numbered_apart ty then max apart id else apart) }
+/// Whether an id is below the least, above the greatest of all, or above the greatest of those that are numbered apart with it.
+pub fn is_beyond(bounds: Bounds, ty: ObjectType, id: u64) -> bool
+    ensures { result ≡ is_beyond bounds ty id }
 {
-    if is_numbered_apart(ty) {
-        apart.max(id)
-    } else {
-        apart
+    id < bounds.least || bounds.greatest < id || (is_numbered_apart(ty) && bounds.apart < id)
+}
+
+/// The bounds with an id more.
+pub fn bounds_with(bounds: Bounds, ty: ObjectType, id: u64) -> Bounds
+    ensures { result ≡ bounds_with bounds ty id }
+{
+    Bounds {
+        least: bounds.least.min(id),
+        greatest: bounds.greatest.max(id),
+        apart: if is_numbered_apart(ty) {
+            bounds.apart.max(id)
+        } else {
+            bounds.apart
+        },
     }
 }

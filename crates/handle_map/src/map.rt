@@ -3,7 +3,7 @@ ghost use Rattle.std.specs.Prelude.{◌≡◌, ◌≤◌, ◌<◌, ◌+◌, ◌^
 ghost use Rattle.handle_map.specs.Chains.{put_at};
 ghost use Rattle.handle_map.specs.Pairs.{AreDistinct, HasSpare, greatest_id, has_pair, values_of, with_values};
 
-use crate::bounds::{is_above, least_bound};
+use crate::bounds::{Bounds, bounds_with, is_beyond};
 use crate::chain::{chain_of, make_chains, place_of};
 use crate::entry::Entry;
 use crate::hints::Hints;
@@ -21,9 +21,7 @@ pub struct HandleMap<const S: usize> {
     // For each chain one more than the place of its last entry, or 0; empty until room is first made.
     firsts: Vec<usize>,
     hints: Hints,
-    greatest: u64,
-    // No id of a type that is numbered apart is greater than this one.
-    apart: u64,
+    bounds: Bounds,
 }
 
 impl<const S: usize> Model for HandleMap<S> {
@@ -36,7 +34,7 @@ impl<const S: usize> Model for HandleMap<S> {
 
     ghost view = { λ m. record { entries = entries_of m.values.items m.entries.items; spare = if nat_le S (length m.firsts.items) then vec_capacity m.entries - length m.entries.items else 0; room = vec_capacity m.values - length m.values.items } };
 
-    ghost invariant = { λ m. IsTable S m.entries.items m.values.items m.firsts.items m.greatest × IsBounded m.entries.items m.apart };
+    ghost invariant = { λ m. IsTable S m.entries.items m.values.items m.firsts.items m.bounds.greatest × IsBounded m.entries.items m.bounds };
 }
 
 impl<const S: usize> HandleMap<S> {
@@ -49,8 +47,11 @@ impl<const S: usize> HandleMap<S> {
             values: Vec::new(alloc),
             firsts: Vec::new(alloc),
             hints: Hints::new(alloc),
-            greatest: 0,
-            apart: 0,
+            bounds: Bounds {
+                least: u64::MAX,
+                greatest: 0,
+                apart: 0,
+            },
         }
     }
 
@@ -130,8 +131,7 @@ impl<const S: usize> HandleMap<S> {
         self.hints.note(ty, id, place);
         self.entries.push(entry).unwrap();
         self.firsts[chain] = self.entries.len();
-        self.greatest = self.greatest.max(id);
-        self.apart = least_bound(self.apart, ty, id);
+        self.bounds = bounds_with(self.bounds, ty, id);
         Ok(())
     }
 
@@ -146,7 +146,7 @@ impl<const S: usize> HandleMap<S> {
         ensures room { self.old.room ≤ self.new.room + length values.now }
     {
         // A new id is mostly the next one: no chain need be walked for it.
-        if is_above(self.greatest, self.apart, ty, id) {
+        if is_beyond(self.bounds, ty, id) {
             return self.add(ty, id, values);
         }
         let link = self.hints.link(ty, id);
@@ -161,8 +161,8 @@ impl<const S: usize> HandleMap<S> {
         ensures found { IfSome result (λ values. values_of self.now.entries ty id ≡ Some values.now) }
         ensures none { IfNone result (values_of self.now.entries ty id ≡ None) }
     {
-        // A new id is mostly the next one: no chain need be walked to its end for it.
-        if is_above(self.greatest, self.apart, ty, id) {
+        // A new id is mostly the next one, and a null is 0: no chain need be walked to its end for either.
+        if is_beyond(self.bounds, ty, id) {
             return None;
         }
         let link = self.hints.link(ty, id);
@@ -180,7 +180,7 @@ impl<const S: usize> HandleMap<S> {
         requires { greatest_id self.now.entries < 2 ^ 62 }
         ensures { result ≡ greatest_id self.now.entries + 1 }
     {
-        self.greatest + 1
+        self.bounds.greatest + 1
     }
 
     pub fn len(&self) -> usize

@@ -105,6 +105,7 @@ fn play<const S: usize>(rt: &impl Abort, alloc: Global) -> Result<(), Fail>
             assert!(rt; map.get(*ty, *id) == Some(*values));
         }
         assert!(rt; map.get(ObjectType::Fence, 1).is_none());
+        assert!(rt; map.get(ObjectType::Fence, 0).is_none());
         assert!(rt; map.get(ObjectType::Buffer, 64 + 1).is_none());
         assert!(rt; map.get(ObjectType::Buffer, u64::MAX).is_none());
     }

@@ -1,4 +1,5 @@
 use Rattle.std.proofs.Common.{◌≡◌, ◌<◌, ◌+◌, ◌++◌, [], ◌∷◌, false, get_or, set, length, ap, sym, subst, arith, refl, ◌∙◌, length-append}
+use Rattle.handle_map.specs.declared.bounds.Bounds.{Bounds}
 use Rattle.handle_map.specs.declared.entry.Entry.{Entry}
 use Rattle.handle_map.specs.Chains.{chain_of, chains_made}
 use Rattle.handle_map.specs.Pairs.{MapState, has_pair}
@@ -8,16 +9,16 @@ use Rattle.handle_map.proofs.map.HandleMap.add.Goals as goal
 
 pub invariant_of-self-in_err-reserve : goal.invariant_of-self-in_err-reserve
 invariant_of-self-in_err-reserve g c = (
-  kept_table g.row.S c.self.inside.entries.items c.reserve.new.self.items c.self.inside.values.items c.self.inside.values.items c.self.inside.firsts.items c.make_chains.new.firsts.items c.self.inside.greatest c.self.invariant.0
+  kept_table g.row.S c.self.inside.entries.items c.reserve.new.self.items c.self.inside.values.items c.self.inside.values.items c.self.inside.firsts.items c.make_chains.new.firsts.items c.self.inside.bounds.greatest c.self.invariant.0
       c.in_err-reserve.ensures.items refl c.in_ok-make_chains.ensures.ok,
-  bounded_same c.self.inside.entries.items c.reserve.new.self.items c.self.inside.apart c.in_err-reserve.ensures.items c.self.invariant.1,
+  bounded_same c.self.inside.entries.items c.reserve.new.self.items c.self.inside.bounds c.in_err-reserve.ensures.items c.self.invariant.1,
 )
 
 pub invariant_of-self-in_err-reserve-2 : goal.invariant_of-self-in_err-reserve-2
 invariant_of-self-in_err-reserve-2 g c = (
-  kept_table g.row.S c.self.inside.entries.items c.reserve.new.self.items c.self.inside.values.items c.reserve-2.new.self.items c.self.inside.firsts.items c.make_chains.new.firsts.items c.self.inside.greatest c.self.invariant.0
+  kept_table g.row.S c.self.inside.entries.items c.reserve.new.self.items c.self.inside.values.items c.reserve-2.new.self.items c.self.inside.firsts.items c.make_chains.new.firsts.items c.self.inside.bounds.greatest c.self.invariant.0
       c.in_ok-reserve.ensures.items c.in_err-reserve-2.ensures.items c.in_ok-make_chains.ensures.ok,
-  bounded_same c.self.inside.entries.items c.reserve.new.self.items c.self.inside.apart c.in_ok-reserve.ensures.items c.self.invariant.1,
+  bounded_same c.self.inside.entries.items c.reserve.new.self.items c.self.inside.bounds c.in_ok-reserve.ensures.items c.self.invariant.1,
 )
 
 pub invariant_of-self-2 : goal.invariant_of-self-2
@@ -34,20 +35,20 @@ invariant_of-self-2 g c =
     = read_at c.make_chains.new.firsts.items c.chain_of-chain.result c.index-next.result.now within c.index-next.ensures ∙ (ap (λ fs. get_or fs c.chain_of-chain.result 0) made ∙ ap (λ n. get_or (chains_made g.row.S c.self.inside.firsts.items) n 0) chain_is) in
     let links_are : set c.make_chains.new.firsts.items c.chain_of-chain.result c.len.result ≡ set (chains_made g.row.S c.self.inside.firsts.items) (chain_of g.row.S c.args.ty c.args.id) (length c.self.inside.entries.items + 1)
     = ap (λ fs. set fs c.chain_of-chain.result c.len.result) made ∙ (ap (λ n. set (chains_made g.row.S c.self.inside.firsts.items) n c.len.result) chain_is ∙ ap (set (chains_made g.row.S c.self.inside.firsts.items) (chain_of g.row.S c.args.ty c.args.id)) count) in
-    let adds : Adds g.row.S c.self.inside.entries.items c.push.new.self.items c.self.inside.values.items c.extend_from_slice.new.self.items c.self.inside.firsts.items (set c.make_chains.new.firsts.items c.chain_of-chain.result c.len.result) c.args.values.now c.self.inside.greatest c.max-self-inside.result e
+    let adds : Adds g.row.S c.self.inside.entries.items c.push.new.self.items c.self.inside.values.items c.extend_from_slice.new.self.items c.self.inside.firsts.items (set c.make_chains.new.firsts.items c.chain_of-chain.result c.len.result) c.args.values.now c.self.inside.bounds.greatest c.bounds_with-self-inside.result.greatest e
     = record {
       entries_are = entries_are;
       values_are = (rw c.unwrap.ensures at c.extend_from_slice.ensures.items) ∙ ap (λ xs. xs ++ c.args.values.now) c.in_ok-reserve-2.ensures.items;
       links_are = links_are;
-      most_is = c.max-self-inside.ensures;
+      most_is = ap (λ (b : Bounds). b.greatest) c.bounds_with-self-inside.ensures;
       next = next;
       chain = chain;
       start = omega (arith, c.len-start.ensures, ap length c.in_ok-reserve-2.ensures.items);
       len = refl;
       room = refl;
     } in (
-      added_table g.row.S c.self.inside.entries.items c.push.new.self.items c.self.inside.values.items c.extend_from_slice.new.self.items c.self.inside.firsts.items (set c.make_chains.new.firsts.items c.chain_of-chain.result c.len.result) c.args.values.now c.self.inside.greatest c.max-self-inside.result e c.self.invariant.0 adds (subst (λ (m : MapState). has_pair m.entries c.args.ty c.args.id ≡ false) (sym c.self.view_is) c.requires),
-      bounded_more c.self.inside.entries.items c.push.new.self.items e c.self.inside.apart c.least_bound-self-inside.result entries_are c.least_bound-self-inside.ensures c.self.invariant.1,
+      added_table g.row.S c.self.inside.entries.items c.push.new.self.items c.self.inside.values.items c.extend_from_slice.new.self.items c.self.inside.firsts.items (set c.make_chains.new.firsts.items c.chain_of-chain.result c.len.result) c.args.values.now c.self.inside.bounds.greatest c.bounds_with-self-inside.result.greatest e c.self.invariant.0 adds (subst (λ (m : MapState). has_pair m.entries c.args.ty c.args.id ≡ false) (sym c.self.view_is) c.requires),
+      bounded_more c.self.inside.entries.items c.push.new.self.items e c.self.inside.bounds c.bounds_with-self-inside.result entries_are c.bounds_with-self-inside.ensures c.self.invariant.1,
     )
 
 pub returns-clause-ok : goal.returns-clause-ok
@@ -64,16 +65,16 @@ returns-clause-ok g c =
     = read_at c.make_chains.new.firsts.items c.chain_of-chain.result c.index-next.result.now within c.index-next.ensures ∙ (ap (λ fs. get_or fs c.chain_of-chain.result 0) made ∙ ap (λ n. get_or (chains_made g.row.S c.self.inside.firsts.items) n 0) chain_is) in
     let links_are : set c.make_chains.new.firsts.items c.chain_of-chain.result c.len.result ≡ set (chains_made g.row.S c.self.inside.firsts.items) (chain_of g.row.S c.args.ty c.args.id) (length c.self.inside.entries.items + 1)
     = ap (λ fs. set fs c.chain_of-chain.result c.len.result) made ∙ (ap (λ n. set (chains_made g.row.S c.self.inside.firsts.items) n c.len.result) chain_is ∙ ap (set (chains_made g.row.S c.self.inside.firsts.items) (chain_of g.row.S c.args.ty c.args.id)) count) in
-    let adds : Adds g.row.S c.self.inside.entries.items c.push.new.self.items c.self.inside.values.items c.extend_from_slice.new.self.items c.self.inside.firsts.items (set c.make_chains.new.firsts.items c.chain_of-chain.result c.len.result) c.args.values.now c.self.inside.greatest c.max-self-inside.result e
+    let adds : Adds g.row.S c.self.inside.entries.items c.push.new.self.items c.self.inside.values.items c.extend_from_slice.new.self.items c.self.inside.firsts.items (set c.make_chains.new.firsts.items c.chain_of-chain.result c.len.result) c.args.values.now c.self.inside.bounds.greatest c.bounds_with-self-inside.result.greatest e
     = record {
       entries_are = entries_are;
       values_are = (rw c.unwrap.ensures at c.extend_from_slice.ensures.items) ∙ ap (λ xs. xs ++ c.args.values.now) c.in_ok-reserve-2.ensures.items;
       links_are = links_are;
-      most_is = c.max-self-inside.ensures;
+      most_is = ap (λ (b : Bounds). b.greatest) c.bounds_with-self-inside.ensures;
       next = next;
       chain = chain;
       start = omega (arith, c.len-start.ensures, ap length c.in_ok-reserve-2.ensures.items);
       len = refl;
       room = refl;
     } in
-    rw (← c.self.view_is) (added_entries g.row.S c.self.inside.entries.items c.push.new.self.items c.self.inside.values.items c.extend_from_slice.new.self.items c.self.inside.firsts.items (set c.make_chains.new.firsts.items c.chain_of-chain.result c.len.result) c.args.values.now c.self.inside.greatest c.max-self-inside.result e c.self.invariant.0 adds)
+    rw (← c.self.view_is) (added_entries g.row.S c.self.inside.entries.items c.push.new.self.items c.self.inside.values.items c.extend_from_slice.new.self.items c.self.inside.firsts.items (set c.make_chains.new.firsts.items c.chain_of-chain.result c.len.result) c.args.values.now c.self.inside.bounds.greatest c.bounds_with-self-inside.result.greatest e c.self.invariant.0 adds)

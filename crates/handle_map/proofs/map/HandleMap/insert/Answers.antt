@@ -2,7 +2,7 @@ use Rattle.std.proofs.Common.{◌≡◌, ◌∙◌, sym, arith}
 use Rattle.handle_map.specs.Chains.{IsPlace, put_at}
 use Rattle.handle_map.specs.declared.entry.Entry.{Entry}
 use Rattle.handle_map.specs.Pairs.{with_values}
-use Rattle.handle_map.proofs.Bounding.{none_is_above}
+use Rattle.handle_map.proofs.Bounding.{none_is_beyond}
 use Rattle.handle_map.proofs.Adding.{greatest_so, none_of, on_ok_is, with_new, with_put}
 use Rattle.handle_map.proofs.map.HandleMap.insert.Goals as goal
 
@@ -31,13 +31,13 @@ returns-in-None-clause-greatest g c = greatest_so c.add-in-None.result c.add-in-
 
 pub add-requires : goal.add-requires
 add-requires g c =
-    (omega arith, rw (← c.self.view_is) (none_is_above c.self.inside.entries.items c.self.inside.values.items c.self.inside.greatest c.self.inside.apart c.args.ty c.args.id c.self.invariant.0.most c.self.invariant.1 (sym c.is_above.ensures ∙ c.if-is_above.true)))
+    (omega arith, rw (← c.self.view_is) (none_is_beyond c.self.inside.entries.items c.self.inside.values.items c.self.inside.bounds c.args.ty c.args.id c.self.invariant.0.most c.self.invariant.1 (sym c.is_beyond.ensures ∙ c.if-is_beyond.true)))
 
-pub returns-then-is_above-clause-ok : goal.returns-then-is_above-clause-ok
-returns-then-is_above-clause-ok g c =
+pub returns-then-is_beyond-clause-ok : goal.returns-then-is_beyond-clause-ok
+returns-then-is_beyond-clause-ok g c =
     on_ok_is c.add.result _ _ _
-    (with_new c.args.self.now.entries c.args.ty c.args.id c.args.values.now (rw (← c.self.view_is) (none_is_above c.self.inside.entries.items c.self.inside.values.items c.self.inside.greatest c.self.inside.apart c.args.ty c.args.id c.self.invariant.0.most c.self.invariant.1 (sym c.is_above.ensures ∙ c.if-is_above.true))))
+    (with_new c.args.self.now.entries c.args.ty c.args.id c.args.values.now (rw (← c.self.view_is) (none_is_beyond c.self.inside.entries.items c.self.inside.values.items c.self.inside.bounds c.args.ty c.args.id c.self.invariant.0.most c.self.invariant.1 (sym c.is_beyond.ensures ∙ c.if-is_beyond.true))))
     c.add.ensures.ok
 
-pub returns-then-is_above-clause-greatest : goal.returns-then-is_above-clause-greatest
-returns-then-is_above-clause-greatest g c = greatest_so c.add.result c.add.new.self.entries c.args.self.now.entries c.args.ty c.args.id c.args.values.now (returns-then-is_above-clause-ok g c)
+pub returns-then-is_beyond-clause-greatest : goal.returns-then-is_beyond-clause-greatest
+returns-then-is_beyond-clause-greatest g c = greatest_so c.add.result c.add.new.self.entries c.args.self.now.entries c.args.ty c.args.id c.args.values.now (returns-then-is_beyond-clause-ok g c)
