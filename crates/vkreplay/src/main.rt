@@ -14,6 +14,8 @@ mod case_tests;
 mod chain;
 #[cfg(test)]
 mod chain_tests;
+#[cfg(test)]
+mod cut_tests;
 mod environment;
 #[cfg(test)]
 mod environment_tests;
@@ -24,6 +26,8 @@ mod finish;
 mod fuzz_tests;
 mod laws;
 mod process;
+#[cfg(test)]
+mod refusal_tests;
 #[cfg(test)]
 mod row_table;
 #[cfg(test)]

@@ -104,7 +104,7 @@ fn meta_layers_nest_to_eight_levels(rt: HostRuntime) -> Result<(), Fail> {
 }
 
 // So many explicit layers of another library.
-fn plain(alloc: Global, count: u32) -> Result<MemTree, Fail> {
+pub fn plain(alloc: Global, count: u32) -> Result<MemTree, Fail> {
     let mut tree = tree_of(alloc, &[DRIVER])?;
     for number in 1..=count {
         let name = format!(in alloc; "VK_LAYER_p{number}")?;
@@ -119,7 +119,7 @@ fn plain(alloc: Global, count: u32) -> Result<MemTree, Fail> {
 }
 
 // Their names, each with a text behind it.
-fn names(alloc: Global, count: u32, behind: &str) -> Result<String, AllocError> {
+pub fn names(alloc: Global, count: u32, behind: &str) -> Result<String, AllocError> {
     let mut names = String::new(alloc);
     for number in 1..=count {
         write!(names, "VK_LAYER_p{number}{behind}")?;
@@ -128,7 +128,7 @@ fn names(alloc: Global, count: u32, behind: &str) -> Result<String, AllocError> 
 }
 
 // The lines of a chain of all of them.
-fn plain_text(alloc: Global, count: u32) -> Result<String, AllocError> {
+pub fn plain_text(alloc: Global, count: u32) -> Result<String, AllocError> {
     let mut text = format!(in alloc; "chain 0 ok layers={count} parts=0 drivers=1\n")?;
     for number in 1..=count {
         write!(
@@ -149,14 +149,14 @@ fn plain_variables(alloc: Global, count: u32) -> Result<EnvList, Fail> {
 }
 
 // What a command with a trace makes of them.
-fn plain_seen(alloc: Global, count: u32, words: &str, trace: &str) -> Result<Seen, Fail> {
+pub fn plain_seen(alloc: Global, count: u32, words: &str, trace: &str) -> Result<Seen, Fail> {
     let env = plain_variables(alloc, count)?;
     let mut tree = plain(alloc, count)?;
     seen_over(alloc, words, &env, &mut tree, trace)
 }
 
 // A limit was reached, and nothing was shown.
-fn is_limited(rt: &impl Abort, seen: &Seen, errs: &[u8]) {
+pub fn is_limited(rt: &impl Abort, seen: &Seen, errs: &[u8]) {
     assert_eq!(rt; seen.status, Status::Limit);
     assert!(rt; seen.out.is_empty());
     assert!(rt; seen.errs.as_slice() == errs);

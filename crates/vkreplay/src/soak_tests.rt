@@ -1,10 +1,14 @@
 // Generated traces, as they are written and replayed.
-use crate::chain_tests::{DRIVER, Pairs, tree_of, variables};
+ghost use Rattle.std.specs.Prelude.{None};
+
+use crate::chain_tests::{DRIVER, HOME, Pairs, VALIDATION, tree_of, variables};
 use crate::tests::{finished_of, sink, words_of};
-use model_driver::{ModelDriver, RecordingDriver};
-use replay_base::{MemSink, MemSource};
+use env_filters::EnvList;
+use model_driver::{AdverseDriver, ModelDriver, RecordingDriver};
+use replay_base::{Failed, MemSink, MemSource, Sink};
 use replay_core::Status;
 use std::alloc::Global;
+use std::process::Abort;
 use std::test::Fail;
 
 const MADE: &str = "vktrace 1
@@ -29,6 +33,8 @@ r 1
 b 1 vkDestroyInstance %1.1 void
 r 1
 ";
+
+const SET: (&str, &str) = ("VK_INSTANCE_LAYERS", "VK_LAYER_KHRONOS_validation");
 
 // What is written and said, and how many calls the driver was told.
 #[derive(Drop)]
@@ -99,4 +105,138 @@ fn a_generated_trace_is_replayed(rt: HostRuntime) -> Result<(), Fail> {
     assert_eq!(rt; done.told, 10);
     assert!(rt; done.comes_back);
     Ok(())
+}
+
+// Without a driver the instance is refused, and each later call is on a handle that stands for nothing.
+#[test]
+fn a_generated_trace_is_replayed_without_a_driver(rt: HostRuntime) -> Result<(), Fail> {
+    let done = done_over(rt.alloc(), "soak --number 0 --calls 3", &[], &[], 4096)?;
+    assert_eq!(rt; done.status, Status::Reported);
+    assert!(rt; done.out.bytes() == b"end calls=10 skipped=10 reports=9\n".as_slice());
+    assert_eq!(rt; done.told, 0);
+    Ok(())
+}
+
+// A sink that fails behind so many bytes.
+fn broken(rt: &impl Abort, alloc: Global, words: &str, text: &str) -> Result<(), Fail> {
+    for room in 0..text.len() {
+        let done = done_over(alloc, words, &[], &[DRIVER], room)?;
+        assert_eq!(rt; done.status, Status::WriteFault);
+        assert!(rt; done.out.bytes() == &text.as_bytes()[..room], "{room}");
+        assert!(rt; done.errs.bytes() == b"vkreplay: write fault\n".as_slice());
+        assert_eq!(rt; done.comes_back, false);
+    }
+    Ok(())
+}
+
+#[test]
+fn a_sink_fails_within_a_generated_trace(rt: HostRuntime) -> Result<(), Fail> {
+    let alloc = rt.alloc();
+    broken(&rt, alloc, "gen --number 0 --calls 3", MADE)?;
+    let end = "end calls=10 skipped=0 reports=0\n";
+    broken(&rt, alloc, "soak --number 0 --calls 3", end)
+}
+
+fn begins_in(text: &[u8]) -> Result<usize, Fail> {
+    let mut count: usize = 0;
+    for line in text.split(|byte| *byte == b'\n') {
+        count = count.saturating_add(usize::from(line.starts_with(b"b ")));
+    }
+    Ok(count)
+}
+
+// Ten thousand turns through the validation layer, twice: no report, and as many calls as the trace has begins.
+#[test]
+fn a_long_generated_trace_has_no_report(rt: HostRuntime) -> Result<(), Fail> {
+    let alloc = rt.alloc();
+    let made = done_over(alloc, "gen --number 7 --calls 10000", &[], &[], 1 << 20)?;
+    let calls = begins_in(made.out.bytes())?;
+    let wanted = format!(in alloc; "end calls={calls} skipped=0 reports=0\n")?;
+    for _ in 0..2 {
+        let done = done_over(
+            alloc,
+            "soak --number 7 --calls 10000",
+            &[HOME, SET],
+            &[DRIVER, VALIDATION],
+            4096,
+        )?;
+        assert_eq!(rt; done.status, Status::Clean);
+        assert!(rt; done.out.bytes() == wanted.as_bytes());
+        assert_eq!(rt; done.told, calls);
+    }
+    Ok(())
+}
+
+// A sink that holds back all, and fails when it is to hand it on.
+#[derive(Drop)]
+struct HoldsBack {
+    bytes: Vec<u8>,
+    flushed: u64,
+    faults: u64,
+}
+
+impl Sink for HoldsBack {
+    ghost held = { λ _. None };
+
+    ghost faults = { λ s. s.faults };
+
+    fn write(&mut self, piece: &[u8]) -> Result<usize, Failed> {
+        if self.bytes.push(piece[0]).is_ok() {
+            return Ok(1);
+        }
+        self.faults = self.faults.saturating_add(1);
+        Err(Failed)
+    }
+
+    fn flush(&mut self) -> Result<(), Failed> {
+        self.flushed = self.flushed.saturating_add(1);
+        self.faults = self.faults.saturating_add(1);
+        Err(Failed)
+    }
+}
+
+// What is said by each command whose sink fails at its end.
+fn fails_at_its_end(rt: &impl Abort, alloc: Global, words: &str, text: &str) -> Result<(), Fail> {
+    let words = words_of(alloc, words)?;
+    let mut tree = tree_of(alloc, &[DRIVER])?;
+    let mut trace = MemSource::new(Vec::from_slice(alloc, b"vktrace 1\nx")?, Vec::new(alloc));
+    let mut out = HoldsBack {
+        bytes: Vec::new(alloc),
+        flushed: 0,
+        faults: 0,
+    };
+    let mut errs = sink(alloc, 0)?;
+    let mut driver = AdverseDriver::new(Vec::new(alloc));
+    let finished = finished_of(
+        alloc,
+        &words,
+        &EnvList::new(alloc),
+        &mut tree,
+        &mut trace,
+        &mut out,
+        &mut errs,
+        &mut driver,
+    );
+    assert_eq!(rt; finished.status, Status::WriteFault);
+    assert_eq!(rt; finished.session.is_some(), false);
+    assert!(rt; out.bytes.as_slice() == text.as_bytes());
+    assert_eq!(rt; out.flushed, 1);
+    assert!(rt; errs.bytes() == b"vkreplay: write fault\n".as_slice());
+    Ok(())
+}
+
+#[test]
+fn a_sink_fails_at_the_end(rt: HostRuntime) -> Result<(), Fail> {
+    let alloc = rt.alloc();
+    let chain =
+        "chain 0 ok layers=0 parts=0 drivers=1\ndriver 1 /etc/vulkan/icd.d/a.json libvulkan_a.so\n";
+    fails_at_its_end(&rt, alloc, "chain", chain)?;
+    fails_at_its_end(&rt, alloc, "gen --number 0 --calls 3", MADE)?;
+    fails_at_its_end(
+        &rt,
+        alloc,
+        "soak --number 0 --calls 3",
+        "end calls=10 skipped=0 reports=0\n",
+    )?;
+    fails_at_its_end(&rt, alloc, "run", "")
 }
