@@ -1,5 +1,6 @@
 //! Maps over a table of operations, for one chain and for many.
-ghost use Rattle.std.specs.Prelude.{◌≤◌};
+ghost use Rattle.std.specs.Prelude.{◌≤◌, ◌≡◌, max, OnOk};
+ghost use Rattle.handle_map.specs.Pairs.{greatest_id};
 
 use crate::HandleMap;
 use command_tables::ObjectType;
@@ -118,11 +119,18 @@ fn maps_of_one_chain_and_of_many(rt: HostRuntime) -> Result<(), Fail> {
     play::<64>(&rt, rt.alloc())
 }
 
+fn put(map: &mut HandleMap<64>, ty: ObjectType, id: u64) -> Result<(), Fail>
+    ensures { OnOk result (greatest_id map.new.entries ≡ max (greatest_id map.old.entries) id) }
+{
+    map.insert(ty, id, &[1]).ok().ok_or("memory")?;
+    Ok(())
+}
+
 #[test]
 fn the_next_id_is_above_a_gap(rt: HostRuntime) -> Result<(), Fail> {
     let mut map: HandleMap<64> = HandleMap::new(rt.alloc());
-    map.insert(ObjectType::Event, 9, &[1]).ok().ok_or("memory")?;
-    map.insert(ObjectType::Fence, 4, &[2]).ok().ok_or("memory")?;
+    put(&mut map, ObjectType::Event, 9)?;
+    put(&mut map, ObjectType::Fence, 4)?;
     assert_eq!(rt; map.next_id(), 10);
     Ok(())
 }
