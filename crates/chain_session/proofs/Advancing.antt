@@ -40,7 +40,7 @@ begin_advances s old x e new log0 log1 lines0 lines1 shown b = record {
   stands = λ events before st trace.
       let well : BeginsWell s st.kept events e before = begins_well s st.kept events e before trace st.stands in
       let g = b.begins st.kept (shown st.kept st.shows) in
-      record { kept = kept_after_begin s st.kept e b.own g.living; shows = g.shows; stands = well.stands b.own g.living g.answers g.lives };
+      record { kept = kept_after_begin s st.kept e b.own g.births; shows = g.shows; stands = well.stands b.own g.births g.answers g.past };
   each = λ events before st trace.
       let well : BeginsWell s st.kept events e before = begins_well s st.kept events e before trace st.stands in
       let g = b.begins st.kept (shown st.kept st.shows) in

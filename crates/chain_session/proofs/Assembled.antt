@@ -11,7 +11,7 @@ use Rattle.command_tables.specs.declared.types.CommandId.TheVariants as cmd
 use Rattle.model_driver.specs.Driver.{reply_shown}
 use Rattle.model_driver.specs.Logs.{Log, logged}
 use Rattle.trace_format.specs.Content.{BeginEvent}
-use Rattle.object_model.specs.declared.Object.{Object}
+use Rattle.object_model.specs.History.{Birth}
 use Rattle.object_model.specs.declared.PartKind.{PartKind}
 use Rattle.object_model.specs.Findings.{Findings, Report, at_place, is_failing}
 use Rattle.replay_model.specs.declared.Named.{Named}
@@ -31,7 +31,8 @@ use Rattle.chain_model.specs.Traces.{starts_chain}
 use Rattle.dispatch_chain.specs.Holding.{HeldCalls, IsHeldOf}
 use Rattle.dispatch_chain.specs.Seats.{kinds_of}
 use Rattle.session_model.specs.Session.{SessionKept}
-use Rattle.session_model.specs.Beginning.{LivesPast, begun_kept, calls_told, drivers_kept, findings_kept, loader_kept, walk_kept}
+use Rattle.session_model.specs.Living.{ArePast}
+use Rattle.session_model.specs.Beginning.{begun_kept, calls_told, drivers_kept, findings_kept, loader_kept, walk_kept}
 use Rattle.session_model.specs.Stands.{AreRepliesTo}
 use Rattle.chain_session.specs.declared.call.OpenCall.{OpenCall}
 use Rattle.chain_session.specs.declared.kept.Kept.{Kept}
@@ -45,28 +46,28 @@ use Rattle.chain_session.specs.Shown.{AreHeldAs, IsHeldAs, Shows, kinds_chained,
 
 -- ---- the values that a begin reads
 
--- the count of calls, the names, what lives, what the parts keep, the handles, and the end of the chain
+-- the count of calls, the names, the births of what lives, what the parts keep, the handles, and the end of the chain
 pub record Read : Type 0 where
   pub calls : ℕ
   pub names : List Named
-  pub living : List Object
+  pub births : List Birth
   pub states : List PartState
   pub handed : List Handed
   pub terminator : TerminatorState
 
 -- what the program keeps of them
 abbrev pub read_of : Kept → Read
-read_of x = record { calls = x.calls; names = x.names; living = x.objects.living; states = x.states; handed = x.handed; terminator = x.terminator }
+read_of x = record { calls = x.calls; names = x.names; births = x.objects; states = x.states; handed = x.handed; terminator = x.terminator }
 
 -- what the definitions keep of them
 abbrev pub read_in : Setup → SessionKept → Read
-read_in s k = record { calls = k.calls; names = k.names; living = k.living; states = k.chain.states; handed = k.chain.handed; terminator = record { ids = k.chain.terminator; routes = k.chain.routes; drivers = s.drivers } }
+read_in s k = record { calls = k.calls; names = k.names; births = k.births; states = k.chain.states; handed = k.chain.handed; terminator = record { ids = k.chain.terminator; routes = k.chain.routes; drivers = s.drivers } }
 
 pub read_same : (s : Setup) (x : Kept) (k : SessionKept) → Shows s x k → read_of x ≡ read_in s k
 read_same s x k sh = λ i. record {
   calls = sh.calls i;
   names = sh.names i;
-  living = sh.living i;
+  births = sh.births i;
   states = sh.states i;
   handed = sh.handed i;
   terminator = record { ids = sh.ids i; routes = sh.routes i; drivers = sh.drivers i };
@@ -75,12 +76,12 @@ read_same s x k sh = λ i. record {
 -- what the steps of a begin came to, by these values
 pub record Steps (v : Read) (e : BeginEvent) (number : ℕ) (refusal : Option Code) (judged : OpenCall) (verdict : Verdict) (after : List PartState) : Type 0 where
   pub counted : number ≡ v.calls + 1
-  pub judges : IsJudged v.living v.handed v.states (opened_first number v.names e refusal) judged verdict after
+  pub judges : IsJudged v.births v.handed v.states (opened_first number v.names e refusal) judged verdict after
 
 -- a call that was opened so was judged so
-pub judged_first : (living : List Object) (handed : List Handed) (before : List PartState) (o p : Opened) (new : OpenCall) (verdict : Verdict) (after : List PartState)
-    → o ≡ p → IsJudged living handed before o new verdict after → IsJudged living handed before p new verdict after
-judged_first living handed before o p new verdict after is j = subst (λ q. IsJudged living handed before q new verdict after) is j
+pub judged_first : (births : List Birth) (handed : List Handed) (before : List PartState) (o p : Opened) (new : OpenCall) (verdict : Verdict) (after : List PartState)
+    → o ≡ p → IsJudged births handed before o new verdict after → IsJudged births handed before p new verdict after
+judged_first births handed before o p new verdict after is j = subst (λ q. IsJudged births handed before q new verdict after) is j
 
 -- ---- what is skipped goes to no driver
 
@@ -126,7 +127,7 @@ module _ (s : Setup) (k : SessionKept) (e : BeginEvent) (number : ℕ) (refusal 
   failing = is_failing (loader_kept k e)
 
   abbrev found : Findings
-  found = found_at k.living k.chain.states k.chain.handed o
+  found = found_at k.births k.chain.states k.chain.handed o
 
   abbrev skip : Bool
   skip = is_refused s e.cmd e.payload || is_some (findings_kept s k e).stop
@@ -137,8 +138,8 @@ module _ (s : Setup) (k : SessionKept) (e : BeginEvent) (number : ℕ) (refusal 
   found_is : found ≡ findings_kept s k e
   found_is = ap (λ b. cond b nothing_found (found_by (loader_kept k e) (walk_kept k e).found)) refused_is
 
-  well_judged : IsJudged k.living k.chain.handed k.chain.states o judged verdict after
-  well_judged = subst (λ n. IsJudged k.living k.chain.handed k.chain.states (opened_first n k.names e refusal) judged verdict after) st.counted st.judges
+  well_judged : IsJudged k.births k.chain.handed k.chain.states o judged verdict after
+  well_judged = subst (λ n. IsJudged k.births k.chain.handed k.chain.states (opened_first n k.names e refusal) judged verdict after) st.counted st.judges
 
   stops_so : (is_some refusal || is_some found.stop) ≡ skip
   stops_so = ap (λ b. b || is_some found.stop) refused_is ∙ ap (λ (f : Findings). is_refused s e.cmd e.payload || is_some f.stop) found_is
@@ -246,7 +247,7 @@ held_more s kinds (x ∷ calls) (g ∷ hs) c h all one = (all.0, held_more s kin
 pub record Stepped (s : Setup) (x : Kept) (e : BeginEvent) (number : ℕ) (refusal : Option Code) (judged sent : OpenCall) (verdict : Verdict) (after : List PartState) (new : Kept) (log0 log1 : Log) (lines0 lines1 : List ℕ) : Type 0 where
   pub counted : number ≡ x.calls + 1
   pub refused : refusal ≡ refusal_at s e.cmd e.payload
-  pub judges : IsJudged x.objects.living x.handed x.states (opened_first number x.names e refusal) judged verdict after
+  pub judges : IsJudged x.objects x.handed x.states (opened_first number x.names e refusal) judged verdict after
   pub keeps : judged.refusal ≡ refusal
   pub kinds : kinds_of after ≡ kinds_of x.states
   pub sends : IsSentTo x.terminator judged sent log0 log1
@@ -264,22 +265,20 @@ begins_so s x e number refusal judged sent verdict after new log0 log1 lines0 li
     let found : reports_of verdict.findings.items ≡ (findings_kept s k e).reports = reports_is s k e number refusal judged verdict after p.refused st in
     let states : after ≡ (after_begin k.chain (loader_kept k e) (begun_kept s k e).opened).states = states_is s k e number refusal judged verdict after p.refused st in
     let rest = rest_is s k e number refusal judged verdict after p.refused st in
-    let lives : LivesPast k.births k.living (begun_kept s k e).opened new.objects.living =
-    subst (λ (o : Opened). LivesPast k.births k.living o new.objects.living) opened
-    (subst (λ l. LivesPast k.births l (opened_of sent) new.objects.living) sh.living (subst (λ bs. LivesPast bs x.objects.living (opened_of sent) new.objects.living) sh.births p.begun.living)) in
+    let past : ArePast k.births (begun_kept s k e).opened new.objects =
+    subst (λ (o : Opened). ArePast k.births o new.objects) opened (subst (λ (bs : List Birth). ArePast bs (opened_of sent) new.objects) sh.births p.begun.births) in
     let own : List ReplyContent = map reply_shown sent.replies.items in
     let kinds : kinds_of new.states ≡ kinds_of k.chain.states = ap kinds_of p.begun.stays ∙ (p.kinds ∙ ap kinds_of sh.states) in
     record {
-      living = new.objects.living;
+      births = new.objects;
       answers = answers_is s k e number refusal judged verdict after p.refused st sent log0 log1 went;
-      lives = lives;
+      past = past;
       shows = record {
         calls = p.begun.calls ∙ ap (λ (o : Opened). o.number) opened;
         skipped = p.begun.skipped ∙ (ap (λ n. n + cond (is_skipped (opened_of sent)) 1 0) sh.skipped ∙ ap (λ (o : Opened). k.skipped + cond (is_skipped o) 1 0) opened);
         reports = p.begun.reports ∙ (ap (λ n. n + length verdict.findings.items) sh.reports ∙ ap (λ n. k.reports + n) (sym (length-map verdict.findings.items report_of) ∙ ap (λ rs. length rs) found));
         names = p.begun.names ∙ sh.names;
-        births = p.begun.births ∙ sh.births;
-        living = refl;
+        births = refl;
         retrieved = p.begun.retrieved ∙ sh.retrieved;
         sent = ap (map sent_of) p.begun.open_calls ∙ (map-append sent_of x.open_calls.items (sent ∷ []) ∙ (ap (λ cs. cs ++ sent_of sent ∷ []) sh.sent
             ∙ ap (λ (o : Opened). k.sent ++ record { opened = o; answers = answers_to o own } ∷ []) opened));

@@ -52,7 +52,6 @@ keeps_again x states after call n new h = record {
   reports = h.reports;
   names = h.names;
   births = h.births;
-  living = h.living;
   retrieved = h.retrieved;
   handed = h.handed;
   terminator = h.terminator;
@@ -62,7 +61,7 @@ keeps_again x states after call n new h = record {
 
 module _ (s : Setup) (x : Kept) (e : BeginEvent) (number : ℕ) (refusal : Option Code) (judged : OpenCall) (verdict : Verdict) (after : List PartState)
     (counted : number ≡ x.calls + 1) (refused : refusal ≡ refusal_at s e.cmd e.payload)
-    (judges : IsJudged x.objects.living x.handed x.states (opened_first number x.names e refusal) judged verdict after) where
+    (judges : IsJudged x.objects x.handed x.states (opened_first number x.names e refusal) judged verdict after) where
   steps_in : (k : SessionKept) → Shows s x k → Steps (read_in s k) e number refusal judged verdict after
   steps_in k sh = subst (λ v. Steps v e number refusal judged verdict after) (read_same s x k sh) (record { counted = counted; judges = judges })
 

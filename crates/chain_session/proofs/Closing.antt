@@ -12,7 +12,7 @@ use Rattle.command_tables.specs.declared.types.CommandId.TheVariants as cmd
 use Rattle.command_tables.specs.Tests.{same_command}
 use Rattle.object_model.specs.declared.PartKind.{PartKind}
 use Rattle.object_model.specs.declared.Routed.{Routed}
-use Rattle.object_model.specs.History.{births_given}
+use Rattle.object_model.specs.History.{Birth, births_given, born_in}
 use Rattle.object_model.specs.Objects.{is_in}
 use Rattle.object_model.specs.Values.{Answered, Value}
 use Rattle.model_driver.specs.Driver.{reply_shown}
@@ -35,10 +35,10 @@ use Rattle.dispatch_chain.specs.Holding.{HeldCalls, IsHeldOf}
 use Rattle.dispatch_chain.specs.Rows.{picked}
 use Rattle.dispatch_chain.specs.Seats.{kinds_of}
 use Rattle.session_tables.proofs.Lists.{find_map, mapped}
-use Rattle.session_tables.specs.Population.{LivesToo}
+use Rattle.session_tables.specs.Lined.{AreAdded}
 use Rattle.session_tables.specs.Shown.{args_shown}
 use Rattle.session_model.specs.Session.{SessionKept}
-use Rattle.session_model.specs.Returning.{LivesSince, chain_after_return, given_kept, held_of_thread, kept_after_return, lost_kept, made_kept, sent_of_thread}
+use Rattle.session_model.specs.Returning.{chain_after_return, given_kept, held_of_thread, kept_after_return, lost_kept, made_kept, sent_of_thread}
 use Rattle.session_model.specs.Steps.{ComeUpApart}
 use Rattle.chain_session.specs.declared.call.OpenCall.{OpenCall}
 use Rattle.chain_session.specs.declared.kept.Kept.{Kept}
@@ -169,11 +169,10 @@ module _ (s : Setup) (x : Kept) (k : SessionKept) (thread : ℕ) (p : OpenCall) 
   own : (h.thread == p.thread) ≡ true
   own = eq-eqb h.thread p.thread is.thread
 
-  pub made_so : made_by x.terminator.drivers x.objects.births (is_in x.objects.living) x.retrieved o ≡ made
+  pub made_so : made_by x.terminator.drivers x.objects (born_in x.objects) x.retrieved o ≡ made
   made_so =
-      ap (λ n. made_by n x.objects.births (is_in x.objects.living) x.retrieved o) shows.drivers
-      ∙ (ap (λ bs. made_by s.drivers bs (is_in x.objects.living) x.retrieved o) shows.births
-      ∙ (ap (λ xs. made_by s.drivers k.births (is_in xs) x.retrieved o) shows.living ∙ ap (λ rs. made_by s.drivers k.births (is_in k.living) rs o) shows.retrieved))
+      ap (λ n. made_by n x.objects (born_in x.objects) x.retrieved o) shows.drivers
+      ∙ (ap (λ (bs : List Birth). made_by s.drivers bs (born_in bs) x.retrieved o) shows.births ∙ ap (λ rs. made_by s.drivers k.births (born_in k.births) rs o) shows.retrieved)
 
   -- the chain in force then
   states_then : is_skipped o ≡ false → states_due x.states p ≡ (in_force s k.chain o).states
@@ -314,9 +313,8 @@ module _ (s : Setup) (x : Kept) (k : SessionKept) (thread : ℕ) (p : OpenCall) 
 
   -- what the program keeps then
   module _ (y : Kept) (calls : y.calls ≡ x.calls) (skipped : y.skipped ≡ x.skipped) (reports : y.reports ≡ x.reports) (names : y.names ≡ x.names ++ map named_of made)
-      (births : y.objects.births ≡ x.objects.births ++ births_given x.objects.births (args_shown p.args.items) (row_of p.cmd).effect (objects_of made))
-      (living : LivesToo x.objects.living (births_given x.objects.births (args_shown p.args.items) (row_of p.cmd).effect (objects_of made)) y.objects.living)
-      (retrieved : y.retrieved ≡ x.retrieved ++ retrieved_by x.objects.births o made) (closed : y.open_calls.items ≡ filter (λ (c : OpenCall). not (is_of thread (opened_of c))) x.open_calls.items)
+      (births : AreAdded x.objects (births_given x.objects (args_shown p.args.items) (row_of p.cmd).effect (objects_of made)) y.objects)
+      (retrieved : y.retrieved ≡ x.retrieved ++ retrieved_by x.objects o made) (closed : y.open_calls.items ≡ filter (λ (c : OpenCall). not (is_of thread (opened_of c))) x.open_calls.items)
       (chain : chain_at y.states y.terminator y.handed ≡ chain_raised (chain_at x.states x.terminator x.handed) p h.forms made) (drivers : y.terminator.drivers ≡ x.terminator.drivers) where
     chain_is : chain_at y.states y.terminator y.handed ≡ record (chain_after_return s k (sent_of p) h) { held = [] }
     chain_is = chain ∙ raised_then
@@ -324,20 +322,17 @@ module _ (s : Setup) (x : Kept) (k : SessionKept) (thread : ℕ) (p : OpenCall) 
     thread_is : p.thread ≡ thread
     thread_is = open_thread thread x.open_calls.items p opens
 
-    pub lives_then : LivesSince k.living (given_kept s k o) y.objects.living
-    lives_then =
-        subst (λ bs. LivesSince k.living (births_given bs o.args (row_of o.cmd).effect (objects_of made)) y.objects.living) shows.births
-        (subst (λ xs. LivesSince xs (births_given x.objects.births o.args (row_of o.cmd).effect (objects_of made)) y.objects.living) shows.living living)
+    pub since_then : AreAdded k.births (given_kept s k o) y.objects
+    since_then = subst (λ (bs : List Birth). AreAdded bs (births_given bs o.args (row_of o.cmd).effect (objects_of made)) y.objects) shows.births births
 
-    pub shows_then : Shows s y (kept_after_return s k (sent_of p) h y.objects.living)
+    pub shows_then : Shows s y (kept_after_return s k (sent_of p) h y.objects)
     shows_then = record {
       calls = calls ∙ shows.calls;
       skipped = skipped ∙ shows.skipped;
       reports = reports ∙ shows.reports;
       names = names ∙ ap (λ ns. ns ++ map named_of made) shows.names;
-      births = births ∙ ap (λ bs. bs ++ births_given bs o.args (row_of o.cmd).effect (objects_of made)) shows.births;
-      living = refl;
-      retrieved = retrieved ∙ (ap (λ rs. rs ++ retrieved_by x.objects.births o made) shows.retrieved ∙ ap (λ bs. k.retrieved ++ retrieved_by bs o made) shows.births);
+      births = refl;
+      retrieved = retrieved ∙ (ap (λ rs. rs ++ retrieved_by x.objects o made) shows.retrieved ∙ ap (λ (bs : List Birth). k.retrieved ++ retrieved_by bs o made) shows.births);
       sent = ap (map sent_of) closed ∙ (sent_filter thread x.open_calls.items ∙ (ap (filter (λ (c : Sent). not (is_of thread c.opened))) shows.sent ∙ ap (λ n. filter (λ (c : Sent). not (is_of n c.opened)) k.sent) (sym thread_is)));
       states = ap (λ (c : ChainKept). c.states) chain_is;
       ids = ap (λ (c : ChainKept). c.terminator) chain_is;
@@ -358,13 +353,13 @@ same_call s x k thread p call shows opens found =
 
 -- what is born at it
 born_so : (s : Setup) (x : Kept) (k : SessionKept) (thread : ℕ) (p : OpenCall) (call : Sent) (held : Held) (born : List Born) → Shows s x k → Some p ≡ find (λ (c : OpenCall). is_of thread (opened_of c)) x.open_calls.items → sent_of_thread k thread ≡ Some call
-    → held_of_thread k thread ≡ Some held → Returns s k call held → born ≡ made_by x.terminator.drivers x.objects.births (is_in x.objects.living) x.retrieved (opened_of p) → born ≡ made_kept s k (opened_of p)
+    → held_of_thread k thread ≡ Some held → Returns s k call held → born ≡ made_by x.terminator.drivers x.objects (born_in x.objects) x.retrieved (opened_of p) → born ≡ made_kept s k (opened_of p)
 born_so s x k thread p call held born shows opens found holds returns is =
     is ∙ made_so s x k thread p held shows opens holds (subst (λ (c : Sent). Returns s k c held) (same_call s x k thread p call shows opens found) returns)
 
 -- its results may come up
 pub can_raise : (x : Kept) (thread : ℕ) (p : OpenCall) (born : List Born) → CanFinish x thread → Some p ≡ find (λ (c : OpenCall). is_of thread (opened_of c)) x.open_calls.items
-    → born ≡ made_by x.terminator.drivers x.objects.births (is_in x.objects.living) x.retrieved (opened_of p) → MayRaise x.states x.terminator p born
+    → born ≡ made_by x.terminator.drivers x.objects (born_in x.objects) x.retrieved (opened_of p) → MayRaise x.states x.terminator p born
 can_raise x thread p born can opens is =
     subst (λ ms. MayRaise x.states x.terminator p ms) (sym (born_so can.setup x can.kept thread p can.call can.held born can.shows opens can.found can.holds can.returns is))
     (may_raise can.setup x can.kept thread p can.held can.shows opens can.holds (subst (λ (c : Sent). Returns can.setup can.kept c can.held) (same_call can.setup x can.kept thread p can.call can.shows opens can.found) can.returns))
@@ -376,29 +371,26 @@ none_finishes x y thread old_lines lines none = λ s k call held shows found hol
     cc e
 
 pub finishes_so : (x y : Kept) (thread : ℕ) (p : OpenCall) (born : List Born) (old_lines lines : List ℕ) → Some p ≡ find (λ (c : OpenCall). is_of thread (opened_of c)) x.open_calls.items
-    → born ≡ made_by x.terminator.drivers x.objects.births (is_in x.objects.living) x.retrieved (opened_of p) → y.calls ≡ x.calls → y.skipped ≡ x.skipped → y.reports ≡ x.reports → y.names ≡ x.names ++ map named_of born
-    → y.objects.births ≡ x.objects.births ++ births_given x.objects.births (args_shown p.args.items) (row_of p.cmd).effect (objects_of born)
-    → LivesToo x.objects.living (births_given x.objects.births (args_shown p.args.items) (row_of p.cmd).effect (objects_of born)) y.objects.living
-    → y.retrieved ≡ x.retrieved ++ retrieved_by x.objects.births (opened_of p) born → y.open_calls.items ≡ filter (λ (c : OpenCall). not (is_of thread (opened_of c))) x.open_calls.items
+    → born ≡ made_by x.terminator.drivers x.objects (born_in x.objects) x.retrieved (opened_of p) → y.calls ≡ x.calls → y.skipped ≡ x.skipped → y.reports ≡ x.reports → y.names ≡ x.names ++ map named_of born
+    → AreAdded x.objects (births_given x.objects (args_shown p.args.items) (row_of p.cmd).effect (objects_of born)) y.objects
+    → y.retrieved ≡ x.retrieved ++ retrieved_by x.objects (opened_of p) born → y.open_calls.items ≡ filter (λ (c : OpenCall). not (is_of thread (opened_of c))) x.open_calls.items
     → ((forms : List CallContent) → IsHeldOf p.held (kinds_of x.states) forms → chain_at y.states y.terminator y.handed ≡ chain_raised (chain_at x.states x.terminator x.handed) p forms born) → y.terminator.drivers ≡ x.terminator.drivers
     → ((s : Setup) → p.refusal ≡ refusal_at s p.cmd p.payload.items → s.drivers ≡ x.terminator.drivers → lines ≡ old_lines ++ return_text s (opened_of p) (length born)) → Finishes x y thread old_lines lines
-finishes_so x y thread p born old_lines lines opens is calls skipped reports names births living retrieved closed chain drivers line = λ s k call held shows found holds returns.
+finishes_so x y thread p born old_lines lines opens is calls skipped reports names births retrieved closed chain drivers line = λ s k call held shows found holds returns.
     let same : call ≡ sent_of p = same_call s x k thread p call shows opens found in
     let mine : Returns s k (sent_of p) held = subst (λ (c : Sent). Returns s k c held) same returns in
     let made : born ≡ made_kept s k (opened_of p) = born_so s x k thread p call held born shows opens found holds returns is in
     let o : Opened = opened_of p in
     let names2 : y.names ≡ x.names ++ map named_of (made_kept s k (opened_of p)) = names ∙ ap (λ (ms : List Born). x.names ++ map named_of ms) made in
-    let births2 : y.objects.births ≡ x.objects.births ++ births_given x.objects.births (args_shown p.args.items) (row_of p.cmd).effect (objects_of (made_kept s k (opened_of p)))
-    = births ∙ ap (λ (ms : List Born). x.objects.births ++ births_given x.objects.births (args_shown p.args.items) (row_of p.cmd).effect (objects_of ms)) made in
-    let living2 : LivesToo x.objects.living (births_given x.objects.births (args_shown p.args.items) (row_of p.cmd).effect (objects_of (made_kept s k (opened_of p)))) y.objects.living
-    = subst (λ (ms : List Born). LivesToo x.objects.living (births_given x.objects.births (args_shown p.args.items) (row_of p.cmd).effect (objects_of ms)) y.objects.living) made living in
-    let retrieved2 : y.retrieved ≡ x.retrieved ++ retrieved_by x.objects.births (opened_of p) (made_kept s k (opened_of p)) = retrieved ∙ ap (λ (ms : List Born). x.retrieved ++ retrieved_by x.objects.births (opened_of p) ms) made in
+    let births2 : AreAdded x.objects (births_given x.objects (args_shown p.args.items) (row_of p.cmd).effect (objects_of (made_kept s k (opened_of p)))) y.objects
+    = subst (λ (ms : List Born). AreAdded x.objects (births_given x.objects (args_shown p.args.items) (row_of p.cmd).effect (objects_of ms)) y.objects) made births in
+    let retrieved2 : y.retrieved ≡ x.retrieved ++ retrieved_by x.objects (opened_of p) (made_kept s k (opened_of p)) = retrieved ∙ ap (λ (ms : List Born). x.retrieved ++ retrieved_by x.objects (opened_of p) ms) made in
     let chain2 : chain_at y.states y.terminator y.handed ≡ chain_raised (chain_at x.states x.terminator x.handed) p held.forms (made_kept s k (opened_of p))
     = chain held.forms (held_is s x k thread p held shows opens holds mine) ∙ ap (chain_raised (chain_at x.states x.terminator x.handed) p held.forms) made in
     subst (λ (c : Sent). Returned s k c held y old_lines lines) (sym same) (record {
-      living = y.objects.living;
-      lives = lives_then s x k thread p held shows opens holds mine y calls skipped reports names2 births2 living2 retrieved2 closed chain2 drivers;
-      shows = shows_then s x k thread p held shows opens holds mine y calls skipped reports names2 births2 living2 retrieved2 closed chain2 drivers;
+      births = y.objects;
+      since = since_then s x k thread p held shows opens holds mine y calls skipped reports names2 births2 retrieved2 closed chain2 drivers;
+      shows = shows_then s x k thread p held shows opens holds mine y calls skipped reports names2 births2 retrieved2 closed chain2 drivers;
       wrote = line s (refusal_is s x k thread p held shows opens holds mine) (sym shows.drivers) ∙ ap (λ (ms : List Born). old_lines ++ return_text s (opened_of p) (length ms)) made;
     })
 

@@ -173,7 +173,7 @@ return_advances s x new thread log lines0 lines1 guarded f = record {
       let so_far : IsTrace events = shorter (Return thread) events trace in
       let g : Returned s st.kept has.call has.form new lines0 lines1 = f s st.kept has.call has.form st.shows has.sent has.held (returns_of s st.kept events thread before has.call has.form guarded so_far st.stands has.sent has.held) in
       let well : ReturnsWell s st.kept events thread before has.call has.form = returns_well s st.kept events thread before has.call has.form guarded so_far st.stands has.sent has.held in
-      record { kept = kept_after_return s st.kept has.call has.form g.living; shows = g.shows; stands = well.stands g.living g.lives };
+      record { kept = kept_after_return s st.kept has.call has.form g.births; shows = g.shows; stands = well.stands g.births g.since };
   each = λ events before st trace. refl;
   told = λ events before st trace. none_logged log;
   wrote = λ events before st trace.

@@ -24,3 +24,5 @@ pub mod Finished
 pub mod Guarded
 pub mod Returning
 pub mod Within
+pub mod Ended
+pub mod Held

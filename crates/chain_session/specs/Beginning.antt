@@ -5,13 +5,14 @@ use Rattle.command_tables.specs.Calls.{ReplyContent}
 use Rattle.model_driver.specs.Logs.{Log, logged}
 use Rattle.trace_format.specs.Content.{BeginEvent}
 use Rattle.trace_format.specs.Grammar.{IsBegin}
-use Rattle.object_model.specs.declared.Object.{Object}
+use Rattle.object_model.specs.History.{Birth}
 use Rattle.replay_model.specs.Setup.{Setup}
 use Rattle.replay_model.specs.Text.{report_text}
 use Rattle.lifetime_layer.specs.declared.verdict.Verdict.{Verdict}
 use Rattle.lifetime_layer.specs.Reports.{reports_of}
 use Rattle.session_model.specs.Session.{SessionKept}
-use Rattle.session_model.specs.Beginning.{LivesPast, begin_lines, begun_kept, calls_told, kept_after_begin}
+use Rattle.session_model.specs.Living.{ArePast}
+use Rattle.session_model.specs.Beginning.{begin_lines, begun_kept, calls_told, kept_after_begin}
 use Rattle.session_model.specs.Stands.{AreRepliesTo}
 use Rattle.session_model.specs.Steps.{BeginSteps}
 use Rattle.chain_session.specs.declared.kept.Kept.{Kept}
@@ -31,10 +32,10 @@ pub record CanBegin (s : Setup) (x : Kept) (e : BeginEvent) : Type 0 where
 -- what a begin comes to with these replies of its drivers: the drivers were told the call, each with its reply, the lines are the begin's, and what is
 -- kept is what the definitions say
 pub record Begins (s : Setup) (k : SessionKept) (e : BeginEvent) (own : List ReplyContent) (new : Kept) (old_log log : Log) (old_lines lines : List ℕ) : Type 0 where
-  pub living : List Object
+  pub births : List Birth
   pub answers : AreRepliesTo (calls_told s k e) own
-  pub lives : LivesPast k.births k.living (begun_kept s k e).opened living
-  pub shows : Shows s new (kept_after_begin s k e own living)
+  pub past : ArePast k.births (begun_kept s k e).opened births
+  pub shows : Shows s new (kept_after_begin s k e own births)
   pub told : log ≡ logged old_log (zip (calls_told s k e) own)
   pub wrote : lines ≡ old_lines ++ begin_lines s k e
 

@@ -1,7 +1,7 @@
 -- The return of a call, by what the program keeps. Source: this project.
 use Rattle.std.specs.Prelude.{◌≡◌, ◌++◌, ℕ, true, false, Some, List, [], length}
 use Rattle.std.specs.List.{AllByRecursion}
-use Rattle.object_model.specs.declared.Object.{Object}
+use Rattle.object_model.specs.History.{Birth}
 use Rattle.replay_model.specs.Direct.{Sent}
 use Rattle.replay_model.specs.Past.{is_skipped}
 use Rattle.replay_model.specs.Setup.{Setup}
@@ -9,7 +9,8 @@ use Rattle.layer_model.specs.Walks.{is_guarded}
 use Rattle.chain_model.specs.Simulated.{Held}
 use Rattle.chain_model.specs.Traces.{held_in_force, in_force, starts_chain}
 use Rattle.session_model.specs.Session.{SessionKept}
-use Rattle.session_model.specs.Returning.{LivesSince, given_kept, held_of_thread, kept_after_return, return_line, sent_of_thread}
+use Rattle.session_tables.specs.Lined.{AreAdded}
+use Rattle.session_model.specs.Returning.{given_kept, held_of_thread, kept_after_return, return_line, sent_of_thread}
 use Rattle.session_model.specs.Steps.{ReturnSteps}
 use Rattle.chain_session.specs.declared.kept.Kept.{Kept}
 use Rattle.chain_session.specs.Shown.{Shows}
@@ -40,11 +41,11 @@ pub record CanFinish (x : Kept) (thread : ℕ) : Type 0 where
   pub holds : held_of_thread kept thread ≡ Some held
   pub returns : Returns setup kept call held
 
--- what a return comes to: what lives then, what is kept, and its line
+-- what a return comes to: the births of what lives then, what is kept, and its line
 pub record Returned (s : Setup) (k : SessionKept) (call : Sent) (held : Held) (new : Kept) (old_lines lines : List ℕ) : Type 0 where
-  pub living : List Object
-  pub lives : LivesSince k.living (given_kept s k call.opened) living
-  pub shows : Shows s new (kept_after_return s k call held living)
+  pub births : List Birth
+  pub since : AreAdded k.births (given_kept s k call.opened) births
+  pub shows : Shows s new (kept_after_return s k call held births)
   pub wrote : lines ≡ old_lines ++ return_line s k call.opened
 
 -- so it is for whatever the program keeps

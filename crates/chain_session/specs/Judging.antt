@@ -5,9 +5,8 @@ use Rattle.command_tables.specs.Table.{row_of}
 use Rattle.command_tables.specs.declared.types.Rule.TheVariants as rule
 use Rattle.model_driver.specs.Driver.{FitsRow}
 use Rattle.object_model.specs.declared.Argument.{Argument}
-use Rattle.object_model.specs.declared.Object.{Object}
 use Rattle.object_model.specs.Findings.{Findings, Report, is_failing}
-use Rattle.object_model.specs.Objects.{is_in}
+use Rattle.object_model.specs.History.{Birth, born_in}
 use Rattle.object_model.specs.Rules.{Failure, failure, loader_failures}
 use Rattle.replay_model.specs.Past.{Opened}
 use Rattle.layer_model.specs.Walks.{PartState, Walked, enter_parts, nothing_found}
@@ -49,23 +48,23 @@ last_place (r ∷ q ∷ rs) = last_place (q ∷ rs)
 abbrev pub stopped_by : Bool → List Report → Option ℕ
 stopped_by skip reports = if skip then last_place reports else None
 
--- what the loader finds, where these objects live
-abbrev pub found_first : List Object → Opened → List Failure
-found_first living o = loader_failures (is_in living) (row_of o.cmd).params o.args
+-- what the loader finds, where these are the births of what lives
+abbrev pub found_first : List Birth → Opened → List Failure
+found_first births o = loader_failures (born_in births) (row_of o.cmd).params o.args
 
 -- a call comes to the parts: its chain isn't refused, and the loader doesn't report it
-abbrev pub comes_down : List Object → Opened → Bool
-comes_down living o = not (o.refused || is_failing (found_first living o))
+abbrev pub comes_down : List Birth → Opened → Bool
+comes_down births o = not (o.refused || is_failing (found_first births o))
 
 -- all that is found at a call
-abbrev pub found_at : List Object → List PartState → List Handed → Opened → Findings
-found_at living states handed o = if o.refused then nothing_found else found_by (found_first living o) (walk_at states handed o).found
+abbrev pub found_at : List Birth → List PartState → List Handed → Opened → Findings
+found_at births states handed o = if o.refused then nothing_found else found_by (found_first births o) (walk_at states handed o).found
 
 -- A call was judged: where it stops, what was found, what the parts keep then, and the call as it stood above each part that it came to and below
 -- the last.
-pub record IsJudged (living : List Object) (handed : List Handed) (before : List PartState) (o : Opened) (new : OpenCall) (verdict : Verdict) (after : List PartState) : Type 0 where
-  pub opened : opened_of new ≡ record o { stop = (found_at living before handed o).stop }
-  pub reports : reports_of verdict.findings.items ≡ (found_at living before handed o).reports
-  pub states : after ≡ (if comes_down living o then (walk_at before handed o).states else before)
-  pub bottom : comes_down living o ≡ true → call_content new.bottom ≡ (walk_at before handed o).bottom
-  pub held : IsHeldOf new.held (kinds_of before) (if comes_down living o then (walk_at before handed o).forms else [])
+pub record IsJudged (births : List Birth) (handed : List Handed) (before : List PartState) (o : Opened) (new : OpenCall) (verdict : Verdict) (after : List PartState) : Type 0 where
+  pub opened : opened_of new ≡ record o { stop = (found_at births before handed o).stop }
+  pub reports : reports_of verdict.findings.items ≡ (found_at births before handed o).reports
+  pub states : after ≡ (if comes_down births o then (walk_at before handed o).states else before)
+  pub bottom : comes_down births o ≡ true → call_content new.bottom ≡ (walk_at before handed o).bottom
+  pub held : IsHeldOf new.held (kinds_of before) (if comes_down births o then (walk_at before handed o).forms else [])

@@ -2,7 +2,7 @@
 use Rattle.std.specs.Prelude.{◌≡◌, ◌+◌, ◌++◌, ◌∷◌, [], List, ℕ, if◌then◌else◌}
 use Rattle.replay_model.specs.Past.{is_skipped}
 use Rattle.layer_model.specs.Walks.{PartState}
-use Rattle.session_model.specs.Beginning.{LivesPast}
+use Rattle.session_model.specs.Living.{ArePast}
 use Rattle.chain_session.specs.declared.call.OpenCall.{OpenCall}
 use Rattle.chain_session.specs.declared.kept.Kept.{Kept}
 use Rattle.chain_session.specs.Opened.{opened_of}
@@ -13,8 +13,7 @@ pub record KeepsBegun (old : Kept) (call : OpenCall) (found : ℕ) (new : Kept) 
   pub skipped : new.skipped ≡ old.skipped + (if is_skipped (opened_of call) then 1 else 0)
   pub reports : new.reports ≡ old.reports + found
   pub names : new.names ≡ old.names
-  pub births : new.objects.births ≡ old.objects.births
-  pub living : LivesPast old.objects.births old.objects.living (opened_of call) new.objects.living
+  pub births : ArePast old.objects (opened_of call) new.objects
   pub retrieved : new.retrieved ≡ old.retrieved
   pub handed : new.handed ≡ old.handed
   pub terminator : new.terminator ≡ old.terminator

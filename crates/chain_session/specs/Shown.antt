@@ -54,8 +54,7 @@ pub record Shows (s : Setup) (x : Kept) (k : SessionKept) : Type 0 where
   pub skipped : x.skipped ≡ k.skipped
   pub reports : x.reports ≡ k.reports
   pub names : x.names ≡ k.names
-  pub births : x.objects.births ≡ k.births
-  pub living : x.objects.living ≡ k.living
+  pub births : x.objects ≡ k.births
   pub retrieved : x.retrieved ≡ k.retrieved
   pub sent : map sent_of x.open_calls.items ≡ k.sent
   pub states : x.states ≡ k.chain.states

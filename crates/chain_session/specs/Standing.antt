@@ -1,6 +1,6 @@
 -- A session stands for the events of a trace and the replies of its drivers, and what one event more does. Events and replies stand newest first.
 -- Source: this project.
-use Rattle.std.specs.Prelude.{◌≡◌, ◌∷◌, ◌++◌, ℕ, List, Option, Some, None, length}
+use Rattle.std.specs.Prelude.{◌≡◌, ◌+◌, ◌∷◌, ◌++◌, ℕ, List, Option, Some, None, length}
 use Rattle.command_tables.specs.Calls.{ReplyContent}
 use Rattle.command_tables.specs.Tests.{same_command}
 use Rattle.command_tables.specs.declared.types.CommandId.TheVariants as cmd
@@ -11,6 +11,7 @@ use Rattle.replay_model.specs.Judged.{begun_of, judged}
 use Rattle.replay_model.specs.Direct.{driver_calls, exchanges_at, sends_at, valued}
 use Rattle.replay_model.specs.Text.{lines_at}
 use Rattle.chain_model.specs.Traces.{GivesGuarded, IsTrace}
+use Rattle.session_tables.specs.Births.{AreApart}
 use Rattle.session_model.specs.Session.{SessionKept, nothing_kept}
 use Rattle.session_model.specs.Stands.{Stands}
 use Rattle.chain_session.specs.declared.kept.Kept.{Kept}
@@ -61,6 +62,10 @@ ReturnsAs old new thread old_lines lines = (s : Setup) → GivesGuarded s → (l
 -- the numbers of calls, skipped calls and reports are those of what is kept
 abbrev pub Counts : Option Kept → ℕ → ℕ → ℕ → Type 0
 Counts x calls skipped reports = (s : Setup) (k : SessionKept) → ShowsOnce s x k → (calls ≡ k.calls) × ((skipped ≡ k.skipped) × (reports ≡ k.reports))
+
+-- so many entries are kept: one for each name, for each object that lives and for each open call, and no object has two
+abbrev pub Holds : Option Kept → ℕ → Type 0
+Holds x held = (s : Setup) (k : SessionKept) → ShowsOnce s x k → (held ≡ length k.names + length k.births + length k.sent) × AreApart k.births
 
 -- a begin that memory cut short: the first so many of its calls were told
 abbrev pub CutBefore : Setup → Option Kept → BeginEvent → Log → Log → Type 0

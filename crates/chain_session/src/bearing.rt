@@ -1,7 +1,7 @@
 // Whether the results of a call are born.
 ghost use Rattle.std.specs.Prelude.{◌≡◌};
 ghost use Rattle.command_tables.specs.Table.{row_of};
-ghost use Rattle.object_model.specs.Objects.{is_in};
+ghost use Rattle.object_model.specs.History.{born_in};
 ghost use Rattle.replay_model.specs.Births.{bearable, bears, owner_lives};
 ghost use Rattle.chain_session.specs.Opened.{opened_of};
 
@@ -21,7 +21,7 @@ pub(crate) fn effect_of(cmd: CommandId) -> Effect
 
 #[tactic(auto, unfolding(command_tables::specs::Tests::same_command))]
 fn has_living_owner(objects: &ObjectTable, cmd: CommandId, owner: Option<Object>) -> bool
-    ensures { result ≡ owner_lives (is_in objects.now.living) cmd owner }
+    ensures { result ≡ owner_lives (born_in objects.now) cmd owner }
 {
     cmd == CommandId::CreateInstance
         || match owner {
@@ -32,7 +32,7 @@ fn has_living_owner(objects: &ObjectTable, cmd: CommandId, owner: Option<Object>
 
 /// Whether the results of a call are born at its return.
 pub(crate) fn is_bearing(objects: &ObjectTable, call: &OpenCall) -> bool
-    ensures { result ≡ bears objects.now.births (is_in objects.now.living) (opened_of call.now) }
+    ensures { result ≡ bears objects.now (born_in objects.now) (opened_of call.now) }
 {
     !is_skipped(call)
         && call.cmd.succeeds(call.code)

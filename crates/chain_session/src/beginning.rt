@@ -8,6 +8,7 @@ ghost use Rattle.trace_format.specs.Content.{Begin};
 ghost use Rattle.replay_model.specs.Past.{is_skipped};
 ghost use Rattle.replay_model.specs.Stop.{exceeds_layers};
 ghost use Rattle.terminator.specs.Calls.{targets_of};
+ghost use Rattle.session_tables.specs.Lined.{AreLined};
 ghost use Rattle.chain_build.specs.Setup.{setup_content};
 ghost use Rattle.report_text.specs.Setups.{trace_setup};
 ghost use Rattle.dispatch_chain.specs.Seats.{kinds_of};
@@ -80,7 +81,7 @@ fn open_judged(
     requires fits { FitsCall (opened_first number kept.old.names (begin_content begin) start.refusal) }
     requires goes { verdict.old.skip ≡ false }
     requires empty { verdict.old.findings.items ≡ [] }
-    ensures judged { IfOk result (λ c. IsJudged kept.old.objects.living kept.old.handed kept.old.states (opened_first number kept.old.names (begin_content begin.entry) start.refusal) c verdict.new kept.new.states) }
+    ensures judged { IfOk result (λ c. IsJudged kept.old.objects kept.old.handed kept.old.states (opened_first number kept.old.names (begin_content begin.entry) start.refusal) c verdict.new kept.new.states) }
     ensures refusal { IfOk result (λ c. c.refusal ≡ start.refusal) }
     ensures chain { IfOk result (λ c. c.chain ≡ start.chain) }
     ensures replies { IfOk result (λ c. c.replies.items ≡ []) }
@@ -112,6 +113,7 @@ fn tell_and_keep<D: Driver>(
 ) -> Result<(), NoMemory>
     requires shapes { is_skipped (opened_of call) ≡ false → AllByRecursion HasShape (targets_of kept.old.terminator (call_content call.bottom)) }
     requires drivers { call.drivers.items ≡ [] }
+    requires lined { AreLined kept.old.objects }
     requires replies { call.replies.items ≡ [] }
     ensures ok { OnOk result (Tells kept.old call (begin_content begin.entry) verdict.now kept.new (D.log driver.old) (D.log driver.new) lines.old.items lines.new.items) }
     ensures err { OnErr result (FrontAsked (calls_due kept.old.terminator call) (D.log driver.old) (D.log driver.new)) }

@@ -2,7 +2,8 @@
 ghost use Rattle.std.specs.Prelude.{◌≡◌, ◌+◌, IfOk, OnOk, if◌then◌else◌};
 ghost use Rattle.command_tables.specs.Table.{row_of};
 ghost use Rattle.replay_model.specs.Past.{is_skipped};
-ghost use Rattle.session_model.specs.Beginning.{LivesPast};
+ghost use Rattle.session_model.specs.Living.{ArePast};
+ghost use Rattle.session_tables.specs.Lined.{AreLined};
 ghost use Rattle.chain_session.specs.Keeping.{KeepsBegun};
 ghost use Rattle.chain_session.specs.Opened.{opened_of};
 
@@ -13,9 +14,10 @@ use command_tables::{NoMemory, row};
 use session_tables::ObjectTable;
 
 // What a call ends, unless it is skipped.
+#[tactic(auto, using(crate::proofs::Ended::past_ended, crate::proofs::Ended::past_skipped))]
 fn end_some(objects: &mut ObjectTable, call: &OpenCall)
-    ensures births { objects.new.births ≡ objects.old.births }
-    ensures living { LivesPast objects.old.births objects.old.living (opened_of call.now) objects.new.living }
+    requires { AreLined objects.old }
+    ensures { ArePast objects.old (opened_of call.now) objects.new }
 {
     if !is_skipped(call) {
         let effect = row(call.cmd).effect;
@@ -36,6 +38,7 @@ fn counted(count: u64, one_more: bool) -> Result<u64, NoMemory>
 
 /// Keeps a call with so many reports as an open one, and counts it. A count that would pass 64 bits is refused as want of memory.
 pub(crate) fn keep_begun(kept: &mut Kept, call: OpenCall, reports: usize) -> Result<(), NoMemory>
+    requires { AreLined kept.old.objects }
     ensures kept { OnOk result (KeepsBegun kept.old call reports kept.new kept.old.states) }
     ensures states { kept.new.states ≡ kept.old.states }
 {

@@ -3,7 +3,7 @@ ghost use Rattle.std.specs.Prelude.{◌≡◌, ◌++◌, ◌∷◌, [], false, i
 ghost use Rattle.command_tables.specs.Calls.{call_content};
 ghost use Rattle.command_tables.specs.Table.{row_of, seen, seen_param};
 ghost use Rattle.object_model.specs.Findings.{at_place, is_failing};
-ghost use Rattle.object_model.specs.Objects.{is_in};
+ghost use Rattle.object_model.specs.History.{born_in};
 ghost use Rattle.object_model.specs.Rules.{loader_failures, parameter_holds};
 ghost use Rattle.lifetime_layer.specs.Reports.{report_of, reports_of};
 ghost use Rattle.dispatch_chain.specs.Holding.{IsHeldOf};
@@ -23,7 +23,7 @@ use object_model::Argument;
 use session_tables::ObjectTable;
 
 fn holds(objects: &ObjectTable, param: &Param, argument: Argument) -> bool
-    ensures { result ≡ parameter_holds (is_in objects.now.living) (seen_param param.now) argument }
+    ensures { result ≡ parameter_holds (born_in objects.now) (seen_param param.now) argument }
 {
     match argument {
         Argument::Null => param.optional,
@@ -34,7 +34,7 @@ fn holds(objects: &ObjectTable, param: &Param, argument: Argument) -> bool
 
 #[tactic(auto, using(crate::proofs::Loader::failing_unless))]
 fn fails_first(objects: &ObjectTable, params: &[Param], args: &[Vec<Argument>]) -> bool
-    ensures { result ≡ is_failing (loader_failures (is_in objects.now.living) (map seen_param params.now) (args_shown args.now)) }
+    ensures { result ≡ is_failing (loader_failures (born_in objects.now) (map seen_param params.now) (args_shown args.now)) }
 {
     match params {
         [] => false,
@@ -50,7 +50,7 @@ fn fails_first(objects: &ObjectTable, params: &[Param], args: &[Vec<Argument>]) 
 
 /// Whether the loader reports a call: its first argument stands for no living object.
 pub(crate) fn is_reported(objects: &ObjectTable, cmd: CommandId, args: &[Vec<Argument>]) -> bool
-    ensures { result ≡ is_failing (loader_failures (is_in objects.now.living) (row_of cmd).params (args_shown args.now)) }
+    ensures { result ≡ is_failing (loader_failures (born_in objects.now) (row_of cmd).params (args_shown args.now)) }
 {
     fails_first(objects, row(cmd).params, args)
 }
@@ -164,7 +164,7 @@ pub(crate) fn judge(
     requires empty { verdict.old.findings.items ≡ [] }
     requires unheld { call.old.held.forms ≡ [] }
     requires going { call.old.stop ≡ None }
-    ensures judged { OnOk result (IsJudged objects.now.living handed.now states.old (opened_of call.old) call.new verdict.new states.new) }
+    ensures judged { OnOk result (IsJudged objects.now handed.now states.old (opened_of call.old) call.new verdict.new states.new) }
     ensures refusal { call.new.refusal ≡ call.old.refusal }
     ensures chain { call.new.chain ≡ call.old.chain }
     ensures replies { call.new.replies ≡ call.old.replies }

@@ -3,7 +3,7 @@ ghost use Rattle.std.specs.Prelude.{◌≡◌, ◌++◌, map, filter, IfOk, OnOk
 ghost use Rattle.command_tables.specs.Table.{row_of};
 ghost use Rattle.object_model.specs.History.{births_given};
 ghost use Rattle.replay_model.specs.Past.{is_new, named_of, objects_of, retrieval, retrieved_by};
-ghost use Rattle.session_tables.specs.Population.{LivesToo};
+ghost use Rattle.session_tables.specs.Lined.{AreAdded};
 ghost use Rattle.session_tables.specs.Shown.{args_shown};
 ghost use Rattle.chain_session.specs.Opened.{opened_of};
 
@@ -91,9 +91,8 @@ pub(crate) fn settle(
     retrieved: &mut RetrievedTable,
 ) -> Result<(), AllocError>
     ensures names { OnOk result (names.new ≡ names.old ++ map named_of born.now) }
-    ensures births { OnOk result (objects.new.births ≡ objects.old.births ++ births_given objects.old.births (args_shown call.now.args.items) (row_of call.now.cmd).effect (objects_of born.now)) }
-    ensures living { OnOk result (LivesToo objects.old.living (births_given objects.old.births (args_shown call.now.args.items) (row_of call.now.cmd).effect (objects_of born.now)) objects.new.living) }
-    ensures retrieved { OnOk result (retrieved.new ≡ retrieved.old ++ retrieved_by objects.old.births (opened_of call.now) born.now) }
+    ensures births { OnOk result (AreAdded objects.old (births_given objects.old (args_shown call.now.args.items) (row_of call.now.cmd).effect (objects_of born.now)) objects.new) }
+    ensures retrieved { OnOk result (retrieved.new ≡ retrieved.old ++ retrieved_by objects.old (opened_of call.now) born.now) }
 {
     keep_names(names, born)?;
     keep_retrieved(alloc, retrieved, objects.births(), call, born)?;

@@ -1,4 +1,7 @@
 // What a session keeps.
+ghost use Rattle.std.specs.Prelude.{◌≡◌, ◌+◌, ◌<◌, ◌^◌, length};
+ghost use Rattle.session_tables.specs.Births.{AreApart};
+
 use crate::call::OpenCall;
 use crate::handed::HandedTable;
 use dispatch_chain::{LayerStates, Terminator};
@@ -18,4 +21,21 @@ pub struct Kept {
     pub(crate) terminator: Terminator,
     pub(crate) states: LayerStates,
     pub(crate) open_calls: Vec<OpenCall>,
+}
+
+fn open_count(calls: &[OpenCall]) -> usize
+    ensures len { result ≡ length calls.now }
+    ensures few { result < 2 ^ 62 }
+{
+    calls.len()
+}
+
+impl Kept {
+    /// How many names, living objects and open calls have an entry.
+    pub(crate) fn held(&self) -> usize
+        ensures count { result ≡ length self.now.names + length self.now.objects + length self.now.open_calls.items }
+        ensures apart { AreApart self.now.objects }
+    {
+        self.names.len() + self.objects.len() + open_count(&self.open_calls)
+    }
 }

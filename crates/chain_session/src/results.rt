@@ -2,7 +2,7 @@
 ghost use Rattle.std.specs.Prelude.{◌≡◌, Some, map, IfOk, ℕ};
 ghost use Rattle.std.specs.List.{enumerate_from};
 ghost use Rattle.object_model.specs.Keys.{key_payload};
-ghost use Rattle.object_model.specs.Objects.{is_in};
+ghost use Rattle.object_model.specs.History.{born_in};
 ghost use Rattle.replay_model.specs.Births.{bearable, born_with, made_by, own_object, retrieved_object};
 ghost use Rattle.chain_session.specs.Opened.{opened_of};
 
@@ -148,7 +148,7 @@ pub(crate) fn made(
     drivers: u32,
     call: &OpenCall,
 ) -> Result<Vec<Born>, AllocError>
-    ensures { IfOk result (λ v. v.items ≡ made_by drivers objects.now.births (is_in objects.now.living) table.now (opened_of call.now)) }
+    ensures { IfOk result (λ v. v.items ≡ made_by drivers objects.now (born_in objects.now) table.now (opened_of call.now)) }
 {
     if is_bearing(objects, call) {
         results(room, objects.births(), table, drivers, call)

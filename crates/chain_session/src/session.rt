@@ -9,7 +9,7 @@ ghost use Rattle.report_text.specs.Setups.{trace_setup};
 ghost use Rattle.replay_model.specs.Stop.{exceeds_layers};
 ghost use Rattle.chain_session.specs.Creation.{IsFault};
 ghost use Rattle.chain_session.specs.Opening.{begin_content};
-ghost use Rattle.chain_session.specs.Standing.{Advances, BeginsCall, CanCome, CanReturn, Counts, CutAt, CutBefore, IsFaultAt, ReturnsAs, calls_before};
+ghost use Rattle.chain_session.specs.Standing.{Advances, BeginsCall, CanCome, CanReturn, Counts, CutAt, CutBefore, Holds, IsFaultAt, ReturnsAs, calls_before};
 
 use crate::error::SessionError;
 use crate::opening::Beginning;
@@ -158,6 +158,16 @@ impl Session {
                 Err(error) => Err(error),
                 Ok(()) => Ok(()),
             },
+        }
+    }
+
+    /// For how many names, living objects and open calls there is an entry. Takes no memory.
+    pub fn held(&self) -> usize
+        ensures { Holds (option_map (λ x. x.kept) self.now.started) result }
+    {
+        match &self.started {
+            None => 0,
+            Some(started) => started.kept.held(),
         }
     }
 

@@ -3,19 +3,25 @@ use Rattle.std.proofs.Common.{◌≡◌, ℕ, suc, ◌+◌, cond, List, [], ◌�
 use Rattle.std.proofs.lemmas.List.{drop_at, length-append, length-reverse, map-append, reverse-reverse, take-append-drop, take_at}
 use Rattle.std.specs.List.{zip}
 use Rattle.command_tables.specs.Calls.{ReplyContent}
+use Rattle.std.specs.Option.{is_none}
+use Rattle.trace_format.specs.Accepting.{are_accepted, fault_after}
 use Rattle.trace_format.specs.Content.{BeginEvent, TraceEvent, Begin}
-use Rattle.object_model.specs.declared.Object.{Object}
+use Rattle.object_model.specs.History.{Birth}
 use Rattle.replay_model.specs.Setup.{Setup}
-use Rattle.replay_model.specs.Past.{Opened, Past, is_skipped}
+use Rattle.replay_model.specs.Past.{Opened, Past, history, is_skipped, retrievals}
 use Rattle.replay_model.specs.Judged.{Begun, begun_of, judged}
 use Rattle.replay_model.specs.Direct.{Sent, Valued, answers_to, before_call, driver_call, driver_calls, exchanges_at, own_replies, sent, valued}
 use Rattle.chain_model.specs.Traces.{AreAnswered, IsTrace, Replies, loader_finds}
+use Rattle.layer_model.proofs.Same.{and_true}
+use Rattle.chain_model.proofs.Grammar.{shaped}
 use Rattle.chain_model.proofs.Tracing.{goes_down}
 use Rattle.session_model.specs.Session.{SessionKept}
-use Rattle.session_model.specs.Beginning.{LivesPast, begun_kept, calls_told, kept_after_begun, loader_kept}
+use Rattle.session_model.specs.Living.{AreOfLiving, ArePast}
+use Rattle.session_model.specs.Beginning.{begun_kept, calls_told, kept_after_begun, loader_kept}
 use Rattle.session_model.specs.Stands.{AreRepliesTo, BeginsWell, Stands}
 use Rattle.session_model.proofs.Begun.{begun_is, lines_are, loader_is, sends_is, told_is}
-use Rattle.session_model.proofs.Living.{living_begun}
+use Rattle.session_model.proofs.Enough.{living_past}
+use Rattle.session_model.proofs.Owning.{owning_judged}
 
 -- replies to the calls are answers of their drivers
 answered_own : (values : List Valued) (o : Opened) (ds : List ℕ) (own : List ReplyContent) → AreRepliesTo (map (driver_call values o) ds) own → AreAnswered values o ds own × (length own ≡ length ds)
@@ -66,15 +72,19 @@ module _ (s : Setup) (k : SessionKept) (events : List TraceEvent) (e : BeginEven
   abbrev call : List ReplyContent → Sent
   call rs = record { opened = b.opened; answers = answers_to b.opened rs }
 
-  pub stands_begun : (living : List Object) → LivesPast k.births k.living (begun_of s (judged s events) e).opened living
-      → Stands s (kept_after_begun k (begun_of s (judged s events) e) (loader_finds (judged s events) (begun_of s (judged s events) e).opened) own living) (Begin e ∷ events) (reverse own ++ replies)
-  stands_begun living on = record {
+  lives_on : (births : List Birth) → ArePast k.births b.opened births → AreOfLiving births (history (judged s (Begin e ∷ events)))
+  lives_on births on =
+      let own = owning_judged s events (and_true (are_accepted events) (is_none (fault_after events (Begin e))) trace.accepted).0 (shaped (Begin e ∷ events) trace.grammar).1 in
+      living_past (history past) (retrievals past) own k.births st.living b.opened births on
+
+  pub stands_begun : (births : List Birth) → ArePast k.births (begun_of s (judged s events) e).opened births
+      → Stands s (kept_after_begun k (begun_of s (judged s events) e) (loader_finds (judged s events) (begun_of s (judged s events) e).opened) own births) (Begin e ∷ events) (reverse own ++ replies)
+  stands_begun births on = record {
     calls = ap (λ n. n + 1) st.calls;
     skipped = ap (λ n. n + cond (is_skipped b.opened) 1 0) st.skipped;
     reports = ap (λ n. n + length b.reports) st.reports;
     names = st.names;
-    born = st.born;
-    living = λ x. living_begun k past b.opened living x st.born (st.living x) on;
+    living = lives_on births on;
     retrieved = st.retrieved;
     open_calls = map-append (λ (c : Sent). c.opened) k.sent (call own ∷ []) ∙ ap (λ os. os ++ b.opened ∷ []) st.open_calls;
     sent = ap (λ cs. cs ++ call own ∷ []) (st.sent ∙ ap (sent past) (sym back)) ∙ ap (λ rs. sent past (before_call b.opened after) ++ call rs ∷ []) (sym own_so);
@@ -113,8 +123,8 @@ begins_well s k events e replies trace st =
         turned_back (begun_of s (judged s events) e).opened after replies r.back,
       );
       exchanges = λ own a. ap (λ cs. zip cs own) told ∙ exchanged s k events e replies trace st own (to_past own a);
-      stands = λ own living a on.
-          subst (λ (x : Begun). Stands s (kept_after_begun k x (loader_kept k e) own living) (Begin e ∷ events) (reverse own ++ replies)) (sym begun)
-          (subst (λ fs. Stands s (kept_after_begun k (begun_of s (judged s events) e) fs own living) (Begin e ∷ events) (reverse own ++ replies)) (sym failing)
-          (stands_begun s k events e replies trace st own (to_past own a) living (subst (λ (x : Begun). LivesPast k.births k.living x.opened living) begun on)));
+      stands = λ own births a on.
+          subst (λ (x : Begun). Stands s (kept_after_begun k x (loader_kept k e) own births) (Begin e ∷ events) (reverse own ++ replies)) (sym begun)
+          (subst (λ fs. Stands s (kept_after_begun k (begun_of s (judged s events) e) fs own births) (Begin e ∷ events) (reverse own ++ replies)) (sym failing)
+          (stands_begun s k events e replies trace st own (to_past own a) births (subst (λ (x : Begun). ArePast k.births x.opened births) begun on)));
     }

@@ -58,7 +58,7 @@ module _ (s : Setup) (k : SessionKept) (events : List TraceEvent) (e : BeginEven
 
   pub loader_is : loader_kept k e ≡ loader_finds (judged s events) (begun_of s (judged s events) e).opened
   loader_is =
-      ap (λ (f : Object → Bool). loader_failures f (row_of e.cmd).params (arguments_in k.names e.args)) (λ i x. st.living x i)
+      ap (λ (f : Object → Bool). loader_failures f (row_of e.cmd).params (arguments_in k.names e.args)) (λ i x. st.living.lives x i)
       ∙ ap (λ ns. loader_failures (alive (history past)) (row_of e.cmd).params (arguments_in ns e.args)) st.names
 
   found_is : findings_kept s k e ≡ findings (checked s past (call_of o))

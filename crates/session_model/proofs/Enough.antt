@@ -28,7 +28,8 @@ use Rattle.chain_model.proofs.OneByOne.{AreDecided, kept_object, only}
 use Rattle.chain_model.proofs.Owners.{retrieves_plainly, type_at}
 use Rattle.chain_model.proofs.Passing.{AreTyped, HaveMade, asking_by, creates, owners_by}
 use Rattle.object_model.proofs.Renaming.{IsKnown}
-use Rattle.session_model.specs.Living.{AreLined, AreOfLiving, ArePast, AreSince, IsLine}
+use Rattle.session_tables.specs.Lined.{AreAdded, AreLined, IsLine}
+use Rattle.session_model.specs.Living.{AreOfLiving, ArePast}
 use Rattle.session_model.proofs.Lines.{any_alike, created_behind, filter_alike, first_typed, given_none, or_left, owners_fresh, owners_old, unborn_owners, unborn_uncreated}
 use Rattle.session_model.proofs.Living.{born_more, new_given}
 use Rattle.session_model.proofs.Owning.{HasLivingOwner, IsOwning, IsRetrievedOf, LivesWithOwner, alive_born, bears_owned, first_born, owner_first, owner_of_device, owner_of_device_all}
@@ -381,7 +382,7 @@ module _ (h : History) (rs : List Retrieval) (own : IsOwning h rs) (ls : List Bi
         go (inr none) = ap (λ (ms : List Born). retrieved_by ls o ms) none ∙ (none_by ls ∙ sym (ap (λ (ms : List Born). retrieved_by (births h) o ms) none ∙ none_by (births h)))
 
     -- the births before and what is given are the births of what lives then
-    pub living_since : (after : List Birth) → AreSince ls (births_given ls o.args (row_of o.cmd).effect (objects_of made)) after → AreOfLiving after (Returns (call_of o) (objects_of made) ∷ h)
+    pub living_since : (after : List Birth) → AreAdded ls (births_given ls o.args (row_of o.cmd).effect (objects_of made)) after → AreOfLiving after (Returns (call_of o) (objects_of made) ∷ h)
     living_since after since = record {
       lives = λ x. now_lives x;
       created = λ x lives. (since.alike x (now_lives x ∙ lives)).created ∙ (ap (λ (gs : List Birth). created_in (ls ++ gs) x) given_alike ∙ at_created x (alive h x) refl (sym (later x) ∙ lives));

@@ -20,7 +20,7 @@ use Rattle.layer_model.proofs.Same.{and_true, same_is, same_self}
 use Rattle.chain_model.proofs.Owners.{type_at}
 use Rattle.chain_model.proofs.OneToOne.{born_grown}
 use Rattle.chain_model.proofs.Passing.{AreTyped, HasType, creates, owners_by}
-use Rattle.session_model.specs.Living.{AreLined, IsLine}
+use Rattle.session_tables.specs.Lined.{AreLined, IsLine}
 
 -- ---- tests
 

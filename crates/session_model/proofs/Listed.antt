@@ -8,7 +8,8 @@ use Rattle.object_model.specs.Objects.{same}
 use Rattle.object_model.specs.History.{Birth, born_in, created_in, ends_by, owners_in}
 use Rattle.replay_model.specs.Past.{Opened, is_skipped}
 use Rattle.layer_model.proofs.Same.{and_true, same_is}
-use Rattle.session_model.specs.Living.{ArePast, AreSince, births_past, births_since}
+use Rattle.session_tables.specs.Lined.{AreAdded}
+use Rattle.session_model.specs.Living.{ArePast, births_past, births_since}
 use Rattle.session_model.proofs.Lines.{born_behind}
 
 -- the births of the objects that pass a test
@@ -64,5 +65,5 @@ past_listed before o = record {
     q : Object → Bool
     q x = is_skipped o || not (ends_by before o.args (row_of o.cmd).effect x)
 
-pub since_listed : (before given : List Birth) → AreSince before given (births_since before given)
+pub since_listed : (before given : List Birth) → AreAdded before given (births_since before given)
 since_listed before given = record { lives = λ x. born_behind before given x; alike = λ x there. record { created = refl; owners = refl } }

@@ -37,7 +37,7 @@ use Rattle.chain_model.proofs.OneToOne.{born_grown}
 use Rattle.chain_model.proofs.Owners.{type_at}
 use Rattle.chain_model.proofs.Passing.{AreTyped, HaveMade, asking_by, creates, owners_by}
 use Rattle.chain_model.proofs.Shapes.{AreShaped}
-use Rattle.session_model.specs.Living.{AreLined, IsLine}
+use Rattle.session_tables.specs.Lined.{AreLined, IsLine}
 use Rattle.session_model.proofs.Lines.{all_in, born_behind, created_behind, ends_owned, ends_owner, first_typed, given_as, given_fresh, given_made, given_none, line_grown, or_left, or_right, owners_fresh, owners_old, resets_pools, unborn_owners, unborn_uncreated}
 use Rattle.session_model.proofs.Living.{born_more, new_given}
 

@@ -1,5 +1,5 @@
 -- A return more: what is kept then stands for the trace with it.
-use Rattle.std.proofs.Common.{◌≡◌, ℕ, Bool, true, false, not, cond, ◌&&◌, ◌||◌, Option, Some, List, [], ◌∷◌, ◌++◌, map, length, refl, sym, ◌∙◌, ap, subst}
+use Rattle.std.proofs.Common.{◌≡◌, ℕ, Bool, true, false, not, cond, Option, Some, List, [], ◌∷◌, ◌++◌, map, length, refl, sym, ◌∙◌, ap, subst}
 use Rattle.std.proofs.lemmas.Bool.{eqb-true}
 use Rattle.std.specs.Prelude.{find}
 use Rattle.std.specs.List.{filter}
@@ -8,9 +8,7 @@ use Rattle.command_tables.specs.Calls.{ReplyContent}
 use Rattle.command_tables.specs.Table.{row_of}
 use Rattle.trace_format.specs.declared.event.Name.{Name}
 use Rattle.trace_format.specs.Content.{TraceEvent, Return}
-use Rattle.object_model.specs.declared.Object.{Object}
-use Rattle.object_model.specs.Objects.{is_in}
-use Rattle.object_model.specs.History.{Birth, alive, births, births_given, born_in}
+use Rattle.object_model.specs.History.{Birth, alive, births, births_given}
 use Rattle.object_model.specs.Values.{Answered}
 use Rattle.replay_model.specs.declared.Born.{Born}
 use Rattle.replay_model.specs.Setup.{Setup}
@@ -21,11 +19,16 @@ use Rattle.replay_model.specs.Direct.{Sent, answers_of, sends_in, sent}
 use Rattle.replay_model.specs.Text.{judged_lines, lines_at, reports_in, return_text, skipped_in}
 use Rattle.chain_model.specs.Simulated.{Held, after_reply, after_skipped}
 use Rattle.chain_model.specs.Traces.{GivesGuarded, IsTrace, Simulates, held_in_force, in_force}
+use Rattle.chain_model.proofs.Accepted.{accepted_judged}
+use Rattle.chain_model.proofs.Grammar.{shaped}
 use Rattle.chain_model.proofs.Tracing.{sent_up, skipped_up}
 use Rattle.session_model.specs.Session.{SessionKept}
-use Rattle.session_model.specs.Returning.{LivesSince, chain_after_return, given_kept, held_of_thread, kept_after_return, lost_kept, made_kept, return_line, sent_of_thread}
+use Rattle.session_tables.specs.Lined.{AreAdded}
+use Rattle.session_model.specs.Living.{AreOfLiving}
+use Rattle.session_model.specs.Returning.{chain_after_return, given_kept, held_of_thread, kept_after_return, lost_kept, made_kept, return_line, sent_of_thread}
 use Rattle.session_model.specs.Stands.{ReturnsWell, Stands}
-use Rattle.session_model.proofs.Living.{born_more}
+use Rattle.session_model.proofs.Enough.{living_since, made_alike, retrieved_alike}
+use Rattle.session_model.proofs.Owning.{IsOwning, MakesWell, makes_well, owning_judged}
 
 -- the open call that is found is the thread's
 found_sent : (thread : ℕ) (cs : List Sent) (c : Sent) → find (λ x. is_of thread x.opened) cs ≡ Some c → (find (is_of thread) (map (λ (x : Sent). x.opened) cs) ≡ Some c.opened) × (c.opened.thread ≡ thread)
@@ -73,10 +76,15 @@ module _ (s : Setup) (k : SessionKept) (events : List TraceEvent) (thread : ℕ)
   pub past_is : judged s (Return thread ∷ events) ≡ Returned c.opened (made_of s (judged s events) c.opened) ∷ judged s events
   past_is = ap (returned_by s past) opened_is
 
+  own : IsOwning (history past) (retrievals past)
+  own = owning_judged s events trace.accepted (shaped events trace.grammar)
+
+  makes : MakesWell past o made
+  makes = makes_well s events past thread o (accepted_judged s events trace.accepted (shaped events trace.grammar)) opened_is
+
   made_is : made_kept s k o ≡ made
   made_is =
-      ap (λ x. made_by s.drivers x (is_in k.living) k.retrieved o) st.born
-      ∙ (ap (λ (f : Object → Bool). made_by s.drivers bs f k.retrieved o) (λ i x. st.living x i) ∙ ap (λ rs. made_by s.drivers bs (alive (history past)) rs o) st.retrieved)
+      made_alike (history past) (retrievals past) own k.births st.living o makes.known makes.typed s.drivers k.retrieved ∙ ap (λ rs. made_by s.drivers bs (alive (history past)) rs o) st.retrieved
 
   line_is : return_line s k o ≡ lines_at s past (Return thread)
   line_is =
@@ -106,27 +114,21 @@ module _ (s : Setup) (k : SessionKept) (events : List TraceEvent) (thread : ℕ)
       go true e = simulates_skipped e
       go false e = simulates_sent e
 
-  abbrev given_by : List Birth → List Born → List Birth
-  given_by x ms = births_given x c.opened.args (row_of c.opened.cmd).effect (objects_of ms)
+  lives_then : (births : List Birth) → AreAdded k.births (given_kept s k o) births → AreOfLiving births (history (Returned o made ∷ past))
+  lives_then births too =
+      living_since (history past) (retrievals past) own k.births st.living o makes.known makes.typed made makes.bearing makes.have births
+      (subst (λ (ms : List Born). AreAdded k.births (births_given k.births o.args (row_of o.cmd).effect (objects_of ms)) births) made_is too)
 
-  lives_then : (living : List Object) → LivesSince k.living (given_kept s k o) living → (x : Object) → is_in living x ≡ alive (history (Returned o made ∷ past)) x
-  lives_then living too x =
-      too x
-      ∙ (born_more (is_in k.living x) k.births o.args (row_of o.cmd).effect (objects_of (made_kept s k o)) x
-      ∙ (ap (λ t. t || (not (born_in k.births x) && born_in (k.births ++ given_by k.births (made_kept s k o)) x)) (st.living x)
-      ∙ (ap (λ ys. alive (history past) x || (not (born_in ys x) && born_in (ys ++ given_by ys (made_kept s k o)) x)) st.born
-      ∙ ap (λ (ms : List Born). alive (history past) x || (not (born_in bs x) && born_in (bs ++ given_by bs ms) x)) made_is)))
-
-  stands_then : (living : List Object) → LivesSince k.living (given_kept s k o) living → Stands s (kept_after_return s k c h living) (Return thread ∷ events) replies
-  stands_then living too = record {
+  stands_then : (births : List Birth) → AreAdded k.births (given_kept s k o) births → Stands s (kept_after_return s k c h births) (Return thread ∷ events) replies
+  stands_then births too = record {
     calls = st.calls ∙ sym (ap calls_in past_is);
     skipped = st.skipped ∙ sym (ap skipped_in past_is);
     reports = st.reports ∙ sym (ap reports_in past_is);
     names = ap (λ ns. ns ++ map named_of (made_kept s k o)) st.names ∙ (ap (λ (ms : List Born). named past ++ map named_of ms) made_is ∙ sym (ap named past_is));
-    born = ap (λ x. x ++ given_by x (made_kept s k o)) st.born ∙ (ap (λ (ms : List Born). bs ++ given_by bs ms) made_is ∙ sym (ap (λ (p : Past). births (history p)) past_is));
-    living = λ x. lives_then living too x ∙ sym (ap (λ (p : Past). alive (history p) x) past_is);
+    living = subst (λ (p : Past). AreOfLiving births (history p)) (sym past_is) (lives_then births too);
     retrieved = ap (λ rs. rs ++ retrieved_by k.births o (made_kept s k o)) st.retrieved
-        ∙ (ap (λ x. retrievals past ++ retrieved_by x o (made_kept s k o)) st.born ∙ (ap (λ (ms : List Born). retrievals past ++ retrieved_by bs o ms) made_is ∙ sym (ap retrievals past_is)));
+        ∙ (ap (λ (ms : List Born). retrievals past ++ retrieved_by k.births o ms) made_is
+        ∙ (ap (λ ks. retrievals past ++ ks) (retrieved_alike (history past) (retrievals past) own k.births st.living o makes.known makes.typed made makes.bearing makes.have) ∙ sym (ap retrievals past_is)));
     open_calls = sent_rest o.thread k.sent ∙ (ap (filter (λ x. not (is_of o.thread x))) st.open_calls ∙ sym (ap open_calls past_is));
     sent = ap (filter (λ x. not (is_of o.thread x.opened))) st.sent ∙ sym (ap (λ (p : Past). sent p replies) past_is);
     each = st.each ∙ sym (ap sends_in past_is);

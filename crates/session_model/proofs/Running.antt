@@ -16,17 +16,18 @@ use Rattle.chain_model.specs.Simulated.{Held}
 use Rattle.chain_model.specs.Traces.{GivesGuarded, IsTrace}
 use Rattle.chain_model.proofs.Tracing.{nothing_simulates}
 use Rattle.session_model.specs.Session.{nothing_kept}
-use Rattle.session_model.specs.Beginning.{begin_lines, begun_kept, calls_told, living_past}
-use Rattle.session_model.specs.Returning.{given_kept, held_of_thread, living_since, return_line, sent_of_thread}
+use Rattle.session_model.specs.Living.{births_past, births_since}
+use Rattle.session_model.specs.Beginning.{begin_lines, begun_kept, calls_told}
+use Rattle.session_model.specs.Returning.{given_kept, held_of_thread, return_line, sent_of_thread}
 use Rattle.session_model.specs.Stands.{AreRepliesTo, BeginsWell, HasCall, ReturnsWell, Stands}
 use Rattle.session_model.specs.Running.{AreAnsweredInRun, RanWell, SessionRun, session_begins, session_of, session_returns, session_runs, session_started}
 use Rattle.session_model.proofs.Began.{begins_well}
-use Rattle.session_model.proofs.Living.{past_listed, since_listed}
+use Rattle.session_model.proofs.Listed.{past_listed, since_listed}
 use Rattle.session_model.proofs.Returned.{past_is, returns_well}
 use Rattle.session_model.proofs.Turns.{returns_busy}
 
 pub new_stands : (s : Setup) → Stands s nothing_kept [] []
-new_stands s = record { calls = refl; skipped = refl; reports = refl; names = refl; born = refl; living = λ x. refl; retrieved = refl; open_calls = refl; sent = refl; each = refl; simulates = nothing_simulates s }
+new_stands s = record { calls = refl; skipped = refl; reports = refl; names = refl; living = record { lives = λ x. refl; created = λ x lives. refl; owners = λ x lives. refl }; retrieved = refl; open_calls = refl; sent = refl; each = refl; simulates = nothing_simulates s }
 
 -- ---- one event
 
@@ -38,7 +39,7 @@ begins_on s r before e trace w answers =
     let past : Past = judged s before in
     record {
       taken = reverse own ++ w.taken;
-      stands = b.stands own (living_past r.kept.births r.kept.living (begun_kept s r.kept e).opened) answers (past_listed r.kept.births r.kept.living (begun_kept s r.kept e).opened);
+      stands = b.stands own (births_past r.kept.births (begun_kept s r.kept e).opened) answers (past_listed r.kept.births (begun_kept s r.kept e).opened);
       lines = ap (λ ls. ls ++ begin_lines s r.kept e) w.lines ∙ (ap (λ ls. lines s past ++ ls) b.lines ∙ sym (lines-judge s past (Begin e)));
       told = ap (λ cs. cs ++ calls_told s r.kept e) w.told
           ∙ (ap (λ cs. direct past w.taken ++ cs) b.told ∙ ap (λ rs. direct past rs ++ driver_calls (valued past rs) (begun_of s past e).opened) (sym (b.answered own answers).back));
@@ -59,7 +60,7 @@ returns_on s guarded r before thread trace w =
     (subst (λ (h : Option Held). RanWell s (session_returns s r (Some there.call) h) (Return thread ∷ before)) (sym there.held)
     (record {
       taken = w.taken;
-      stands = one.stands (living_since r.kept.living (given_kept s r.kept there.call.opened)) (since_listed r.kept.living (given_kept s r.kept there.call.opened));
+      stands = one.stands (births_since r.kept.births (given_kept s r.kept there.call.opened)) (since_listed r.kept.births (given_kept s r.kept there.call.opened));
       lines = ap (λ ls. ls ++ return_line s r.kept there.call.opened) w.lines ∙ (ap (λ ls. lines s past ++ ls) one.line ∙ sym (lines-judge s past (Return thread)));
       told = w.told ∙ sym (ap (λ (p : Past). direct p w.taken) (past_is s r.kept before thread w.taken there.call there.form guarded earlier w.stands there.sent there.held));
     }))

@@ -16,7 +16,7 @@ use Rattle.trace_format.specs.Content.{Arg, BeginEvent, TraceEvent, Begin}
 use Rattle.trace_format.specs.Grammar.{FitParams, HasForm, IsBegin, takes}
 use Rattle.object_model.specs.declared.Argument.{Argument}
 use Rattle.replay_model.specs.Setup.{Setup}
-use Rattle.replay_model.specs.Past.{Opened, argument_in, named}
+use Rattle.replay_model.specs.Past.{Opened, argument_in, history, named, retrievals}
 use Rattle.replay_model.specs.Judged.{begun_of, judged}
 use Rattle.replay_model.specs.Direct.{Valued, driver_call, value_in, valued}
 use Rattle.chain_model.specs.Chained.{handle_by}
@@ -25,7 +25,13 @@ use Rattle.chain_model.specs.Traces.{IsTrace}
 use Rattle.session_model.specs.Session.{SessionKept}
 use Rattle.session_model.specs.Stands.{Stands}
 use Rattle.session_model.specs.Steps.{BeginSteps}
+use Rattle.layer_model.proofs.Same.{and_true}
+use Rattle.trace_format.specs.Accepting.{are_accepted, fault_after}
+use Rattle.std.specs.Option.{is_none}
+use Rattle.chain_model.proofs.Grammar.{shaped}
 use Rattle.session_model.proofs.Begun.{told_is}
+use Rattle.session_model.proofs.Enough.{lined_living}
+use Rattle.session_model.proofs.Owning.{owning_judged}
 use Rattle.session_model.proofs.Idle.{none_open_then}
 
 pub le_true : (a b : ℕ) → nat_le a b ≡ true → a ≤ b
@@ -92,4 +98,6 @@ begin_steps s k events e replies trace st =
             asked = asked_fits e.cmd (length e.results) is.results;
           })
           o.drivers);
+      lined = lined_living (history (judged s events)) (retrievals (judged s events))
+          (owning_judged s events (and_true (are_accepted events) (is_none (fault_after events (Begin e))) trace.accepted).0 (shaped (Begin e ∷ events) trace.grammar).1) k.births st.living;
     }

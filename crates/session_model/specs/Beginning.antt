@@ -1,13 +1,11 @@
 -- A begin by what a session keeps: how it is judged, what the drivers are told, what is kept then, and its lines. Source: this project.
-use Rattle.std.specs.Prelude.{◌≡◌, ℕ, ◌+◌, Bool, false, not, ◌&&◌, ◌||◌, if◌then◌else◌, Option, None, is_some, List, [], ◌∷◌, ◌++◌, map, filter, length}
+use Rattle.std.specs.Prelude.{ℕ, ◌+◌, Bool, false, ◌||◌, if◌then◌else◌, Option, None, is_some, List, [], ◌∷◌, ◌++◌, map, length}
 use Rattle.std.specs.List.{flat_map}
 use Rattle.command_tables.specs.Calls.{DriverCallContent, ReplyContent}
 use Rattle.command_tables.specs.Table.{row_of}
 use Rattle.trace_format.specs.Content.{BeginEvent}
-use Rattle.object_model.specs.declared.Object.{Object}
 use Rattle.object_model.specs.Findings.{Findings}
-use Rattle.object_model.specs.History.{Birth, ends_by}
-use Rattle.object_model.specs.Objects.{is_in}
+use Rattle.object_model.specs.History.{Birth, born_in}
 use Rattle.object_model.specs.Rules.{Failure, loader_failures}
 use Rattle.replay_model.specs.Setup.{Setup}
 use Rattle.replay_model.specs.Past.{Opened, arguments_in, is_skipped}
@@ -44,7 +42,7 @@ walk_kept k e = walk_of k.chain (opened_with k e None false [])
 
 -- what the loader finds
 abbrev pub loader_kept : SessionKept → BeginEvent → List Failure
-loader_kept k e = loader_failures (is_in k.living) (row_of e.cmd).params (arguments_in k.names e.args)
+loader_kept k e = loader_failures (born_in k.births) (row_of e.cmd).params (arguments_in k.names e.args)
 
 -- what is found in all: nothing where the chain is refused
 abbrev pub findings_kept : Setup → SessionKept → BeginEvent → Findings
@@ -71,29 +69,21 @@ calls_told s k e = map (told_call k.chain.terminator (walk_kept k e).bottom) (dr
 
 -- ---- what is kept then
 
--- the objects that live after a begin: a skipped call ends nothing
-abbrev pub LivesPast : List Birth → List Object → Opened → List Object → Type 0
-LivesPast births before o living = (x : Object) → is_in living x ≡ (is_in before x && (is_skipped o || not (ends_by births o.args (row_of o.cmd).effect x)))
-
--- such a list: those that lived, in their order, without what the call ends
-abbrev pub living_past : List Birth → List Object → Opened → List Object
-living_past births before o = filter (λ x. is_skipped o || not (ends_by births o.args (row_of o.cmd).effect x)) before
-
--- what is kept after a begin that was judged so, with what the loader found, these replies of its drivers in their order, and these objects that live
-abbrev pub kept_after_begun : SessionKept → Begun → List Failure → List ReplyContent → List Object → SessionKept
-kept_after_begun k b failures own living =
+-- what is kept after a begin that was judged so, with what the loader found, these replies of its drivers in their order, and these births of what lives
+abbrev pub kept_after_begun : SessionKept → Begun → List Failure → List ReplyContent → List Birth → SessionKept
+kept_after_begun k b failures own births =
     record k {
       calls = k.calls + 1;
       skipped = k.skipped + (if is_skipped b.opened then 1 else 0);
       reports = k.reports + length b.reports;
-      living = living;
+      births = births;
       sent = k.sent ++ record { opened = b.opened; answers = answers_to b.opened own } ∷ [];
       chain = after_begin k.chain failures b.opened;
     }
 
 -- what is kept after a begin
-abbrev pub kept_after_begin : Setup → SessionKept → BeginEvent → List ReplyContent → List Object → SessionKept
-kept_after_begin s k e own living = kept_after_begun k (begun_kept s k e) (loader_kept k e) own living
+abbrev pub kept_after_begin : Setup → SessionKept → BeginEvent → List ReplyContent → List Birth → SessionKept
+kept_after_begin s k e own births = kept_after_begun k (begun_kept s k e) (loader_kept k e) own births
 
 -- ---- its lines
 

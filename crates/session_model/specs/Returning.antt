@@ -1,10 +1,8 @@
 -- A return by what a session keeps: the open call, what is born, what is kept then, and its line. Source: this project.
-use Rattle.std.specs.Prelude.{◌≡◌, ℕ, ◌||◌, ◌==◌, not, if◌then◌else◌, Option, List, ◌++◌, map, filter, find, drop, length}
+use Rattle.std.specs.Prelude.{ℕ, ◌==◌, not, if◌then◌else◌, Option, List, ◌++◌, map, filter, find, drop, length}
 use Rattle.command_tables.specs.Table.{row_of}
 use Rattle.trace_format.specs.declared.event.Name.{Name}
-use Rattle.object_model.specs.declared.Object.{Object}
 use Rattle.object_model.specs.History.{Birth, births_given, born_in}
-use Rattle.object_model.specs.Objects.{is_in}
 use Rattle.replay_model.specs.declared.Born.{Born}
 use Rattle.replay_model.specs.Setup.{Setup}
 use Rattle.replay_model.specs.Past.{Opened, is_of, is_skipped, named_of, objects_of, retrieved_by}
@@ -29,13 +27,13 @@ held_of_thread k thread = find (λ (h : Held). h.thread == thread) k.chain.held
 
 -- the results of an open call that are born
 abbrev pub made_kept : Setup → SessionKept → Opened → List Born
-made_kept s k o = made_by s.drivers k.births (is_in k.living) k.retrieved o
+made_kept s k o = made_by s.drivers k.births (born_in k.births) k.retrieved o
 
 -- the results behind them are lost
 abbrev pub lost_kept : Setup → SessionKept → Opened → List Name
 lost_kept s k o = drop (length (made_kept s k o)) o.results
 
--- each of their objects that isn't born yet is born then
+-- each of their objects that doesn't live yet is born then
 abbrev pub given_kept : Setup → SessionKept → Opened → List Birth
 given_kept s k o = births_given k.births o.args (row_of o.cmd).effect (objects_of (made_kept s k o))
 
@@ -47,21 +45,12 @@ chain_after_return s k c h =
     if is_skipped c.opened then after_skipped k.chain c.opened h (lost_kept s k c.opened)
     else after_reply (in_force s k.chain c.opened) c.opened (held_in_force s c.opened h) c.answers (made_kept s k c.opened) (lost_kept s k c.opened)
 
--- the objects that live after a return: what was given lives too
-abbrev pub LivesSince : List Object → List Birth → List Object → Type 0
-LivesSince before given living = (x : Object) → is_in living x ≡ (is_in before x || born_in given x)
-
--- such a list: those that lived, and behind them what was given
-abbrev pub living_since : List Object → List Birth → List Object
-living_since before given = before ++ map (λ b. b.object) given
-
--- what is kept after the return of this open call, with these objects that live
-abbrev pub kept_after_return : Setup → SessionKept → Sent → Held → List Object → SessionKept
-kept_after_return s k c h living =
+-- what is kept after the return of this open call, with these births of what lives
+abbrev pub kept_after_return : Setup → SessionKept → Sent → Held → List Birth → SessionKept
+kept_after_return s k c h births =
     record k {
       names = k.names ++ map named_of (made_kept s k c.opened);
-      births = k.births ++ given_kept s k c.opened;
-      living = living;
+      births = births;
       retrieved = k.retrieved ++ retrieved_by k.births c.opened (made_kept s k c.opened);
       sent = filter (λ x. not (is_of c.opened.thread x.opened)) k.sent;
       chain = chain_after_return s k c h;

@@ -8,8 +8,9 @@ use Rattle.replay_model.specs.Direct.{Sent, direct}
 use Rattle.replay_model.specs.Text.{lines}
 use Rattle.chain_model.specs.Simulated.{Held}
 use Rattle.session_model.specs.Session.{SessionKept, nothing_kept}
-use Rattle.session_model.specs.Beginning.{begin_lines, begun_kept, calls_told, kept_after_begin, living_past}
-use Rattle.session_model.specs.Returning.{given_kept, held_of_thread, kept_after_return, living_since, return_line, sent_of_thread}
+use Rattle.session_model.specs.Living.{births_past, births_since}
+use Rattle.session_model.specs.Beginning.{begin_lines, begun_kept, calls_told, kept_after_begin}
+use Rattle.session_model.specs.Returning.{given_kept, held_of_thread, kept_after_return, return_line, sent_of_thread}
 use Rattle.session_model.specs.Stands.{AreRepliesTo, Stands}
 
 -- ---- a session so far
@@ -26,7 +27,7 @@ abbrev pub session_begins : Setup → SessionRun → BeginEvent → SessionRun
 session_begins s r e =
     let calls = calls_told s r.kept e in
     record {
-      kept = kept_after_begin s r.kept e (take (length calls) r.replies) (living_past r.kept.births r.kept.living (begun_kept s r.kept e).opened);
+      kept = kept_after_begin s r.kept e (take (length calls) r.replies) (births_past r.kept.births (begun_kept s r.kept e).opened);
       replies = drop (length calls) r.replies;
       told = r.told ++ calls;
       lines = r.lines ++ begin_lines s r.kept e;
@@ -36,7 +37,7 @@ session_begins s r e =
 abbrev pub session_returns : Setup → SessionRun → Option Sent → Option Held → SessionRun
 session_returns s r (Some c) (Some h) =
     record r {
-      kept = kept_after_return s r.kept c h (living_since r.kept.living (given_kept s r.kept c.opened));
+      kept = kept_after_return s r.kept c h (births_since r.kept.births (given_kept s r.kept c.opened));
       lines = r.lines ++ return_line s r.kept c.opened;
     }
 session_returns s r (Some c) None = r

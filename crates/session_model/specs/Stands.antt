@@ -5,9 +5,7 @@ use Rattle.std.specs.List.{zip}
 use Rattle.command_tables.specs.Calls.{DriverCallContent, ReplyContent}
 use Rattle.model_driver.specs.Driver.{IsAnsweredBy}
 use Rattle.trace_format.specs.Content.{BeginEvent, TraceEvent, Begin, Return}
-use Rattle.object_model.specs.declared.Object.{Object}
-use Rattle.object_model.specs.Objects.{is_in}
-use Rattle.object_model.specs.History.{births, alive}
+use Rattle.object_model.specs.History.{Birth}
 use Rattle.replay_model.specs.Setup.{Setup}
 use Rattle.replay_model.specs.Past.{calls_in, history, is_of, named, open_calls, retrievals}
 use Rattle.replay_model.specs.Judged.{begun_of, judged, made_of}
@@ -16,8 +14,10 @@ use Rattle.replay_model.specs.Text.{lines_at, reports_in, skipped_in}
 use Rattle.chain_model.specs.Simulated.{Held}
 use Rattle.chain_model.specs.Traces.{Replies, Simulates}
 use Rattle.session_model.specs.Session.{SessionKept}
-use Rattle.session_model.specs.Beginning.{LivesPast, begin_lines, begun_kept, calls_told, kept_after_begin}
-use Rattle.session_model.specs.Returning.{LivesSince, given_kept, held_of_thread, kept_after_return, made_kept, return_line, sent_of_thread}
+use Rattle.session_tables.specs.Lined.{AreAdded}
+use Rattle.session_model.specs.Living.{AreOfLiving, ArePast}
+use Rattle.session_model.specs.Beginning.{begin_lines, begun_kept, calls_told, kept_after_begin}
+use Rattle.session_model.specs.Returning.{given_kept, held_of_thread, kept_after_return, made_kept, return_line, sent_of_thread}
 
 -- What is kept is what later events read of the judged trace, what is kept of the chain simulates it, and there is one reply for each driver call.
 pub record Stands (s : Setup) (k : SessionKept) (events : List TraceEvent) (replies : List ReplyContent) : Type 0 where
@@ -25,8 +25,7 @@ pub record Stands (s : Setup) (k : SessionKept) (events : List TraceEvent) (repl
   pub skipped : k.skipped ≡ skipped_in (judged s events)
   pub reports : k.reports ≡ reports_in (judged s events)
   pub names : k.names ≡ named (judged s events)
-  pub born : k.births ≡ births (history (judged s events))
-  pub living : (x : Object) → is_in k.living x ≡ alive (history (judged s events)) x
+  pub living : AreOfLiving k.births (history (judged s events))
   pub retrieved : k.retrieved ≡ retrievals (judged s events)
   pub open_calls : map (λ c. c.opened) k.sent ≡ open_calls (judged s events)
   pub sent : k.sent ≡ sent (judged s events) replies
@@ -53,8 +52,8 @@ pub record BeginsWell (s : Setup) (k : SessionKept) (events : List TraceEvent) (
   pub turned : (after : List ReplyContent) → Replies (valued (judged s events) replies) (begun_of s (judged s events) e).opened replies after
       → AreRepliesTo (calls_told s k e) (own_replies (begun_of s (judged s events) e).opened after) × (reverse (own_replies (begun_of s (judged s events) e).opened after) ++ replies ≡ after)
   pub exchanges : (own : List ReplyContent) → AreRepliesTo (calls_told s k e) own → zip (calls_told s k e) own ≡ exchanges_at s (judged s events) (Begin e) (reverse own ++ replies)
-  pub stands : (own : List ReplyContent) (living : List Object) → AreRepliesTo (calls_told s k e) own → LivesPast k.births k.living (begun_kept s k e).opened living
-      → Stands s (kept_after_begin s k e own living) (Begin e ∷ events) (reverse own ++ replies)
+  pub stands : (own : List ReplyContent) (births : List Birth) → AreRepliesTo (calls_told s k e) own → ArePast k.births (begun_kept s k e).opened births
+      → Stands s (kept_after_begin s k e own births) (Begin e ∷ events) (reverse own ++ replies)
 
 -- ---- a return
 
@@ -64,7 +63,7 @@ pub record ReturnsWell (s : Setup) (k : SessionKept) (events : List TraceEvent) 
   pub opened : find (is_of thread) (open_calls (judged s events)) ≡ Some c.opened
   pub made : made_kept s k c.opened ≡ made_of s (judged s events) c.opened
   pub line : return_line s k c.opened ≡ lines_at s (judged s events) (Return thread)
-  pub stands : (living : List Object) → LivesSince k.living (given_kept s k c.opened) living → Stands s (kept_after_return s k c h living) (Return thread ∷ events) replies
+  pub stands : (births : List Birth) → AreAdded k.births (given_kept s k c.opened) births → Stands s (kept_after_return s k c h births) (Return thread ∷ events) replies
 
 -- ---- who has an open call
 

@@ -20,6 +20,7 @@ use Rattle.chain_model.specs.Simulated.{Held, base_of, born_flags}
 use Rattle.chain_model.specs.Traces.{IsSent, held_in_force, in_force}
 use Rattle.object_records.specs.Shape.{AreNewOnce}
 use Rattle.session_model.specs.Session.{SessionKept}
+use Rattle.session_tables.specs.Lined.{AreLined}
 use Rattle.session_model.specs.Beginning.{calls_told, opened_with}
 use Rattle.session_model.specs.Returning.{lost_kept, made_kept}
 
@@ -36,12 +37,13 @@ NoneOpen thread (Unique m ∷ states) = NoneOpen thread states
 abbrev pub call_handed : SessionKept → BeginEvent → CallContent
 call_handed k e = form_by (handle_in k.chain.handed) (base_of (opened_with k e None false [])) (arguments_in k.names e.args)
 
--- What the steps of a begin may rely on: no threads part has an open call of its thread, the call has a list of handles for each parameter, and what
--- each driver is told has its command's shape.
+-- What the steps of a begin may rely on: no threads part has an open call of its thread, the call has a list of handles for each parameter, what
+-- each driver is told has its command's shape, and the owners of what lives live and stand in a line.
 pub record BeginSteps (s : Setup) (k : SessionKept) (e : BeginEvent) : Type 0 where
   pub idle : NoneOpen e.thread k.chain.states
   pub row : FitsRow (row_of e.cmd).params (call_handed k e).args
   pub shapes : AllByRecursion HasShape (calls_told s k e)
+  pub lined : AreLined k.births
 
 -- ---- a return
 

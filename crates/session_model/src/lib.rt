@@ -21,10 +21,10 @@ ghost use Rattle.chain_model.specs.Simulated.{Held};
 ghost use Rattle.chain_model.specs.Traces.{GivesGuarded, IsTrace};
 ghost use Rattle.session_model.specs.Running.{AreAnsweredInRun, RanWell, session_of, session_started};
 ghost use Rattle.session_model.specs.Session.{SessionKept, nothing_kept};
-ghost use Rattle.session_model.specs.Beginning.{LivesPast, living_past};
 ghost use Rattle.session_model.specs.Enough.{IsOpenOf, SaysOfCalls, SaysOfReturns, history_of, living_retrievals};
-ghost use Rattle.session_model.specs.Living.{AreOfLiving};
-ghost use Rattle.session_model.specs.Returning.{LivesSince, held_of_thread, living_since, sent_of_thread};
+ghost use Rattle.session_tables.specs.Lined.{AreAdded};
+ghost use Rattle.session_model.specs.Living.{AreOfLiving, ArePast, births_past, births_since};
+ghost use Rattle.session_model.specs.Returning.{held_of_thread, sent_of_thread};
 ghost use Rattle.session_model.specs.Stands.{BeginsWell, HasCall, HasNoCall, ReturnsWell, Stands};
 ghost use Rattle.session_model.specs.Steps.{BeginSteps, ReturnSteps};
 
@@ -61,9 +61,10 @@ pub fn a_session_replays_its_trace()
         AreAnsweredInRun s (session_started replies) events → RanWell s (session_of s replies events) (reverse events) }
 {}
 
-/// What the steps of the chain rely on. At a begin no threads part has an open call of its thread, and the call and what the drivers are told have their
-/// command's shape. At a return the call has an answer of each of its drivers and the lists of its row above each part, its first argument leads to
-/// these drivers again, and the results that come up are new once to each checking part.
+/// What the steps of the chain rely on. At a begin no threads part has an open call of its thread, the call and what the drivers are told have their
+/// command's shape, and the owners of what lives live and stand in a line. At a return the call has an answer of each of its drivers and the
+/// lists of its row above each part, its first argument leads to these drivers again, and the results that come up are new once to each
+/// checking part.
 pub fn the_steps_may_rely_on_it()
     ensures begins { (s : Setup) (k : SessionKept) (events : List TraceEvent) (e : BeginEvent) (replies : List ReplyContent) →
         IsTrace (Begin e ∷ events) → Stands s k events replies → BeginSteps s k e }
@@ -71,10 +72,10 @@ pub fn the_steps_may_rely_on_it()
         IsTrace events → Stands s k events replies → sent_of_thread k thread ≡ Some c → held_of_thread k thread ≡ Some h → ReturnSteps s k c h }
 {}
 
-/// What lives then can be listed: the lists that are asked for after a begin and after a return are there.
+/// The births of what lives then can be listed: the lists that are asked for after a begin and after a return are there.
 pub fn what_lives_can_be_listed()
-    ensures begins { (births : List Birth) (before : List Object) (o : Opened) → LivesPast births before o (living_past births before o) }
-    ensures returns { (before : List Object) (given : List Birth) → LivesSince before given (living_since before given) }
+    ensures begins { (before : List Birth) (o : Opened) → ArePast before o (births_past before o) }
+    ensures returns { (before given : List Birth) → AreAdded before given (births_since before given) }
 {}
 
 /// The last line by the numbers that are kept is the trace's.

@@ -1,171 +1,123 @@
--- Births whose owners stand in one list, with one birth more.
-use Rattle.std.proofs.Common.{◌≡◌, ◌≤◌, ◌+◌, ◌-◌, ℕ, ◌&&◌, ◌||◌, Bool, true, false, cond, Option, Some, None, List, [], ◌∷◌, ◌++◌, length, take, drop, refl, ap, sym, ◌∙◌, arith, length-append}
-use Rattle.std.specs.Prelude.{is_some, nat_le}
-use Rattle.std.specs.List.{slice_range}
-use Rattle.std.specs.Option.{option_map_or}
-use Rattle.std.proofs.lemmas.Bool.{leb-true, le-leb}
-use Rattle.std.proofs.lemmas.List.{take_all, take-append-le, drop-append-le, length-drop, map-append}
-use Rattle.std.proofs.lemmas.List.Folds.{list_all-append}
-use Rattle.std.proofs.Math.Seq.{drop-append_seam}
+-- Births that stand as entries of their objects.
+use Rattle.std.proofs.Common.{◌≡◌, ℕ, Bool, true, false, not, cond, ◌&&◌, ◌||◌, Option, Some, None, List, [], ◌∷◌, refl, sym, ◌∙◌, ap, slice_get}
+use Rattle.std.specs.Borrow.{Bor}
+use Rattle.std.specs.Prelude.{is_some}
+use Rattle.std.specs.List.{find, list_any}
+use Rattle.std.specs.Option.{option_copied, option_map, option_map_or}
 use Rattle.object_model.specs.declared.Object.{Object}
 use Rattle.object_model.specs.Objects.{same}
 use Rattle.object_model.specs.History.{Birth, born_in, created_in, owners_in}
 use Rattle.session_tables.specs.declared.birth_table.BirthEntry.{BirthEntry}
-use Rattle.session_tables.specs.declared.birth_table.BirthMark.{BirthMark}
-use Rattle.session_tables.specs.Births.{is_within, are_within, are_stored, birth_of, births_shown, is_creation, owners_found, joined, IsIndexed}
-use Rattle.session_tables.proofs.Objects.{same-true, list_any-append, owners_joined}
+use Rattle.session_tables.specs.declared.placed_table.Placed.{Placed}
+use Rattle.session_tables.specs.declared.placed_table.PlacedTable.{PlacedTable}
+use Rattle.session_tables.specs.Births.{AreApart, birth_of, births_shown, owners_kept}
+use Rattle.session_tables.specs.Filing.{kept}
+use Rattle.session_tables.specs.Lined.{AreLeft}
+use Rattle.session_tables.specs.Placed.{ArePlaced, entry_of}
+use Rattle.session_tables.proofs.Lists.{find_map, list_any_map, mapped, slice_get_map}
+use Rattle.session_tables.proofs.Objects.{same-true}
+use Rattle.session_tables.proofs.PlacedLemmas.{alone, said_alone, some_is}
 
-both : (a b : Bool) → (a && b) ≡ true → (a ≡ true) × (b ≡ true)
-both true b e = (refl, e)
-both false b e = cc e
+any_found : {X : Type 0} (t : X → Bool) (xs : List X) → list_any t xs ≡ is_some (find t xs)
+any_found t [] = refl
+any_found {X = X} t (x ∷ xs) = go (t x) (any_found t xs)
+  where
+    go : (b : Bool) → list_any t xs ≡ is_some (find t xs) → (b || list_any t xs) ≡ is_some (cond b (Some x) (find t xs))
+    go true ih = refl
+    go false ih = ih
 
--- what lies within a list stays where it is as the list grows
-range_still : {X : Type 0} (xs ys : List X) (start end : ℕ) → is_within (length xs) start end ≡ true → slice_range (xs ++ ys) start end ≡ slice_range xs start end
-range_still xs ys start end within =
-    let parts = both (nat_le start end) (nat_le end (length xs)) within in
-    let a : start ≤ end = leb-true start end parts.0 in
-    let b : end ≤ length xs = leb-true end (length xs) parts.1 in
-    let c : start ≤ length xs = omega arith in
-    let d : end - start ≤ length (drop start xs) = simp length-drop (omega arith) in
-    ap (take (end - start)) (drop-append-le start xs ys c) ∙ take-append-le (end - start) (drop start xs) ys d
+some_mapped : {X Y : Type 0} (f : X → Y) (o : Option X) → is_some o ≡ is_some (option_map f o)
+some_mapped f None = refl
+some_mapped f (Some x) = refl
 
--- what is put at the end of a list
-range_new : {X : Type 0} (xs ys : List X) (end : ℕ) → end ≡ length (xs ++ ys) → slice_range (xs ++ ys) (length xs) end ≡ ys
-range_new xs ys end is = ap (take (end - length xs)) (drop-append_seam xs ys) ∙ take_all (end - length xs) ys (omega (arith, is, length-append xs ys))
+pub some_copied : {X : Type 0} (r : Option (Bor X)) → is_some r ≡ is_some (option_copied r)
+some_copied None = refl
+some_copied (Some x) = refl
 
--- a longer list has room too
-within_more : (n k start end : ℕ) → is_within n start end ≡ true → is_within (n + k) start end ≡ true
-within_more n k start end within =
-    let parts = both (nat_le start end) (nat_le end n) within in
-    let b : end ≤ n = leb-true end n parts.1 in
-    ap (λ t. t && nat_le end (n + k)) parts.0 ∙ le-leb end (n + k) (omega arith)
+or_mapped : {X Y Z : Type 0} (f : X → Y) (g : Y → Z) (z : Z) (o : Option X) → option_map_or (λ x. g (f x)) o z ≡ option_map_or g (option_map f o) z
+or_mapped f g z None = refl
+or_mapped f g z (Some x) = refl
 
--- ---- what is stored
+-- what is born has an entry
+entry_born : (es : List (Placed BirthEntry)) (o : Object) → born_in (births_shown es) o ≡ is_some (entry_of es o)
+entry_born es o = list_any_map (λ (b : Birth). same b.object o) birth_of es ∙ any_found (λ (p : Placed BirthEntry). same p.object o) es
 
-pub stored_still : (owners more : List Object) (es : List BirthEntry) → are_stored owners es ≡ true → are_stored (owners ++ more) es ≡ true
-stored_still owners more [] stored = refl
-stored_still owners more (e ∷ es) stored =
-    let parts = both (is_within (length owners) e.start e.end) (are_stored owners es) stored in
-    let here : is_within (length (owners ++ more)) e.start e.end ≡ true = ap (λ n. is_within n e.start e.end) (length-append owners more) ∙ within_more (length owners) (length more) e.start e.end parts.0 in
-    ap (λ t. t && are_stored (owners ++ more) es) here ∙ stored_still owners more es parts.1
+entry_created : (t : PlacedTable BirthEntry) (o : Object) → ArePlaced t → created_in (births_shown t.entries.items) o ≡ option_map_or (λ (p : Placed BirthEntry). p.value.created) (entry_of t.entries.items o) false
+entry_created t o placed =
+    list_any_map (λ (b : Birth). same b.object o && b.created) birth_of t.entries.items ∙ said_alone (kept t.places) t.entries.items placed o (λ (p : Placed BirthEntry). p.value.created)
 
--- births stay as more owners follow
-pub shown_still : (owners more : List Object) (es : List BirthEntry) → are_stored owners es ≡ true → births_shown (owners ++ more) es ≡ births_shown owners es
-shown_still owners more [] stored = refl
-shown_still owners more (e ∷ es) stored =
-    let parts = both (is_within (length owners) e.start e.end) (are_stored owners es) stored in
-    ap (λ os. record { object = e.object; created = e.created; owners = os } ∷ births_shown (owners ++ more) es) (range_still owners more e.start e.end parts.0)
-    ∙ ap (λ bs. birth_of owners e ∷ bs) (shown_still owners more es parts.1)
+entry_owners : (es : List (Placed BirthEntry)) (o : Object) → owners_in (births_shown es) o ≡ option_map_or (λ (p : Placed BirthEntry). owners_kept p.value.owners) (entry_of es o) []
+entry_owners es o = ap (λ (b : Option Birth). option_map_or (λ (x : Birth). x.owners) b []) (find_map (λ (b : Birth). same b.object o) birth_of es) ∙ go (entry_of es o)
+  where
+    go : (e : Option (Placed BirthEntry)) → option_map_or (λ (x : Birth). x.owners) (mapped birth_of e) [] ≡ option_map_or (λ (p : Placed BirthEntry). owners_kept p.value.owners) e []
+    go None = refl
+    go (Some p) = refl
 
--- one birth more
-pub shown_more : (owners more : List Object) (es : List BirthEntry) (e : BirthEntry) → are_stored owners es ≡ true → e.start ≡ length owners → e.end ≡ length (owners ++ more)
-    → births_shown (owners ++ more) (es ++ e ∷ []) ≡ births_shown owners es ++ record { object = e.object; created = e.created; owners = more } ∷ []
-shown_more owners more es e stored from to =
-    map-append (birth_of (owners ++ more)) es (e ∷ [])
-    ∙ (ap (λ bs. bs ++ birth_of (owners ++ more) e ∷ []) (shown_still owners more es stored)
-    ∙ ap (λ os. births_shown owners es ++ record { object = e.object; created = e.created; owners = os } ∷ [])
-    (ap (λ n. slice_range (owners ++ more) n e.end) from ∙ range_new owners more e.end to))
+-- ---- by what is found for an object
 
-within_new : (owners more : List Object) (start end : ℕ) → start ≡ length owners → end ≡ length (owners ++ more) → is_within (length (owners ++ more)) start end ≡ true
-within_new owners more start end from to =
-    let a : start ≤ end = omega (arith, from, to, length-append owners more) in
-    let b : end ≤ length (owners ++ more) = omega (arith, to) in
-    ap (λ t. t && nat_le end (length (owners ++ more))) (le-leb start end a) ∙ le-leb end (length (owners ++ more)) b
+abbrev value_of : Placed BirthEntry → BirthEntry
+value_of p = p.value
 
-pub stored_more : (owners more : List Object) (es : List BirthEntry) (e : BirthEntry) → are_stored owners es ≡ true → e.start ≡ length owners → e.end ≡ length (owners ++ more)
-    → are_stored (owners ++ more) (es ++ e ∷ []) ≡ true
-stored_more owners more es e stored from to =
-    list_all-append (λ (x : BirthEntry). is_within (length (owners ++ more)) x.start x.end) es (e ∷ [])
-    ∙ (ap (λ t. t && (is_within (length (owners ++ more)) e.start e.end && true)) (stored_still owners more es stored) ∙ ap (λ t. t && true) (within_new owners more e.start e.end from to))
+pub born_by : (es : List (Placed BirthEntry)) (bs : List Birth) (o : Object) (v : Option BirthEntry) → births_shown es ≡ bs → v ≡ option_map (λ p. p.value) (entry_of es o) → is_some v ≡ born_in bs o
+born_by es bs o v view is = ap is_some is ∙ (sym (some_mapped value_of (entry_of es o)) ∙ (sym (entry_born es o) ∙ ap (λ (xs : List Birth). born_in xs o) view))
 
--- ---- what is kept for objects
+pub created_by : (t : PlacedTable BirthEntry) (bs : List Birth) (o : Object) (v : Option BirthEntry) → ArePlaced t → births_shown t.entries.items ≡ bs → v ≡ option_map (λ p. p.value) (entry_of t.entries.items o)
+    → option_map_or (λ (e : BirthEntry). e.created) v false ≡ created_in bs o
+created_by t bs o v placed view is =
+    ap (λ (x : Option BirthEntry). option_map_or (λ (e : BirthEntry). e.created) x false) is
+    ∙ (sym (or_mapped value_of (λ (e : BirthEntry). e.created) false (entry_of t.entries.items o)) ∙ (sym (entry_created t o placed) ∙ ap (λ (xs : List Birth). created_in xs o) view))
 
-mark_still : (owners more : List Object) (m : Option BirthMark) → are_within (length owners) m ≡ true → owners_found (owners ++ more) m ≡ owners_found owners m
-mark_still owners more None within = refl
-mark_still owners more (Some m) within = range_still owners more m.start m.end within
+pub owners_by : (es : List (Placed BirthEntry)) (bs : List Birth) (o : Object) (v : Option BirthEntry) → births_shown es ≡ bs → v ≡ option_map (λ p. p.value) (entry_of es o)
+    → option_map_or (λ (e : BirthEntry). owners_kept e.owners) v [] ≡ owners_in bs o
+owners_by es bs o v view is =
+    ap (λ (x : Option BirthEntry). option_map_or (λ (e : BirthEntry). owners_kept e.owners) x []) is
+    ∙ (sym (or_mapped value_of (λ (e : BirthEntry). owners_kept e.owners) [] (entry_of es o)) ∙ (sym (entry_owners es o) ∙ ap (λ (xs : List Birth). owners_in xs o) view))
 
-mark_within : (owners more : List Object) (m : Option BirthMark) → are_within (length owners) m ≡ true → are_within (length (owners ++ more)) m ≡ true
-mark_within owners more None within = refl
-mark_within owners more (Some m) within = ap (λ n. is_within n m.start m.end) (length-append owners more) ∙ within_more (length owners) (length more) m.start m.end within
+-- what isn't born has none
+pub unborn_entry : (es : List (Placed BirthEntry)) (bs : List Birth) (o : Object) → births_shown es ≡ bs → born_in bs o ≡ false → entry_of es o ≡ None
+unborn_entry es bs o view unborn = go (entry_of es o) (sym (entry_born es o) ∙ (ap (λ (xs : List Birth). born_in xs o) view ∙ unborn))
+  where
+    go : (e : Option (Placed BirthEntry)) → is_some e ≡ false → e ≡ None
+    go None h = refl
+    go (Some p) h = cc h
 
--- with more owners behind
-pub indexed_wider : (owners more : List Object) (bs : List Birth) (k j : Object → Option BirthMark) → IsIndexed owners bs k → ((o : Object) → j o ≡ k o) → IsIndexed (owners ++ more) bs j
-indexed_wider owners more bs k j is same_marks = record {
-  born = λ o. ap (λ (m : Option BirthMark). is_some m) (same_marks o) ∙ is.born o;
-  created = λ o. ap is_creation (same_marks o) ∙ is.created o;
-  owned = λ o. ap (owners_found (owners ++ more)) (same_marks o) ∙ (mark_still owners more (k o) (is.within o) ∙ is.owned o);
-  within = λ o. ap (are_within (length (owners ++ more))) (same_marks o) ∙ mark_within owners more (k o) (is.within o);
-}
-
-or_none : (b : Bool) → b ≡ (b || false)
-or_none true = refl
-or_none false = refl
-
-or_true : (b : Bool) → true ≡ (b || true)
-or_true true = refl
-or_true false = refl
-
--- what is kept for an object that is born
-born_joined : (m : Option BirthMark) (n : BirthMark) (b : Bool) → is_some (Some (joined m n)) ≡ (b || true)
-born_joined m n b = or_true b
-
-created_joined : (m : Option BirthMark) (n : BirthMark) → is_creation (Some (joined m n)) ≡ (is_creation m || n.created)
-created_joined None n = refl
-created_joined (Some m) n = refl
-
-within_joined : (n : ℕ) (m : Option BirthMark) (mark : BirthMark) → are_within n m ≡ true → is_within n mark.start mark.end ≡ true → are_within n (Some (joined m mark)) ≡ true
-within_joined n None mark a b = b
-within_joined n (Some m) mark a b = a
-
--- with one birth more
-pub indexed_more : (owners : List Object) (bs : List Birth) (b : Birth) (k j : Object → Option BirthMark) (mark : BirthMark) → IsIndexed owners bs k → mark.created ≡ b.created → mark.start ≡ length owners
-    → mark.end ≡ length (owners ++ b.owners) → ((o : Object) → j o ≡ cond (same b.object o) (Some (joined (k b.object) mark)) (k o)) → IsIndexed (owners ++ b.owners) (bs ++ b ∷ []) j
-indexed_more owners bs b k j mark is by from to more = record {
-  born = λ o. ap (λ (m : Option BirthMark). is_some m) (more o) ∙ (born_at (same b.object o) (k o) (born_in bs o) (is.born o) ∙ sym (list_any-append (λ (x : Birth). same x.object o) bs (b ∷ [])));
-  created = λ o. ap is_creation (more o) ∙ (created_at o (same b.object o) refl ∙ sym (list_any-append (λ (x : Birth). same x.object o && x.created) bs (b ∷ [])));
-  owned = λ o. ap (owners_found all) (more o) ∙ (owned_at o (same b.object o) refl (k o) refl ∙ sym (owners_joined bs (b ∷ []) o));
-  within = λ o. ap (are_within (length all)) (more o) ∙ within_at o (same b.object o);
+-- what is left where one birth was taken out
+pub left_one : (t u : PlacedTable BirthEntry) (bs : List Birth) (o : Object) → ArePlaced t → ArePlaced u → births_shown t.entries.items ≡ bs → ((x : Object) → entry_of u.entries.items x ≡ cond (same o x) None (entry_of t.entries.items x))
+    → AreLeft bs (same o) (births_shown u.entries.items)
+left_one t u bs o tp up view is = record {
+  lives = λ x. entry_born u.entries.items x ∙ (ap is_some (is x) ∙ (go (same o x) (entry_of t.entries.items x) ∙ ap (λ b. b && not (same o x)) (sym (entry_born t.entries.items x) ∙ ap (λ (xs : List Birth). born_in xs x) view)));
+  alike = λ x there.
+      let stays : entry_of u.entries.items x ≡ entry_of t.entries.items x = by x (same o x) refl (sym (entry_born u.entries.items x) ∙ there) in
+      record {
+        created =
+            entry_created u x up
+            ∙ (ap (λ (e : Option (Placed BirthEntry)). option_map_or (λ (p : Placed BirthEntry). p.value.created) e false) stays ∙ (sym (entry_created t x tp) ∙ ap (λ (xs : List Birth). created_in xs x) view));
+        owners =
+            entry_owners u.entries.items x
+            ∙ (ap (λ (e : Option (Placed BirthEntry)). option_map_or (λ (p : Placed BirthEntry). owners_kept p.value.owners) e []) stays ∙ (sym (entry_owners t.entries.items x) ∙ ap (λ (xs : List Birth). owners_in xs x) view));
+      };
 }
   where
-    all : List Object
-    all = owners ++ b.owners
+    go : (s : Bool) (e : Option (Placed BirthEntry)) → is_some (cond s None e) ≡ (is_some e && not s)
+    go true None = refl
+    go true (Some p) = refl
+    go false None = refl
+    go false (Some p) = refl
 
-    born_at : (t : Bool) (m : Option BirthMark) (c : Bool) → is_some m ≡ c → is_some (cond t (Some (joined (k b.object) mark)) m) ≡ (c || (t || false))
-    born_at true m c e = or_true c
-    born_at false m c e = e ∙ or_none c
+    by : (x : Object) (s : Bool) → same o x ≡ s → is_some (entry_of u.entries.items x) ≡ true → entry_of u.entries.items x ≡ entry_of t.entries.items x
+    by x true h there = let gone : entry_of u.entries.items x ≡ None = is x ∙ ap (λ b. cond b None (entry_of t.entries.items x)) h in let none : is_some (entry_of u.entries.items x) ≡ false = ap is_some gone in cc
+    by x false h there = is x ∙ ap (λ b. cond b None (entry_of t.entries.items x)) h
 
-    created_at : (o : Object) (t : Bool) → same b.object o ≡ t → is_creation (cond t (Some (joined (k b.object) mark)) (k o)) ≡ (created_in bs o || ((t && b.created) || false))
-    created_at o true e =
-        created_joined (k b.object) mark
-        ∙ (ap (λ c. is_creation (k b.object) || c) by
-        ∙ (ap (λ c. c || b.created) (is.created b.object ∙ ap (created_in bs) (same-true b.object o e)) ∙ ap (λ c. created_in bs o || c) (or_none b.created)))
-    created_at o false e = is.created o ∙ or_none (created_in bs o)
-
-    first_owners : (m : Option BirthMark) (c : Bool) → is_some m ≡ c → are_within (length owners) m ≡ true
-        → slice_range all (joined m mark).start (joined m mark).end ≡ cond c (owners_found owners m) b.owners
-    first_owners None c e w = ap (λ n. slice_range all n mark.end) from ∙ (range_new owners b.owners mark.end to ∙ ap (λ t. cond t [] b.owners) e)
-    first_owners (Some m) c e w = range_still owners b.owners m.start m.end w ∙ ap (λ t. cond t (slice_range owners m.start m.end) b.owners) e
-
-    none_found : (m : Option BirthMark) (c : Bool) → is_some m ≡ c → owners_found owners m ≡ cond c (owners_found owners m) []
-    none_found None c e = ap (λ t. cond t [] []) e
-    none_found (Some m) c e = ap (λ t. cond t (slice_range owners m.start m.end) []) e
-
-    of_one : (o : Object) (t : Bool) → same b.object o ≡ t → owners_in (b ∷ []) o ≡ cond t b.owners []
-    of_one o true e = ap (λ t. option_map_or (λ (x : Birth). x.owners) (cond t (Some b) None) []) e
-    of_one o false e = ap (λ t. option_map_or (λ (x : Birth). x.owners) (cond t (Some b) None) []) e
-
-    owned_at : (o : Object) (t : Bool) → same b.object o ≡ t → (m : Option BirthMark) → k o ≡ m
-        → owners_found all (cond t (Some (joined (k b.object) mark)) m) ≡ cond (born_in bs o) (owners_in bs o) (owners_in (b ∷ []) o)
-    owned_at o true e m f =
-        first_owners (k b.object) (born_in bs b.object) (is.born b.object) (is.within b.object)
-        ∙ (ap (λ xs. cond (born_in bs b.object) xs b.owners) (is.owned b.object)
-        ∙ (ap (λ x. cond (born_in bs x) (owners_in bs x) b.owners) (same-true b.object o e) ∙ ap (λ ys. cond (born_in bs o) (owners_in bs o) ys) (sym (of_one o true e))))
-    owned_at o false e m f =
-        ap (owners_found all) (sym f)
-        ∙ (mark_still owners b.owners (k o) (is.within o)
-        ∙ (none_found (k o) (born_in bs o) (is.born o)
-        ∙ (ap (λ xs. cond (born_in bs o) xs []) (is.owned o) ∙ ap (λ ys. cond (born_in bs o) (owners_in bs o) ys) (sym (of_one o false e)))))
-
-    within_at : (o : Object) (t : Bool) → are_within (length all) (cond t (Some (joined (k b.object) mark)) (k o)) ≡ true
-    within_at o true = within_joined (length all) (k b.object) mark (mark_within owners b.owners (k b.object) (is.within b.object)) (within_new owners b.owners mark.start mark.end from to)
-    within_at o false = mark_within owners b.owners (k o) (is.within o)
+-- each object has one entry
+pub births_apart : (t : PlacedTable BirthEntry) → ArePlaced t → AreApart (births_shown t.entries.items)
+births_apart t placed i j b c here there is =
+    let f = entry_got t.entries.items i b here in
+    let g = entry_got t.entries.items j c there in
+    (alone (kept t.places) t.entries.items placed i j f.0 g.0 f.1 g.1 (f.2 ∙ (same-true b.object c.object is ∙ sym g.2))).0
+  where
+    entry_got : (es : List (Placed BirthEntry)) (n : ℕ) (d : Birth) → slice_get (births_shown es) n ≡ Some d → (p : Placed BirthEntry) × (slice_get es n ≡ Some p) × (p.object ≡ d.object)
+    entry_got es n d at = go (slice_get es n) refl (sym (slice_get_map birth_of es n) ∙ at)
+      where
+        go : (e : Option (Placed BirthEntry)) → slice_get es n ≡ e → mapped birth_of e ≡ Some d → (p : Placed BirthEntry) × (slice_get es n ≡ Some p) × (p.object ≡ d.object)
+        go None h k = cc k
+        go (Some p) h k = (p, h, ap (λ (x : Birth). x.object) (some_is (birth_of p) d k))

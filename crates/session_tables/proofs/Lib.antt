@@ -2,8 +2,10 @@ pub mod Lists
 pub mod Objects
 pub mod Shown
 pub mod Same
-pub mod Living
 pub mod FilingLemmas
 pub mod Names
+pub mod PlacedLemmas
+pub mod Ends
+pub mod Listing
 pub mod BirthLemmas
 pub mod RetrievedLemmas

@@ -1,5 +1,5 @@
-//! The tables of a session: the names with their objects, what the driver answered for objects, the births with their owners and what
-//! lives of them, and the retrieved objects by their keys. Promises that each table holds the lists of the definitions, and that each
+//! The tables of a session: the names with their objects, what the driver answered for objects, the births of what lives with their
+//! owners, and the retrieved objects by their keys. Promises that each table holds the lists of the definitions, and that each
 //! look-up answers what the definitions say of those lists.
 //! Leaves to others what a call makes and ends, and in which order.
 #![tactic(auto)]
@@ -9,7 +9,10 @@ mod dense;
 mod name_table;
 mod object_map;
 mod object_table;
+mod owned_list;
+mod owner_list;
 mod owners;
+mod placed_table;
 mod retrieved_map;
 mod retrieved_table;
 #[cfg(test)]

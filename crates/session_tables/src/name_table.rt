@@ -1,5 +1,5 @@
 // Names with their objects.
-ghost use Rattle.std.specs.Prelude.{◌≡◌, ◌++◌, ◌∷◌, [], None, Some, OnOk, OnErr, if◌then◌else◌};
+ghost use Rattle.std.specs.Prelude.{◌≡◌, ◌<◌, ◌^◌, ◌++◌, ◌∷◌, [], length, None, Some, OnOk, OnErr, if◌then◌else◌};
 ghost use Rattle.std.specs.Option.{option_or};
 ghost use Rattle.trace_format.specs.declared.event.Name.{Name};
 ghost use Rattle.trace_format.specs.Accepting.{same_name};
@@ -64,6 +64,14 @@ impl NameTable {
             objects: Vec::new(alloc),
             alloc,
         }
+    }
+
+    /// How many names there are.
+    pub fn len(&self) -> usize
+        ensures len { result ≡ length self.now }
+        ensures few { result < 2 ^ 62 }
+    {
+        self.list.as_slice().len()
     }
 
     /// The object for which a name stands.

@@ -118,19 +118,7 @@ fn made(
     Ok(())
 }
 
-fn ended(
-    alloc: Global,
-    objects: &mut ObjectTable,
-    effect: Effect,
-    object: Object,
-) -> Result<(), Fail> {
-    let mut args = Vec::new(alloc);
-    args.push(Vec::from_slice(alloc, &[Argument::The(object)])?)?;
-    objects.end_some(&args, effect);
-    Ok(())
-}
-
-// A pool's buffers end by its reset, and all by the instance's end.
+// A thousand buffers of a pool, and one object at the last place that a name may have.
 #[test]
 fn objects(rt: HostRuntime) -> Result<(), Fail> {
     let alloc = rt.alloc();
@@ -184,10 +172,15 @@ fn objects(rt: HostRuntime) -> Result<(), Fail> {
         [pool, device, instance].as_slice()
     );
     assert!(rt; objects.is_living(buffer) && objects.is_living(last));
-    ended(alloc, &mut objects, Effect::Reset(0), pool)?;
-    assert!(rt; !objects.is_living(buffer) && objects.is_living(pool));
-    ended(alloc, &mut objects, Effect::Destroy(0), instance)?;
-    assert!(rt; !objects.is_living(pool) && !objects.is_living(device) && !objects.is_living(last));
+    assert_eq!(rt; objects.len(), 1_028);
+    made(
+        alloc,
+        &mut objects,
+        ObjectType::Fence,
+        Some(device),
+        &[name(LAST_THREAD, LAST_NUMBER)],
+    )?;
+    assert_eq!(rt; objects.len(), 1_028);
     Ok(())
 }
 

@@ -1,4 +1,4 @@
-use Rattle.session_model.proofs.Living.{past_listed, since_listed}
+use Rattle.session_model.proofs.Listed.{past_listed, since_listed}
 use Rattle.session_model.proofs.what_lives_can_be_listed.Goals as goal
 
 pub returns : goal.returns

@@ -8,6 +8,7 @@ use Rattle.chain_build.specs.Setup.{setup_content}
 use Rattle.report_text.specs.Setups.{trace_setup}
 use Rattle.terminator.specs.Calls.{TerminatorState, targets_of}
 use Rattle.session_tables.proofs.Lists.{on_err}
+use Rattle.session_tables.specs.Lined.{AreLined}
 use Rattle.chain_session.specs.declared.kept.Kept.{Kept}
 use Rattle.chain_session.specs.Opening.{begin_content}
 use Rattle.chain_session.specs.Sending.{calls_due}
@@ -35,6 +36,10 @@ tell_and_keep-requires-clause-shapes g c = λ sent.
     subst (λ (t : TerminatorState). AllByRecursion HasShape (targets_of t (call_content c.in_ok-call.call.bottom))) (sym (ap (λ (y : Kept). y.terminator) c.in_ok-call.ensures.kept))
     (shapes_so (trace_setup (setup_content c.args.setup.now)) c.args.kept.now (begin_content c.args.begin) c.args.number c.start_of-start.result.refusal c.in_ok-call.call c.open_judged.new.verdict c.open_judged.new.kept.states
     c.requires.number (c.start_of-start.ensures.refusal ∙ c.in_ok-creation.ensures.refusal) c.in_ok-call.ensures.judged c.requires.can.kept c.requires.can.shows c.requires.can.steps.shapes sent)
+
+pub tell_and_keep-requires-clause-lined : goal.tell_and_keep-requires-clause-lined
+tell_and_keep-requires-clause-lined g c =
+    subst (λ (y : Kept). AreLined y.objects) (sym c.in_ok-call.ensures.kept) (subst AreLined (sym c.requires.can.shows.births) c.requires.can.steps.lined)
 
 pub returns-in_err-tell_and_keep-clause-err : goal.returns-in_err-tell_and_keep-clause-err
 returns-in_err-tell_and_keep-clause-err g c =

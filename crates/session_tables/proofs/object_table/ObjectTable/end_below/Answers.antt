@@ -1,59 +1,44 @@
-use Rattle.std.proofs.Common.{◌≡◌, ◌∙◌, ◌<◌, sym, ap, subst, not, ◌&&◌, Some, [], length, arith}
-use Rattle.object_model.specs.declared.Object.{Object}
+use Rattle.std.proofs.Common.{◌∙◌, List, [], ap, sym, subst}
+use Rattle.std.specs.Prelude.{Option}
+use Rattle.std.specs.Option.{option_map_or}
 use Rattle.object_model.specs.Objects.{is_in}
-use Rattle.object_model.specs.History.{owners_in}
-use Rattle.session_tables.specs.Population.{Population, list_by, listed_in, lives_in, objects_at}
-use Rattle.session_tables.proofs.Living.{born_left, emptied_at, ended_at, list_past, list_read, listed_left, living_left, living_nothing}
+use Rattle.object_model.specs.History.{Birth, owners_in}
+use Rattle.session_tables.specs.declared.owned_list.OwnedList.{OwnedList}
+use Rattle.session_tables.specs.Lined.{AreLeft, AreLined}
+use Rattle.session_tables.specs.Owned.{listed_in}
+use Rattle.session_tables.proofs.Listing.{left_below, left_unlisted, listed_left, others_stay}
 use Rattle.session_tables.proofs.object_table.ObjectTable.end_below.Goals as goal
 
 pub invariant_of-self : goal.invariant_of-self
 invariant_of-self c =
-    let less : c.in-Some.at < length c.self.inside.lists.items = omega (arith, c.if-at-as_slice.true, ap length c.as_slice.ensures.value) in
-    let there : objects_at c.self.inside.lists.items (Some c.in-Some.at) ≡ c.deref.result.now =
-    list_read c.self.inside.lists.items c.in-Some.at c.index.result.now less ∙ (ap (λ v. v.items) (sym c.index.ensures) ∙ sym c.deref.ensures.value) in
-    let is = λ (o : Object).
-    ended_at c.self.inside.births c.self.inside.lists.items c.self.inside.states c.end_each-all.new.states c.args.named o c.in-Some.at c.deref.result.now c.self.invariant.1 (c.in-Some.ensures ∙ ap list_by c.get.ensures) there (c.end_each-all.ensures.living o) in
     let bs = c.self.inside.births in
-    let s = c.self.inside.states in
-    let t = c.end_each-all.new.states in (
-      born_left bs (lives_in s) (lives_in t) (λ o. not (is_in (owners_in bs o) c.args.named)) c.self.invariant.0 is,
-      listed_left bs (lives_in s) (lives_in t) (listed_in c.self.inside.lists.items s) _ c.deref.result.now c.args.named c.self.invariant.1 is (sym c.end_each-all.ensures.all ∙ c.if-all.true)
-          (emptied_at c.self.inside.lists.items s t c.in-Some.at c.clear.new.self c.deref.result.now there c.end_each-all.ensures.lists),
+    let lined : AreLined bs = subst AreLined (sym c.self.view_is) c.requires in
+    let listed = ap (λ (l : Option OwnedList). option_map_or (λ (x : OwnedList). x.objects.items) l []) (sym c.in-Some.ensures.value) ∙ sym c.deref.ensures.value in
+    let left = left_below bs c.end_each.new.births (listed_in c.self.inside.lists) c.deref.result.now c.args.named c.self.invariant.1 listed c.end_each.ensures.left in (
+      c.end_each.ensures.placed,
+      listed_left bs c.end_each.new.births (listed_in c.self.inside.lists) (listed_in c.end_each.new.lists) c.args.named lined c.self.invariant.1 left
+          (λ w apart below. c.end_each.ensures.lists w below ∙ others_stay c.self.inside.lists c.remove.new.self c.args.named c.in-Some.ensures.left w apart),
     )
 
-pub returns-then-all-clause-living : goal.returns-then-all-clause-living
-returns-then-all-clause-living c = λ o.
-    let less : c.in-Some.at < length c.self.inside.lists.items = omega (arith, c.if-at-as_slice.true, ap length c.as_slice.ensures.value) in
-    let there : objects_at c.self.inside.lists.items (Some c.in-Some.at) ≡ c.deref.result.now =
-    list_read c.self.inside.lists.items c.in-Some.at c.index.result.now less ∙ (ap (λ v. v.items) (sym c.index.ensures) ∙ sym c.deref.ensures.value) in
-    let is = λ (o : Object).
-    ended_at c.self.inside.births c.self.inside.lists.items c.self.inside.states c.end_each-all.new.states c.args.named o c.in-Some.at c.deref.result.now c.self.invariant.1 (c.in-Some.ensures ∙ ap list_by c.get.ensures) there (c.end_each-all.ensures.living o) in
+pub invariant_of-self-in_default : goal.invariant_of-self-in_default
+invariant_of-self-in_default c =
     let bs = c.self.inside.births in
-    living_left bs (lives_in c.self.inside.states) (lives_in c.end_each-all.new.states) (λ x. not (is_in (owners_in bs x) c.args.named)) o c.self.invariant.0 is
-    ∙ ap (λ (p : Population). is_in p.living o && not (is_in (owners_in p.births o) c.args.named)) c.self.view_is
+    let lined : AreLined bs = subst AreLined (sym c.self.view_is) c.requires in
+    let listed = ap (λ (l : Option OwnedList). option_map_or (λ (x : OwnedList). x.objects.items) l []) (sym c.remove.ensures.value ∙ c.in_default.is) in
+    let left = left_unlisted bs (listed_in c.self.inside.lists) c.args.named c.self.invariant.1 listed in (
+      c.remove.ensures.placed,
+      listed_left bs bs (listed_in c.self.inside.lists) (listed_in c.remove.new.self) c.args.named lined c.self.invariant.1 left (λ w apart below. others_stay c.self.inside.lists c.remove.new.self c.args.named c.remove.ensures.left w apart),
+    )
 
-pub returns-else-all-clause-living : goal.returns-else-all-clause-living
-returns-else-all-clause-living c = λ o.
-    let less : c.in-Some.at < length c.self.inside.lists.items = omega (arith, c.if-at-as_slice.true, ap length c.as_slice.ensures.value) in
-    let there : objects_at c.self.inside.lists.items (Some c.in-Some.at) ≡ c.deref.result.now =
-    list_read c.self.inside.lists.items c.in-Some.at c.index.result.now less ∙ (ap (λ v. v.items) (sym c.index.ensures) ∙ sym c.deref.ensures.value) in
-    let is = λ (o : Object).
-    ended_at c.self.inside.births c.self.inside.lists.items c.self.inside.states c.end_each-all.new.states c.args.named o c.in-Some.at c.deref.result.now c.self.invariant.1 (c.in-Some.ensures ∙ ap list_by c.get.ensures) there (c.end_each-all.ensures.living o) in
+pub returns-in-Some : goal.returns-in-Some
+returns-in-Some c =
     let bs = c.self.inside.births in
-    living_left bs (lives_in c.self.inside.states) (lives_in c.end_each-all.new.states) (λ x. not (is_in (owners_in bs x) c.args.named)) o c.self.invariant.0 is
-    ∙ ap (λ (p : Population). is_in p.living o && not (is_in (owners_in p.births o) c.args.named)) c.self.view_is
+    let listed = ap (λ (l : Option OwnedList). option_map_or (λ (x : OwnedList). x.objects.items) l []) (sym c.in-Some.ensures.value) ∙ sym c.deref.ensures.value in
+    subst (λ (xs : List Birth). AreLeft xs (λ o. is_in (owners_in xs o) c.args.named) c.end_each.new.births) c.self.view_is
+    (left_below bs c.end_each.new.births (listed_in c.self.inside.lists) c.deref.result.now c.args.named c.self.invariant.1 listed c.end_each.ensures.left)
 
-pub returns-else-at-as_slice-clause-living : goal.returns-else-at-as_slice-clause-living
-returns-else-at-as_slice-clause-living c = λ o.
-    let lists = c.self.inside.lists.items in
-    let none : objects_at lists (Some c.in-Some.at) ≡ [] = list_past lists c.in-Some.at (omega (arith, c.if-at-as_slice.false, ap length c.as_slice.ensures.value)) in
-    subst (λ (p : Population). is_in p.living o ≡ (is_in p.living o && not (is_in (owners_in p.births o) c.args.named))) c.self.view_is
-    (living_nothing c.self.inside.births (lives_in c.self.inside.states) (listed_in lists c.self.inside.states) c.args.named o c.self.invariant.0 c.self.invariant.1
-    (ap (objects_at lists) (sym (c.in-Some.ensures ∙ ap list_by c.get.ensures)) ∙ none))
-
-pub returns-in_default-clause-living : goal.returns-in_default-clause-living
-returns-in_default-clause-living c = λ o.
-    let lists = c.self.inside.lists.items in
-    subst (λ (p : Population). is_in p.living o ≡ (is_in p.living o && not (is_in (owners_in p.births o) c.args.named))) c.self.view_is
-    (living_nothing c.self.inside.births (lives_in c.self.inside.states) (listed_in lists c.self.inside.states) c.args.named o c.self.invariant.0 c.self.invariant.1
-    (ap (objects_at lists) (sym (ap list_by c.get.ensures) ∙ (sym c.list_of.ensures ∙ c.in_default.is))))
+pub returns-in_default : goal.returns-in_default
+returns-in_default c =
+    let bs = c.self.inside.births in
+    let listed = ap (λ (l : Option OwnedList). option_map_or (λ (x : OwnedList). x.objects.items) l []) (sym c.remove.ensures.value ∙ c.in_default.is) in
+    subst (λ (xs : List Birth). AreLeft xs (λ o. is_in (owners_in xs o) c.args.named) bs) c.self.view_is (left_unlisted bs (listed_in c.self.inside.lists) c.args.named c.self.invariant.1 listed)

@@ -1,31 +1,32 @@
-use Rattle.std.proofs.Common.{◌∙◌, ap, sym, ◌&&◌, not, false, take, take_all, get_or, List}
-use Rattle.std.specs.List.{list_any}
-use Rattle.std.specs.Option.{option_map_or}
+use Rattle.std.proofs.Common.{◌∙◌, ◌+◌, ◌||◌, ap, sym, take, take_all, get_or}
+use Rattle.std.specs.List.{list_any, filter_map}
 use Rattle.std.proofs.lemmas.List.Folds.{list_any_more}
 use Rattle.object_model.specs.declared.Argument.{Argument}
 use Rattle.object_model.specs.declared.Argument.TheVariants.{Null}
-use Rattle.object_model.specs.Objects.{is_in, object_of}
-use Rattle.object_model.specs.History.{Birth, ends_with}
-use Rattle.session_tables.proofs.Living.{not_both, any_mapped}
+use Rattle.object_model.specs.Objects.{object_of}
+use Rattle.object_model.specs.History.{ends_with}
+use Rattle.session_tables.proofs.Ends.{left_none}
+use Rattle.session_tables.proofs.Listing.{any_mapped, ended_more, goes_with, left_test, lined_after}
 use Rattle.session_tables.proofs.object_table.ObjectTable.end_named.Goals as goal
+
+pub loop-argument-init : goal.loop-argument-init
+loop-argument-init c = left_none c.args.self.now
+
+pub end_at-requires : goal.end_at-requires
+end_at-requires c = lined_after c.args.self.now c.loop-argument.self (take c.loop-argument.argument-index c.args.at.now) c.requires c.loop-argument.invariant
 
 pub loop-argument-preserved : goal.loop-argument-preserved
 loop-argument-preserved c =
-    let x = get_or c.args.at.now c.loop-argument.argument-index Null in
-    record {
-      births = c.end_at.ensures.births ∙ c.loop-argument.invariant.births;
-      living = λ o.
-          let test = λ (a : Argument). option_map_or (ends_with c.args.self.now.births o) (object_of a) false in
-          let so_far = list_any test (take c.loop-argument.argument-index c.args.at.now) in
-          c.end_at.ensures.living o
-          ∙ (ap (λ (bs : List Birth). is_in c.loop-argument.self.living o && not (option_map_or (ends_with bs o) (object_of x) false)) c.loop-argument.invariant.births
-          ∙ (ap (λ t. t && not (test x)) (c.loop-argument.invariant.living o)
-          ∙ (not_both (is_in c.args.self.now.living o) so_far (test x)
-          ∙ ap (λ t. is_in c.args.self.now.living o && not t) (sym (list_any_more test c.args.at.now c.loop-argument.argument-index Null c.loop-argument-test.true)))));
-    }
+    let before = c.args.self.now in
+    let i = c.loop-argument.argument-index in
+    let xs = c.args.at.now in
+    left_test before c.end_at.new.self (λ o. list_any (λ a. goes_with before a o) (take i xs) || goes_with before (get_or xs i Null) o) (λ o. list_any (λ a. goes_with before a o) (take (i + 1) xs))
+    (λ o. sym (list_any_more (λ (a : Argument). goes_with before a o) xs i Null c.loop-argument-test.true)) (ended_more before c.loop-argument.self c.end_at.new.self (take i xs) (get_or xs i Null) c.requires c.loop-argument.invariant c.end_at.ensures)
 
-pub returns-clause-living : goal.returns-clause-living
-returns-clause-living c = λ o.
-    let test = λ (a : Argument). option_map_or (ends_with c.args.self.now.births o) (object_of a) false in
-    c.loop-argument.invariant.living o
-    ∙ ap (λ t. is_in c.args.self.now.living o && not t) (ap (list_any test) (take_all c.loop-argument.argument-index c.args.at.now c.loop-argument-test.false) ∙ sym (any_mapped (ends_with c.args.self.now.births o) object_of c.args.at.now))
+pub returns : goal.returns
+returns c =
+    let before = c.args.self.now in
+    let i = c.loop-argument.argument-index in
+    let xs = c.args.at.now in
+    left_test before c.loop-argument.self (λ o. list_any (λ a. goes_with before a o) (take i xs)) (λ o. list_any (ends_with before o) (filter_map object_of xs))
+    (λ o. ap (list_any (λ (a : Argument). goes_with before a o)) (take_all i xs c.loop-argument-test.false) ∙ any_mapped (ends_with before o) object_of xs) c.loop-argument.invariant

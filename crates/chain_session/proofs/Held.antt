@@ -1,0 +1,24 @@
+-- How many entries are kept.
+use Rattle.std.proofs.Common.{◌≡◌, ◌∙◌, ◌+◌, ℕ, None, Some, length, ap, sym, subst, refl}
+use Rattle.std.proofs.lemmas.List.{length-map}
+use Rattle.replay_model.specs.Setup.{Setup}
+use Rattle.session_model.specs.Session.{SessionKept, nothing_kept}
+use Rattle.session_tables.specs.Births.{AreApart}
+use Rattle.chain_session.specs.declared.kept.Kept.{Kept}
+use Rattle.chain_session.specs.Opened.{sent_of}
+use Rattle.chain_session.specs.Shown.{Shows}
+use Rattle.chain_session.specs.Standing.{Holds}
+
+-- what the program counts is what the definitions keep
+pub holds_so : (x : Kept) (held : ℕ) → held ≡ length x.names + length x.objects + length x.open_calls.items → AreApart x.objects → Holds (Some x) held
+holds_so x held is apart = λ s k shows. (
+  is
+      ∙ (ap (λ n. n + length x.objects + length x.open_calls.items) (ap length shows.names)
+      ∙ (ap (λ n. length k.names + n + length x.open_calls.items) (ap length shows.births)
+      ∙ ap (λ n. length k.names + length k.births + n) (sym (length-map x.open_calls.items sent_of) ∙ ap length shows.sent))),
+  subst AreApart shows.births apart,
+)
+
+-- nothing before the first begin
+pub holds_none : Holds None 0
+holds_none = λ s k is. subst (λ (y : SessionKept). (0 ≡ length y.names + length y.births + length y.sent) × AreApart y.births) (sym is) (refl, λ i j b c here there same. cc here)

@@ -1,0 +1,8 @@
+use Rattle.session_tables.proofs.BirthLemmas.{created_by}
+use Rattle.session_tables.proofs.birth_table.BirthTable.is_created.Goals as goal
+
+pub returns-in-None : goal.returns-in-None
+returns-in-None c = created_by c.self.inside.births c.args.self.now c.args.object _ c.self.invariant c.self.view_is c.in-None.ensures
+
+pub returns-in-Some : goal.returns-in-Some
+returns-in-Some c = created_by c.self.inside.births c.args.self.now c.args.object _ c.self.invariant c.self.view_is c.in-Some.ensures

@@ -1,0 +1,112 @@
+// Values of objects in one list without gaps.
+ghost use Rattle.std.specs.Prelude.{◌≡◌, ◌++◌, ◌∷◌, ◌<◌, ◌≤◌, [], None, Some, OnOk, OnErr, IfSome, if◌then◌else◌, false, true, is_some, length, slice_get, option_and_then};
+ghost use Rattle.std.specs.Option.{option_copied, option_map_or};
+ghost use Rattle.object_model.specs.declared.Object.{Object};
+ghost use Rattle.object_model.specs.Objects.{same};
+ghost use Rattle.session_tables.specs.declared.placed_table.Placed.{Placed};
+ghost use Rattle.session_tables.specs.Filing.{kept};
+ghost use Rattle.session_tables.specs.Placed.{ArePlaced, entry_of, placed_in};
+
+use crate::object_map::ObjectMap;
+use object_model::Object;
+use std::alloc::{AllocError, Global};
+
+/// A value with its object.
+#[derive(Drop)]
+pub struct Placed<V: Drop> {
+    pub object: Object,
+    pub value: V,
+}
+
+/// Values of objects in one list, and the place of each. Where one is taken out the last takes its place, so that there is no gap.
+#[derive(Drop)]
+pub struct PlacedTable<V: Drop> {
+    pub entries: Vec<Placed<V>>,
+    pub places: ObjectMap<usize>,
+}
+
+#[tactic(auto, unfolding(command_tables::specs::Tests::same_type))]
+fn is_at<V: Drop>(entries: &[Placed<V>], at: usize, object: Object) -> bool
+    ensures { result ≡ option_map_or (λ p. same p.object object) (slice_get entries.now at) false }
+{
+    match entries.get(at) {
+        None => false,
+        Some(entry) => entry.object == object,
+    }
+}
+
+// The entry that was moved to a place, if there is one, is found there.
+fn note_moved<V: Drop>(entries: &[Placed<V>], places: &mut ObjectMap<usize>, at: usize)
+    requires { (p : Placed V) → slice_get entries.now at ≡ Some p → is_some (kept places.old p.object) ≡ true }
+    ensures moved { (p : Placed V) → slice_get entries.now at ≡ Some p → (o : Object) → kept places.new o ≡ (if same p.object o then Some at else kept places.old o) }
+    ensures none { length entries.now ≤ at → (o : Object) → kept places.new o ≡ kept places.old o }
+{
+    if let Some(moved) = entries.get(at) {
+        places.set(moved.object, at);
+    }
+}
+
+impl<V: Drop> PlacedTable<V> {
+    pub fn new(alloc: Global) -> PlacedTable<V>
+        ensures empty { result.entries.items ≡ [] }
+        ensures placed { ArePlaced result }
+    {
+        PlacedTable {
+            entries: Vec::new(alloc),
+            places: ObjectMap::new(alloc),
+        }
+    }
+
+    /// The place of an object's entry. A place that another entry has taken since is none.
+    pub fn place_of(&self, object: Object) -> Option<usize>
+        requires { ArePlaced self.now }
+        ensures entry { option_and_then (slice_get self.now.entries.items) result ≡ entry_of self.now.entries.items object }
+        ensures within { IfSome result (λ at. at < length self.now.entries.items) }
+    {
+        match self.places.get(object) {
+            Some(at) if is_at(&self.entries, at, object) => Some(at),
+            _ => None,
+        }
+    }
+
+    /// The value of an object.
+    pub fn get(&self, object: Object) -> Option<&V>
+        requires { ArePlaced self.now }
+        ensures { option_copied result ≡ placed_in self.now object }
+    {
+        match self.place_of(object) {
+            None => None,
+            Some(at) => Some(&self.entries[at].value),
+        }
+    }
+
+    /// Adds the value of an object that has none.
+    pub fn push(&mut self, object: Object, value: V) -> Result<(), AllocError>
+        requires placed { ArePlaced self.old }
+        requires new { entry_of self.old.entries.items object ≡ None }
+        ensures ok { OnOk result (self.new.entries.items ≡ self.old.entries.items ++ record { object = object; value = value } ∷ []) }
+        ensures err { OnErr result (self.new.entries.items ≡ self.old.entries.items) }
+        ensures placed { ArePlaced self.new }
+    {
+        self.places.put(object, self.entries.as_slice().len())?;
+        self.entries.push(Placed { object, value })?;
+        Ok(())
+    }
+
+    /// Takes out the value of an object.
+    pub fn remove(&mut self, object: Object) -> Option<V>
+        requires { ArePlaced self.old }
+        ensures value { result ≡ placed_in self.old object }
+        ensures left { (o : Object) → entry_of self.new.entries.items o ≡ (if same object o then None else entry_of self.old.entries.items o) }
+        ensures placed { ArePlaced self.new }
+    {
+        match self.place_of(object) {
+            None => None,
+            Some(at) => {
+                let taken = self.entries.swap_remove(at);
+                note_moved(&self.entries, &mut self.places, at);
+                Some(taken.value)
+            }
+        }
+    }
+}
