@@ -10,3 +10,4 @@ pub mod Kept
 pub mod Issuing
 pub mod Lasting
 pub mod Lost
+pub mod Copies

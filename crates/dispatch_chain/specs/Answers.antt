@@ -29,7 +29,7 @@ UniqueMayEnter pre = (s : Bor UniqueState) (c : MutBor LayerCall) → pre s c
 -- the call goes on with the handles below
 abbrev pub UniqueEnters : (Bor UniqueState → MutBor LayerCall → Unit {0} → MutBor LayerCall → Type 0) → Type 0
 UniqueEnters post = (s : Bor UniqueState) (c : MutBor LayerCall) (r : Unit {0}) (c' : MutBor LayerCall) →
-    post s c r c' → call_content c'.now ≡ unique_enter s.now (call_content c.now)
+    post s c r c' → call_content c'.now ≡ unique_enter s.now.ids (call_content c.now)
 
 -- it may be left with any results
 abbrev pub UniqueMayLeave : (MutBor UniqueState → Bor LayerCall → MutBor (List ℕ) → Type 0) → Type 0
@@ -38,7 +38,7 @@ UniqueMayLeave pre = (s : MutBor UniqueState) (c : Bor LayerCall) (hs : MutBor (
 -- results get their ids
 abbrev pub UniqueLeaves : (MutBor UniqueState → Bor LayerCall → MutBor (List ℕ) → Outcome → MutBor UniqueState → MutBor (List ℕ) → Type 0) → Type 0
 UniqueLeaves post = (s : MutBor UniqueState) (c : Bor LayerCall) (hs : MutBor (List ℕ)) (r : Outcome) (s' : MutBor UniqueState) (hs' : MutBor (List ℕ)) →
-    post s c hs r s' hs' → ForOk r (λ _. record { results = hs'.now; ids = s'.now } ≡ unique_leave s.now (call_content c.now) hs.now)
+    post s c hs r s' hs' → ForOk r (λ _. record { results = hs'.now; ids = s'.now.ids } ≡ unique_leave s.now.ids (call_content c.now) hs.now)
 
 -- ---- a lifetimes part
 

@@ -11,7 +11,7 @@ use Rattle.dispatch_chain.specs.declared.part.Part.TheVariants.{Threads, Lifetim
 abbrev pub state_of : Part → PartState
 state_of (Threads s) = ThreadsState s.kept
 state_of (Lifetimes s) = LifetimesState s.kept
-state_of (Unique m) = UniqueState m
+state_of (Unique m) = UniqueState m.ids
 
 -- the kinds of parts
 abbrev pub kinds_of : List PartState → List PartKind

@@ -89,7 +89,7 @@ impl Kit {
 
     // A unique part is entered.
     pub(crate) fn enter_unique(&self, unique: &UniqueState, call: &mut LayerCall)
-        ensures { call_content call.new ≡ unique_enter unique.now (call_content call.old) }
+        ensures { call_content call.new ≡ unique_enter unique.now.ids (call_content call.old) }
     {
         (self.unique_enter)(unique, call)
     }
@@ -101,7 +101,7 @@ impl Kit {
         call: &LayerCall,
         results: &mut [u64],
     ) -> Result<(), NoMemory>
-        ensures { OnOk result (record { results = results.new; ids = unique.new } ≡ unique_leave unique.old (call_content call.now) results.old) }
+        ensures { OnOk result (record { results = results.new; ids = unique.new.ids } ≡ unique_leave unique.old.ids (call_content call.now) results.old) }
     {
         (self.unique_leave)(unique, call, results)
     }

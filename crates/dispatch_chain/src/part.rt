@@ -1,5 +1,5 @@
 //! A part of a chain: what it keeps, and its two steps.
-ghost use Rattle.std.specs.Prelude.{◌≡◌, ◌++◌, false, OnOk};
+ghost use Rattle.std.specs.Prelude.{◌≡◌, ◌++◌, false, IfOk, OnOk};
 ghost use Rattle.command_tables.specs.Calls.{call_content};
 ghost use Rattle.object_records.specs.Shape.{HasParams};
 ghost use Rattle.lifetime_layer.specs.Reports.{reports_of};
@@ -39,11 +39,23 @@ pub(crate) fn new_part(alloc: Global, kind: PartKind, place: u32) -> Part
     }
 }
 
+// A part of its own that keeps the same, at the same place.
+pub(crate) fn copy_part(part: &Part) -> Result<Part, NoMemory>
+    ensures state { IfOk result (λ copy. state_of copy ≡ state_of part.now) }
+    ensures seat { IfOk result (λ copy. seat_of copy ≡ seat_of part.now) }
+{
+    match part {
+        Part::Threads(uses) => Ok(Part::Threads(uses.copy()?)),
+        Part::Lifetimes(life) => Ok(Part::Lifetimes(life.copy()?)),
+        Part::Unique(unique) => Ok(Part::Unique(unique.copy()?)),
+    }
+}
+
 // A call comes to a unique part; its shape stays.
 fn enter_unique(kit: &Kit, unique: &UniqueState, call: &mut LayerCall)
     requires shape { HasParams call.old }
     requires few { HasFewPlaces call.old }
-    ensures call { call_content call.new ≡ unique_enter unique.now (call_content call.old) }
+    ensures call { call_content call.new ≡ unique_enter unique.now.ids (call_content call.old) }
     ensures shape { HasParams call.new }
     ensures few { HasFewPlaces call.new }
 {
@@ -91,8 +103,8 @@ fn leave_unique(
     form: &LayerCall,
     results: &mut [u64],
 ) -> Result<(), NoMemory>
-    ensures left { OnOk result (record { results = results.new; ids = unique.new } ≡ unique_leave unique.old (call_content form.now) results.old) }
-    ensures kept { IsRising unique.old → IsRising unique.new }
+    ensures left { OnOk result (record { results = results.new; ids = unique.new.ids } ≡ unique_leave unique.old.ids (call_content form.now) results.old) }
+    ensures kept { IsRising unique.old.ids → IsRising unique.new.ids }
 {
     if let Err(error) = kit.leave_unique(unique, form, results) {
         *unique = UniqueState::new(alloc);

@@ -4,7 +4,7 @@ ghost use Rattle.layer_model.specs.Walks.{new_part};
 ghost use Rattle.dispatch_chain.specs.Rows.{kinds_placed};
 ghost use Rattle.dispatch_chain.specs.Seats.{seat_of, seats_from, state_of};
 
-use crate::part::{Part, new_part};
+use crate::part::{Part, copy_part, new_part};
 use chain_build::Chain;
 use command_tables::NoMemory;
 use object_model::PartKind;
@@ -45,6 +45,19 @@ fn new_parts(alloc: Global, placed: &[(PartKind, u32)]) -> Result<Vec<Part>, NoM
     Ok(parts)
 }
 
+// Parts of their own that keep the same, at the same places.
+#[tactic(auto, using(crate::proofs::Copies::states_more, crate::proofs::Copies::states_all, crate::proofs::Copies::seats_more, crate::proofs::Copies::seats_all))]
+fn copy_parts(alloc: Global, parts: &[Part]) -> Result<Vec<Part>, NoMemory>
+    ensures states { IfOk result (λ copy. map state_of copy.items ≡ map state_of parts.now) }
+    ensures seats { IfOk result (λ copy. map seat_of copy.items ≡ map seat_of parts.now) }
+{
+    let mut copy = Vec::new(alloc);
+    for i in 0..parts.len() {
+        copy.push(copy_part(&parts[i])?)?;
+    }
+    Ok(copy)
+}
+
 impl LayerStates {
     /// There is no part. Takes no memory.
     pub fn none(alloc: Global) -> LayerStates
@@ -62,5 +75,16 @@ impl LayerStates {
     {
         let parts = new_parts(alloc, &chain.parts)?;
         Ok(LayerStates { alloc, parts })
+    }
+
+    /// States of their own: each part keeps the same at the same place.
+    pub fn copy(&self) -> Result<LayerStates, NoMemory>
+        ensures { IfOk result (λ states. states ≡ self.now) }
+    {
+        let parts = copy_parts(self.alloc, &self.parts)?;
+        Ok(LayerStates {
+            alloc: self.alloc,
+            parts,
+        })
     }
 }

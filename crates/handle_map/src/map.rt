@@ -1,5 +1,5 @@
 //! Values by type and id.
-ghost use Rattle.std.specs.Prelude.{◌≡◌, ◌≤◌, ◌<◌, ◌+◌, ◌^◌, ◌++◌, ◌∷◌, [], length, max, false, ◌==◌, IfSome, IfNone, IsOk, OnOk, OnErr, Some, None};
+ghost use Rattle.std.specs.Prelude.{◌≡◌, ◌≤◌, ◌<◌, ◌+◌, ◌^◌, ◌++◌, ◌∷◌, [], length, max, false, ◌==◌, IfOk, IfSome, IfNone, IsOk, OnOk, OnErr, Some, None};
 ghost use Rattle.handle_map.specs.Chains.{put_at};
 ghost use Rattle.handle_map.specs.Pairs.{AreDistinct, HasSpare, greatest_id, has_pair, values_of, with_values};
 
@@ -55,6 +55,20 @@ impl<const S: usize> HandleMap<S> {
         }
     }
 
+    /// A map of its own with the same list. Of room nothing is said.
+    pub fn copy(&self) -> Result<HandleMap<S>, NoMemory>
+        ensures { IfOk result (λ map. map.entries ≡ self.now.entries) }
+    {
+        let alloc = *self.entries.allocator();
+        Ok(HandleMap {
+            entries: Vec::from_slice(alloc, &self.entries)?,
+            values: Vec::from_slice(alloc, &self.values)?,
+            firsts: Vec::from_slice(alloc, &self.firsts)?,
+            hints: self.hints.copy(alloc)?,
+            bounds: self.bounds,
+        })
+    }
+
     /// Makes room for so many further entries with at most so many values each. After `NoMemory` the list is as before, and
     /// no room is lost.
     pub fn reserve(&mut self, n: usize, values: usize) -> Result<(), NoMemory>
@@ -70,6 +84,8 @@ impl<const S: usize> HandleMap<S> {
         };
         self.entries.reserve(n)?;
         self.values.reserve(most)?;
+        self.hints
+            .reserve(n, self.entries.len(), self.bounds.greatest);
         Ok(())
     }
 

@@ -180,3 +180,65 @@ fn ids_that_are_numbered_apart(rt: HostRuntime) -> Result<(), Fail> {
     assert!(rt; map.get(ObjectType::Queue, u64::MAX).is_none());
     Ok(())
 }
+
+fn get_one<const S: usize>(map: &HandleMap<S>, id: u64) -> Option<u64> {
+    map.get(ObjectType::Image, id)?.first().copied()
+}
+
+// A map of so many images, the values of which are thrice their ids, and its copy, which goes on by itself.
+fn copy_of(rt: &impl Abort, alloc: Global, count: u64) -> Result<(), Fail> {
+    let mut map: HandleMap<64> = HandleMap::new(alloc);
+    for k in 0..count {
+        map.insert(ObjectType::Image, k + 1, &[(k + 1) % 1000 * 3])
+            .ok()
+            .ok_or("memory")?;
+    }
+    let mut copy = map.copy().ok().ok_or("memory")?;
+    assert_eq!(rt; copy.len() as u64, count);
+    for k in 0..count {
+        assert_eq!(rt; get_one(&copy, k + 1), Some((k + 1) % 1000 * 3));
+    }
+    copy.reserve(2, 1).ok().ok_or("memory")?;
+    copy.insert(ObjectType::Image, 7_000_000, &[8])
+        .ok()
+        .ok_or("memory")?;
+    copy.insert(ObjectType::Image, 1, &[9])
+        .ok()
+        .ok_or("memory")?;
+    assert_eq!(rt; get_one(&copy, 7_000_000), Some(8));
+    assert_eq!(rt; get_one(&copy, 1), Some(9));
+    assert!(rt; get_one(&map, 7_000_000).is_none());
+    assert_eq!(rt; map.len() as u64, count);
+    if count > 0 {
+        assert_eq!(rt; get_one(&map, 1), Some(3));
+    }
+    Ok(())
+}
+
+#[test]
+fn copies_of_all_sizes(rt: HostRuntime) -> Result<(), Fail> {
+    let alloc = rt.alloc();
+    copy_of(&rt, alloc, 0)?;
+    copy_of(&rt, alloc, 3)?;
+    copy_of(&rt, alloc, 20_000)
+}
+
+// In room that was made, ids of two numberings are noted and found.
+#[test]
+fn ids_numbered_apart_in_room(rt: HostRuntime) -> Result<(), Fail> {
+    let mut map: HandleMap<1> = HandleMap::new(rt.alloc());
+    map.reserve(2000, 1).ok().ok_or("memory")?;
+    for k in 1..1001u64 {
+        map.insert(ObjectType::Buffer, k, &[k])
+            .ok()
+            .ok_or("memory")?;
+        map.insert(ObjectType::Queue, k, &[k + 5000])
+            .ok()
+            .ok_or("memory")?;
+    }
+    for k in 1..1001u64 {
+        assert!(rt; map.get(ObjectType::Buffer, k) == Some([k].as_slice()));
+        assert!(rt; map.get(ObjectType::Queue, k) == Some([k + 5000].as_slice()));
+    }
+    Ok(())
+}

@@ -49,7 +49,7 @@ pub places_quiet : {X : Type 0} (f : ℕ → Argument → List X) (places : List
 places_quiet f places k less is = rest (f k (get_or places k Null)) (places_from f (k + 1) (drop (k + 1) places)) (ap (λ ps. places_from f k ps) (sym (place_cut places k less)) ∙ is)
 
 -- the same of the parameters
-cut : {X : Type 0} (f : ℕ → ParamSpec → ℕ → Argument → List X) (ps : List Param) (parts : List (List Argument)) (i : ℕ) (d : Param) → i < length ps → length parts ≡ length ps
+pub cut : {X : Type 0} (f : ℕ → ParamSpec → ℕ → Argument → List X) (ps : List Param) (parts : List (List Argument)) (i : ℕ) (d : Param) → i < length ps → length parts ≡ length ps
     → params_from f i (map seen_param (drop i ps)) (drop i parts) ≡ places_from (f i (seen_param (get_or ps i d))) 0 (list_at parts i) ++ params_from f (i + 1) (map seen_param (drop (i + 1) ps)) (drop (i + 1) parts)
 cut f ps parts i d less same =
     let low : i < length parts = omega (arith, less, same) in

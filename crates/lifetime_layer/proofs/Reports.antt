@@ -41,7 +41,7 @@ places_at place f k [] = refl
 places_at place f k (a ∷ args) = ap (λ rs. at_place place (f k a) ++ rs) (places_at place f (k + 1) args) ∙ at_both place (f k a) (places_from f (k + 1) args)
 
 -- the reports of all parameters
-all_at : (place : ℕ) (f : ℕ → ParamSpec → ℕ → Argument → List Failure) (i : ℕ) (ps : List ParamSpec) (parts : List (List Argument))
+pub all_at : (place : ℕ) (f : ℕ → ParamSpec → ℕ → Argument → List Failure) (i : ℕ) (ps : List ParamSpec) (parts : List (List Argument))
     → params_from (λ j p k a. at_place place (f j p k a)) i ps parts ≡ at_place place (params_from f i ps parts)
 all_at place f i [] parts = refl
 all_at place f i (p ∷ ps) [] = refl
@@ -53,6 +53,10 @@ all_at place f i (p ∷ ps) (args ∷ parts) =
 count_reports : (fs : List Finding) → length (reports_of fs) ≡ length fs
 count_reports [] = refl
 count_reports (f ∷ fs) = let ih = count_reports fs in omega (arith, ih)
+
+-- as many findings more as reports
+pub counted : (before after : List Finding) (rs : List Report) → reports_of after ≡ reports_of before ++ rs → length after ≡ length before + length rs
+counted before after rs is = sym (count_reports after) ∙ (ap (λ (xs : List Report). length xs) is ∙ (length-append (reports_of before) rs ∙ ap (λ n. n + length rs) (count_reports before)))
 
 -- as many reports more as failures
 grown : (place : ℕ) (before after : List Finding) (fs : List Failure) → reports_of after ≡ reports_of before ++ at_place place fs → length after ≡ length before + length (at_place place fs)

@@ -2,7 +2,8 @@
 use Rattle.std.specs.Prelude.{ℕ}
 use Rattle.layer_model.specs.Parts.{LifeModel}
 
--- the place of the part in its chain, and what it keeps of objects
+-- the place of the part in its chain, what it keeps of objects, and how many further ones can be born with no further memory
 pub record LifePart : Type 0 where
   pub place : ℕ
   pub kept : LifeModel
+  pub spare : ℕ

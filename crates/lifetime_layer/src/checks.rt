@@ -1,8 +1,8 @@
 // The rules at each argument of a call.
-ghost use Rattle.std.specs.Prelude.{◌≡◌, ◌++◌, ◌==◌, ◌||◌, [], length, map, not, true, IsOk, OnOk};
+ghost use Rattle.std.specs.Prelude.{◌≡◌, ◌≤◌, ◌+◌, ◌++◌, ◌==◌, ◌||◌, [], length, map, not, true, vec_capacity, IsOk, OnOk};
 ghost use Rattle.command_tables.specs.Handles.{list_at};
 ghost use Rattle.command_tables.specs.Table.{row_of, seen_param};
-ghost use Rattle.object_model.specs.Findings.{at_place};
+ghost use Rattle.object_model.specs.Findings.{Report, at_place};
 ghost use Rattle.object_model.specs.Objects.{is_in};
 ghost use Rattle.object_model.specs.Rules.{children_at, failure, params_from, places_from, unless};
 ghost use Rattle.layer_model.specs.Parts.{life_failures};
@@ -19,6 +19,8 @@ use object_records::{ObjectRecords, argument_at, count_parameters, count_places}
 // Where a rule doesn't hold, the finding is added.
 fn note(holds: bool, finding: Finding, out: &mut Vec<Finding>) -> Result<(), NoMemory>
     ensures found { OnOk result (reports_of out.new.items ≡ reports_of out.old.items ++ unless holds (report_of finding)) }
+    ensures succeeds { length out.old.items + length (unless holds (report_of finding)) ≤ vec_capacity out.old → IsOk result }
+    ensures room { vec_capacity out.old ≤ vec_capacity out.new }
     ensures quiet { holds ≡ true → IsOk result }
 {
     if !holds {
@@ -35,8 +37,10 @@ fn note_children(
     finding: Finding,
     out: &mut Vec<Finding>,
 ) -> Result<(), NoMemory>
-    ensures found { OnOk result (reports_of out.new.items ≡ reports_of out.old.items ++ unless (not asked || children_at records.now.births (is_in records.now.living) argument == 0) (record { place = finding.place; failure = failure finding.param finding.index Rule.Children (children_at records.now.births (is_in records.now.living) argument) })) }
-    ensures quiet { (not asked || children_at records.now.births (is_in records.now.living) argument == 0) ≡ true → IsOk result }
+    ensures found { OnOk result (reports_of out.new.items ≡ reports_of out.old.items ++ unless (not asked || children_at records.now.kept.births (is_in records.now.kept.living) argument == 0) (record { place = finding.place; failure = failure finding.param finding.index Rule.Children (children_at records.now.kept.births (is_in records.now.kept.living) argument) })) }
+    ensures succeeds { length out.old.items + length {A = Report} (unless (not asked || children_at records.now.kept.births (is_in records.now.kept.living) argument == 0) (record { place = finding.place; failure = failure finding.param finding.index Rule.Children (children_at records.now.kept.births (is_in records.now.kept.living) argument) })) ≤ vec_capacity out.old → IsOk result }
+    ensures room { vec_capacity out.old ≤ vec_capacity out.new }
+    ensures quiet { (not asked || children_at records.now.kept.births (is_in records.now.kept.living) argument == 0) ≡ true → IsOk result }
 {
     if !asked {
         return Ok(());
@@ -49,7 +53,7 @@ fn note_children(
 }
 
 // The rules at one argument.
-#[tactic(auto, using(crate::proofs::Reports::three_more, crate::proofs::Quiet::first_holds, crate::proofs::Quiet::second_holds, crate::proofs::Quiet::third_holds))]
+#[tactic(auto, using(crate::proofs::Reports::three_more, crate::proofs::Quiet::first_holds, crate::proofs::Quiet::second_holds, crate::proofs::Quiet::third_holds, crate::proofs::Room::first_fits, crate::proofs::Room::second_fits, crate::proofs::Room::third_fits))]
 fn check_argument(
     records: &ObjectRecords,
     place: u32,
@@ -61,8 +65,10 @@ fn check_argument(
     out: &mut Vec<Finding>,
 ) -> Result<(), NoMemory>
     requires { HasParams call.now }
-    ensures found { OnOk result (reports_of out.new.items ≡ reports_of out.old.items ++ reports_at place records.now call.now.cmd (arguments_of call.now) i (seen_param param.now) k argument) }
-    ensures quiet { reports_at place records.now call.now.cmd (arguments_of call.now) i (seen_param param.now) k argument ≡ [] → IsOk result }
+    ensures found { OnOk result (reports_of out.new.items ≡ reports_of out.old.items ++ reports_at place records.now.kept call.now.cmd (arguments_of call.now) i (seen_param param.now) k argument) }
+    ensures succeeds { length out.old.items + length (reports_at place records.now.kept call.now.cmd (arguments_of call.now) i (seen_param param.now) k argument) ≤ vec_capacity out.old → IsOk result }
+    ensures room { vec_capacity out.old ≤ vec_capacity out.new }
+    ensures quiet { reports_at place records.now.kept call.now.cmd (arguments_of call.now) i (seen_param param.now) k argument ≡ [] → IsOk result }
 {
     let mut finding = Finding {
         place,
@@ -94,7 +100,7 @@ fn count_indexes(call: &LayerCall, i: u8) -> u32
 }
 
 // The rules at the places of a parameter.
-#[tactic(auto, using(object_records::proofs::Loops::places_end, crate::proofs::Quiet::place_quiet))]
+#[tactic(auto, using(object_records::proofs::Loops::places_end, crate::proofs::Quiet::place_quiet, crate::proofs::Room::place_fits))]
 fn check_places(
     records: &ObjectRecords,
     place: u32,
@@ -105,8 +111,10 @@ fn check_places(
 ) -> Result<(), NoMemory>
     requires shape { HasParams call.now }
     requires few { HasFewPlaces call.now }
-    ensures found { OnOk result (reports_of out.new.items ≡ reports_of out.old.items ++ places_from (reports_at place records.now call.now.cmd (arguments_of call.now) i (seen_param param.now)) 0 (list_at (arguments_of call.now) i)) }
-    ensures quiet { places_from (reports_at place records.now call.now.cmd (arguments_of call.now) i (seen_param param.now)) 0 (list_at (arguments_of call.now) i) ≡ [] → IsOk result }
+    ensures found { OnOk result (reports_of out.new.items ≡ reports_of out.old.items ++ places_from (reports_at place records.now.kept call.now.cmd (arguments_of call.now) i (seen_param param.now)) 0 (list_at (arguments_of call.now) i)) }
+    ensures succeeds { length out.old.items + length (places_from (reports_at place records.now.kept call.now.cmd (arguments_of call.now) i (seen_param param.now)) 0 (list_at (arguments_of call.now) i)) ≤ vec_capacity out.old → IsOk result }
+    ensures room { vec_capacity out.old ≤ vec_capacity out.new }
+    ensures quiet { places_from (reports_at place records.now.kept call.now.cmd (arguments_of call.now) i (seen_param param.now)) 0 (list_at (arguments_of call.now) i) ≡ [] → IsOk result }
 {
     for k in 0..count_indexes(call, i) {
         let argument = argument_at(call, i as usize, k as usize);
@@ -127,8 +135,10 @@ fn check_parameters(
     requires shape { HasParams call.now }
     requires few { HasFewPlaces call.now }
     requires row { map seen_param params.now ≡ (row_of call.now.cmd).params }
-    ensures found { OnOk result (reports_of out.new.items ≡ reports_of out.old.items ++ params_from (reports_at place records.now call.now.cmd (arguments_of call.now)) 0 (map seen_param params.now) (arguments_of call.now)) }
-    ensures quiet { params_from (reports_at place records.now call.now.cmd (arguments_of call.now)) 0 (map seen_param params.now) (arguments_of call.now) ≡ [] → IsOk result }
+    ensures found { OnOk result (reports_of out.new.items ≡ reports_of out.old.items ++ params_from (reports_at place records.now.kept call.now.cmd (arguments_of call.now)) 0 (map seen_param params.now) (arguments_of call.now)) }
+    ensures succeeds { length out.old.items + length (params_from (reports_at place records.now.kept call.now.cmd (arguments_of call.now)) 0 (map seen_param params.now) (arguments_of call.now)) ≤ vec_capacity out.old → IsOk result }
+    ensures room { vec_capacity out.old ≤ vec_capacity out.new }
+    ensures quiet { params_from (reports_at place records.now.kept call.now.cmd (arguments_of call.now)) 0 (map seen_param params.now) (arguments_of call.now) ≡ [] → IsOk result }
 {
     let _parameters = count_parameters(call);
     let _most = call.args.len();
@@ -139,7 +149,7 @@ fn check_parameters(
 }
 
 // What is found at a call.
-#[tactic(auto, using(crate::proofs::Reports::found_all, crate::proofs::Reports::quiet_all))]
+#[tactic(auto, using(crate::proofs::Reports::found_all, crate::proofs::Reports::quiet_all, crate::proofs::Room::all_fit))]
 pub(crate) fn check_call(
     records: &ObjectRecords,
     place: u32,
@@ -148,8 +158,10 @@ pub(crate) fn check_call(
 ) -> Result<(), NoMemory>
     requires shape { HasParams call.now }
     requires few { HasFewPlaces call.now }
-    ensures found { OnOk result (reports_of out.new.items ≡ reports_of out.old.items ++ at_place place (life_failures records.now call.now.cmd (arguments_of call.now))) }
-    ensures quiet { at_place place (life_failures records.now call.now.cmd (arguments_of call.now)) ≡ [] → IsOk result }
+    ensures found { OnOk result (reports_of out.new.items ≡ reports_of out.old.items ++ at_place place (life_failures records.now.kept call.now.cmd (arguments_of call.now))) }
+    ensures succeeds { length out.old.items + length (at_place place (life_failures records.now.kept call.now.cmd (arguments_of call.now))) ≤ vec_capacity out.old → IsOk result }
+    ensures room { vec_capacity out.old ≤ vec_capacity out.new }
+    ensures quiet { at_place place (life_failures records.now.kept call.now.cmd (arguments_of call.now)) ≡ [] → IsOk result }
 {
     check_parameters(records, place, call, row(call.cmd).params, out)?;
     Ok(())

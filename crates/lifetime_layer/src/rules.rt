@@ -23,7 +23,7 @@ fn are_one(a: Option<Object>, b: Option<Object>) -> bool
 // Whether an object has the device of the first argument.
 fn has_same_device(records: &ObjectRecords, call: &LayerCall, object: Object) -> bool
     requires { HasParams call.now }
-    ensures { result ≡ owner_holds records.now.births (arguments_of call.now) OwnerMark.Device object }
+    ensures { result ≡ owner_holds records.now.kept.births (arguments_of call.now) OwnerMark.Device object }
 {
     match first_argument(call, 0) {
         None => false,
@@ -34,7 +34,7 @@ fn has_same_device(records: &ObjectRecords, call: &LayerCall, object: Object) ->
 // Whether an object has the owner that its parameter's mark asks for.
 fn has_owner(records: &ObjectRecords, call: &LayerCall, mark: OwnerMark, object: Object) -> bool
     requires { HasParams call.now }
-    ensures { result ≡ owner_holds records.now.births (arguments_of call.now) mark object }
+    ensures { result ≡ owner_holds records.now.kept.births (arguments_of call.now) mark object }
 {
     match mark {
         OwnerMark::None => true,
@@ -45,7 +45,7 @@ fn has_owner(records: &ObjectRecords, call: &LayerCall, mark: OwnerMark, object:
 
 // The rule on parameters: a living object, or a null that is allowed.
 pub(crate) fn is_valid(records: &ObjectRecords, optional: bool, argument: Argument) -> bool
-    ensures { (p : ParamSpec) → p.optional ≡ optional → result ≡ parameter_holds (is_in records.now.living) p argument }
+    ensures { (p : ParamSpec) → p.optional ≡ optional → result ≡ parameter_holds (is_in records.now.kept.living) p argument }
 {
     match argument {
         Argument::Null => optional,
@@ -62,7 +62,7 @@ pub(crate) fn has_parent(
     argument: Argument,
 ) -> bool
     requires { HasParams call.now }
-    ensures { (p : ParamSpec) → p.owner ≡ mark → result ≡ parent_holds records.now.births (is_in records.now.living) (arguments_of call.now) p argument }
+    ensures { (p : ParamSpec) → p.owner ≡ mark → result ≡ parent_holds records.now.kept.births (is_in records.now.kept.living) (arguments_of call.now) p argument }
 {
     match argument {
         Argument::Null | Argument::Unborn => true,
@@ -74,7 +74,7 @@ pub(crate) fn has_parent(
 
 // How many living children the argument's object has.
 pub(crate) fn count_children(records: &ObjectRecords, argument: Argument) -> usize
-    ensures { result ≡ children_at records.now.births (is_in records.now.living) argument }
+    ensures { result ≡ children_at records.now.kept.births (is_in records.now.kept.living) argument }
 {
     match argument {
         Argument::Null | Argument::Unborn => 0,

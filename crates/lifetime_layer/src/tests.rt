@@ -561,3 +561,53 @@ fn a_lost_result_makes_nothing(rt: HostRuntime) -> Result<(), Fail> {
     assert_eq!(rt; state.live_count(), 5);
     Ok(())
 }
+
+// A part's copy stands at its place, and goes on by itself.
+#[test]
+fn a_copy_goes_on_by_itself(rt: HostRuntime) -> Result<(), Fail> {
+    let alloc = rt.alloc();
+    let mut state = with_devices(alloc)?;
+    make(alloc, &mut state, CommandId::CreateBuffer, &[&[3]], 10)?;
+    let mut copy = state.copy().ok().ok_or("memory")?;
+    copy.reserve(4).ok().ok_or("memory")?;
+    assert_eq!(rt; copy.live_count(), state.live_count());
+    make(
+        alloc,
+        &mut copy,
+        CommandId::DestroyBuffer,
+        &[&[3], &[10]],
+        0,
+    )?;
+    let wrong = [finding(1, 0, Rule::Parameter, 0)];
+    assert!(rt;
+        is_found(
+            alloc,
+            &mut copy,
+            CommandId::DestroyBuffer,
+            &[&[3], &[10]],
+            &wrong
+        )?
+    );
+    assert!(rt;
+        is_found(
+            alloc,
+            &mut state,
+            CommandId::DestroyBuffer,
+            &[&[3], &[10]],
+            &[]
+        )?
+    );
+    Ok(())
+}
+
+// Findings of verdicts with room for none, for a few and for many.
+#[test]
+fn a_verdict_with_room(rt: HostRuntime) -> Result<(), Fail> {
+    for room in [0usize, 3, 5000] {
+        let mut verdict = Verdict::with_room(rt.alloc(), room).ok().ok_or("memory")?;
+        assert!(rt; verdict.findings.is_empty() && !verdict.skip);
+        verdict.findings.push(finding(1, 2, Rule::Parent, 0))?;
+        assert_eq!(rt; verdict.findings.len(), 1);
+    }
+    Ok(())
+}

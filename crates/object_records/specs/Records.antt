@@ -9,10 +9,16 @@ use Rattle.object_model.specs.declared.Argument.{Argument}
 use Rattle.object_model.specs.declared.Object.{Object}
 use Rattle.object_model.specs.Objects.{is_in}
 use Rattle.object_model.specs.History.{Birth, born_in, ends_by, is_owned_by, owners_in}
+use Rattle.layer_model.specs.Parts.{LifeModel}
 use Rattle.layer_model.specs.Reading.{read_results}
 use Rattle.object_records.specs.declared.kept_owner.KeptOwner.{KeptOwner}
 use Rattle.object_records.specs.declared.kept_owner.KeptOwner.TheVariants.{Nobody, At, Unborn}
 use Rattle.object_records.specs.declared.record.ObjectRecord.{ObjectRecord}
+
+-- what is kept of objects, and how many further ones can be born with no further memory
+pub record KeptObjects : Type 0 where
+  pub kept : LifeModel
+  pub spare : ℕ
 
 -- the owner that is kept, with its own owners as they stand in these births
 abbrev pub line_kept : List Birth → KeptOwner → List Object

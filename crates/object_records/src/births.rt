@@ -85,7 +85,8 @@ pub(crate) fn add_births(
     requires room { length results.now ≤ table.old.spare }
     requires within { before_owned owner ≤ length table.old.records }
     requires once { AreNewOnce (births_kept table.old.records) (read_results ty results.now) }
-    ensures { table.new.records ≡ table.old.records ++ new_records is_created owner (births_kept table.old.records) ty results.now }
+    ensures records { table.new.records ≡ table.old.records ++ new_records is_created owner (births_kept table.old.records) ty results.now }
+    ensures spare { table.old.spare ≤ table.new.spare + length results.now }
 {
     for k in 0..results.len() {
         add_birth(table, is_created, owner, ty, results[k]);

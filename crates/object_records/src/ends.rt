@@ -115,6 +115,7 @@ fn end_one(table: &mut RecordTable, effect: Effect, call: &LayerCall, place: usi
     requires place { place < length table.old.records }
     ensures records { table.new.records ≡ (if result then ended_at table.old.records place else table.old.records) }
     ensures ends { EndsThere table.old.records place (ends_by (births_kept table.old.records) (arguments_of call.now) effect) result }
+    ensures spare { table.new.spare ≡ table.old.spare }
 {
     let kept = table.record(place);
     if !kept.lives {
@@ -132,6 +133,7 @@ fn end_among_all(table: &mut RecordTable, effect: Effect, call: &LayerCall) -> u
     requires { HasParams call.now }
     ensures records { table.new.records ≡ swept (ends_by (births_kept table.old.records) (arguments_of call.now) effect) (length table.old.records) table.old.records }
     ensures count { result + length (living_kept table.new.records) ≡ length (living_kept table.old.records) }
+    ensures spare { table.new.spare ≡ table.old.spare }
 {
     let mut ended: usize = 0;
     for i in 0..table.len() {
@@ -157,7 +159,8 @@ fn is_front(table: &RecordTable, place: usize, above: usize) -> bool
 // Further walks pass over the record at a place, where they pass over all before it that has the same owner.
 fn pass_front(table: &mut RecordTable, place: usize)
     requires { place < length table.old.records }
-    ensures { table.new.records ≡ table.old.records }
+    ensures records { table.new.records ≡ table.old.records }
+    ensures spare { table.new.spare ≡ table.old.spare }
 {
     let _count = table.len();
     let kept = table.record(place);
@@ -180,6 +183,7 @@ fn end_record(table: &mut RecordTable, place: usize) -> usize
     requires { place < length table.old.records }
     ensures records { (ends : Object → Bool) → PassesOnly table.old.records place ends → table.new.records ≡ swept ends (length table.old.records) table.old.records }
     ensures count { result + length (living_kept table.new.records) ≡ length (living_kept table.old.records) }
+    ensures spare { table.new.spare ≡ table.old.spare }
 {
     let kept = table.record(place);
     if !kept.lives {
@@ -202,7 +206,8 @@ fn are_leaves_with(table: &RecordTable, are_leaves: bool, place: usize) -> bool
 fn pass_leaves(table: &mut RecordTable, are_leaves: bool, place: usize)
     requires place { place < length table.old.records }
     requires passed { are_leaves ≡ true → IsPassed table.old.records place (length table.old.records) }
-    ensures { table.new.records ≡ table.old.records }
+    ensures records { table.new.records ≡ table.old.records }
+    ensures spare { table.new.spare ≡ table.old.spare }
 {
     if are_leaves {
         table.pass_over(place, table.len());
@@ -216,6 +221,7 @@ fn end_below(table: &mut RecordTable, place: usize) -> usize
     requires born { has_strays_in table.old.records ≡ false }
     ensures records { IsEndedBelow table.old.records place table.new.records }
     ensures count { result + length (living_kept table.new.records) ≡ length (living_kept table.old.records) }
+    ensures spare { table.new.spare ≡ table.old.spare }
 {
     let _count = table.len();
     let passed = table.passed(place);
@@ -238,6 +244,7 @@ fn end_owned(table: &mut RecordTable, owner: Object) -> usize
     requires { has_strays_in table.old.records ≡ false }
     ensures records { table.new.records ≡ swept (λ o. is_in (owners_in (births_kept table.old.records) o) owner) (length table.old.records) table.old.records }
     ensures count { result + length (living_kept table.new.records) ≡ length (living_kept table.old.records) }
+    ensures spare { table.new.spare ≡ table.old.spare }
 {
     match table.place_of(owner) {
         None => 0,
@@ -250,6 +257,7 @@ fn end_named(table: &mut RecordTable, named: Object) -> usize
     requires { has_strays_in table.old.records ≡ false }
     ensures records { table.new.records ≡ swept (λ o. ends_with (births_kept table.old.records) o named) (length table.old.records) table.old.records }
     ensures count { result + length (living_kept table.new.records) ≡ length (living_kept table.old.records) }
+    ensures spare { table.new.spare ≡ table.old.spare }
 {
     let _count = table.len();
     if !is_created(table, named) {
@@ -268,6 +276,7 @@ fn end_owned_by_argument(table: &mut RecordTable, a: Argument) -> usize
     requires { has_strays_in table.old.records ≡ false }
     ensures records { table.new.records ≡ swept (λ o. option_map_or (is_in (owners_in (births_kept table.old.records) o)) (object_of a) false) (length table.old.records) table.old.records }
     ensures count { result + length (living_kept table.new.records) ≡ length (living_kept table.old.records) }
+    ensures spare { table.new.spare ≡ table.old.spare }
 {
     match object_of(a) {
         None => 0,
@@ -279,6 +288,7 @@ fn end_argument(table: &mut RecordTable, a: Argument) -> usize
     requires { has_strays_in table.old.records ≡ false }
     ensures records { table.new.records ≡ swept (λ o. option_map_or (ends_with (births_kept table.old.records) o) (object_of a) false) (length table.old.records) table.old.records }
     ensures count { result + length (living_kept table.new.records) ≡ length (living_kept table.old.records) }
+    ensures spare { table.new.spare ≡ table.old.spare }
 {
     match object_of(a) {
         None => 0,
@@ -292,6 +302,7 @@ fn end_all_owned(table: &mut RecordTable, call: &LayerCall, p: usize) -> usize
     requires born { has_strays_in table.old.records ≡ false }
     ensures records { table.new.records ≡ swept (λ o. list_any (is_in (owners_in (births_kept table.old.records) o)) (objects_in (arguments_of call.now) p)) (length table.old.records) table.old.records }
     ensures count { result + length (living_kept table.new.records) ≡ length (living_kept table.old.records) }
+    ensures spare { table.new.spare ≡ table.old.spare }
 {
     let _count = table.len();
     let mut ended: usize = 0;
@@ -307,6 +318,7 @@ fn end_all_named(table: &mut RecordTable, call: &LayerCall, p: usize) -> usize
     requires born { has_strays_in table.old.records ≡ false }
     ensures records { table.new.records ≡ swept (λ o. list_any (ends_with (births_kept table.old.records) o) (objects_in (arguments_of call.now) p)) (length table.old.records) table.old.records }
     ensures count { result + length (living_kept table.new.records) ≡ length (living_kept table.old.records) }
+    ensures spare { table.new.spare ≡ table.old.spare }
 {
     let _count = table.len();
     let mut ended: usize = 0;
@@ -322,6 +334,7 @@ pub(crate) fn end_objects(table: &mut RecordTable, effect: Effect, call: &LayerC
     requires { HasParams call.now }
     ensures records { table.new.records ≡ swept (ends_by (births_kept table.old.records) (arguments_of call.now) effect) (length table.old.records) table.old.records }
     ensures count { result + length (living_kept table.new.records) ≡ length (living_kept table.old.records) }
+    ensures spare { table.new.spare ≡ table.old.spare }
 {
     if table.has_strays() {
         return end_among_all(table, effect, call);

@@ -1,5 +1,5 @@
 //! Records in order of birth, each found by its object's type and handle.
-ghost use Rattle.std.specs.Prelude.{◌≡◌, ◌≤◌, ◌<◌, ◌+◌, ◌++◌, ◌∷◌, [], length, slice_get, OnOk, Some, None};
+ghost use Rattle.std.specs.Prelude.{◌≡◌, ◌≤◌, ◌<◌, ◌+◌, ◌++◌, ◌∷◌, [], length, slice_get, IfOk, IsOk, OnOk, Some, None};
 ghost use Rattle.object_records.specs.Links.{IsPrevious, child_count, has_strays_in, last_link};
 ghost use Rattle.object_records.specs.Passed.{IsPassed};
 ghost use Rattle.object_records.specs.Queues.{queues_seen};
@@ -88,12 +88,31 @@ impl RecordTable {
         self.records[place]
     }
 
-    /// Makes room for so many further records.
+    /// Records of their own, the same.
+    pub fn copy(&self) -> Result<RecordTable, NoMemory>
+        ensures { IfOk result (λ table. table.records ≡ self.now.records) }
+    {
+        let alloc = *self.records.allocator();
+        Ok(RecordTable {
+            records: Vec::from_slice(alloc, &self.records)?,
+            index: self.index.copy()?,
+            links: Vec::from_slice(alloc, &self.links)?,
+            queues: Vec::from_slice(alloc, &self.queues)?,
+            passed: Vec::from_slice(alloc, &self.passed)?,
+            has_strays: self.has_strays,
+        })
+    }
+
+    /// Makes room for so many further records. Takes no memory where there is room.
     pub fn reserve(&mut self, n: usize) -> Result<(), NoMemory>
         ensures records { self.new.records ≡ self.old.records }
         ensures ok { OnOk result (n ≤ self.new.spare) }
         ensures spare { self.old.spare ≤ self.new.spare }
+        ensures succeeds { n ≤ self.old.spare → IsOk result }
     {
+        if n == 0 {
+            return Ok(());
+        }
         self.records.reserve(n)?;
         self.links.reserve(n)?;
         self.queues.reserve(n)?;

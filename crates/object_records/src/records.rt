@@ -1,5 +1,5 @@
 //! What a checking part keeps of the objects that it was told of.
-ghost use Rattle.std.specs.Prelude.{◌≡◌, ◌++◌, [], filter, length, map, OnErr, OnOk};
+ghost use Rattle.std.specs.Prelude.{◌≡◌, ◌≤◌, ◌+◌, ◌++◌, [], filter, length, map, IfOk, IsOk, OnErr, OnOk};
 ghost use Rattle.command_tables.specs.Table.{row_of};
 ghost use Rattle.command_tables.specs.Tests.{same_type};
 ghost use Rattle.object_model.specs.Objects.{is_in};
@@ -19,6 +19,7 @@ use std::alloc::Global;
 use std::marker::Model;
 
 /// The objects that were born, each known by its type and its handle, with their owners, and which of them live; the oldest first.
+/// Contracts see besides how many further ones can be born with no further memory.
 #[derive(Drop)]
 pub struct ObjectRecords {
     table: RecordTable,
@@ -27,12 +28,11 @@ pub struct ObjectRecords {
 
 impl Model for ObjectRecords {
     ghost use Rattle.std.specs.Prelude.{◌≡◌, length};
-    ghost use Rattle.layer_model.specs.Parts.{LifeModel};
-    ghost use Rattle.object_records.specs.Records.{births_kept, living_kept};
+    ghost use Rattle.object_records.specs.Records.{KeptObjects, births_kept, living_kept};
 
-    ghost Value = { LifeModel };
+    ghost Value = { KeptObjects };
 
-    ghost view = { λ s. record { births = births_kept s.table.records; living = living_kept s.table.records } };
+    ghost view = { λ s. record { kept = record { births = births_kept s.table.records; living = living_kept s.table.records }; spare = s.table.spare } };
 
     ghost invariant = { λ s. s.live_count ≡ length (living_kept s.table.records) };
 }
@@ -40,8 +40,8 @@ impl Model for ObjectRecords {
 impl ObjectRecords {
     /// No object was born yet.
     pub fn new(alloc: Global) -> ObjectRecords
-        ensures births { result.births ≡ [] }
-        ensures living { result.living ≡ [] }
+        ensures births { result.kept.births ≡ [] }
+        ensures living { result.kept.living ≡ [] }
     {
         ObjectRecords {
             table: RecordTable::new(alloc),
@@ -49,44 +49,63 @@ impl ObjectRecords {
         }
     }
 
+    /// Records of their own, the same. Of room nothing is said.
+    pub fn copy(&self) -> Result<ObjectRecords, NoMemory>
+        ensures { IfOk result (λ records. records.kept ≡ self.now.kept) }
+    {
+        Ok(ObjectRecords {
+            table: self.table.copy()?,
+            live_count: self.live_count,
+        })
+    }
+
+    /// Makes room for the births of so many further objects. After `NoMemory` what is kept is as before, and no room is lost.
+    pub fn reserve(&mut self, births: usize) -> Result<(), NoMemory>
+        ensures kept { self.new.kept ≡ self.old.kept }
+        ensures ok { OnOk result (births ≤ self.new.spare) }
+        ensures spare { self.old.spare ≤ self.new.spare }
+    {
+        self.table.reserve(births)
+    }
+
     /// Whether an object was born, by a creation or a retrieval.
     pub fn is_born(&self, object: Object) -> bool
-        ensures { result ≡ born_in self.now.births object }
+        ensures { result ≡ born_in self.now.kept.births object }
     {
         look_ups::is_born(&self.table, object)
     }
 
     /// Whether an object was born and no call has ended it.
     pub fn is_alive(&self, object: Object) -> bool
-        ensures { result ≡ is_in self.now.living object }
+        ensures { result ≡ is_in self.now.kept.living object }
     {
         look_ups::is_alive(&self.table, object)
     }
 
     /// Whether a call created an object.
     pub fn is_created(&self, object: Object) -> bool
-        ensures { result ≡ created_in self.now.births object }
+        ensures { result ≡ created_in self.now.kept.births object }
     {
         look_ups::is_created(&self.table, object)
     }
 
     /// The owner of an object, if it has one.
     pub fn owner(&self, object: Object) -> Option<Object>
-        ensures { result ≡ owner_in self.now.births object }
+        ensures { result ≡ owner_in self.now.kept.births object }
     {
         look_ups::owner_of(&self.table, object)
     }
 
     /// The device of an object: the object itself if it is a device, else the device among its owners.
     pub fn device(&self, object: Object) -> Option<Object>
-        ensures { result ≡ device_in self.now.births object }
+        ensures { result ≡ device_in self.now.kept.births object }
     {
         look_ups::device_of(&self.table, object)
     }
 
     /// How many created objects live whose owner is this object; what these own isn't counted.
     pub fn count_children(&self, object: Object) -> usize
-        ensures { result ≡ length (children_in self.now.births (is_in self.now.living) object) }
+        ensures { result ≡ length (children_in self.now.kept.births (is_in self.now.kept.living) object) }
     {
         look_ups::count_children(&self.table, object)
     }
@@ -99,7 +118,7 @@ impl ObjectRecords {
         owner: Object,
         out: &mut Vec<Object>,
     ) -> Result<(), NoMemory>
-        ensures { OnOk result (out.new.items ≡ out.old.items ++ owned_in self.now.births ty owner) }
+        ensures { OnOk result (out.new.items ≡ out.old.items ++ owned_in self.now.kept.births ty owner) }
     {
         queues::list_owned(&self.table, ty, owner, out)
     }
@@ -112,14 +131,14 @@ impl ObjectRecords {
         owner: Object,
         out: &mut Vec<Object>,
     ) -> Result<(), NoMemory>
-        ensures { OnOk result (out.new.items ≡ out.old.items ++ filter (λ o. is_in self.now.living o) (owned_in self.now.births ty owner)) }
+        ensures { OnOk result (out.new.items ≡ out.old.items ++ filter (λ o. is_in self.now.kept.living o) (owned_in self.now.kept.births ty owner)) }
     {
         living::list_living(&self.table, ty, owner, out)
     }
 
     /// How many objects live.
     pub fn live_count(&self) -> usize
-        ensures { result ≡ length self.now.living }
+        ensures { result ≡ length self.now.kept.living }
     {
         self.live_count
     }
@@ -127,7 +146,8 @@ impl ObjectRecords {
     /// Takes in a call that isn't skipped: what it ends lives no longer. Takes no memory.
     pub fn end(&mut self, call: &LayerCall)
         requires { HasParams call.now }
-        ensures { self.new ≡ life_passed self.old call.now.cmd (arguments_of call.now) }
+        ensures kept { self.new.kept ≡ life_passed self.old.kept call.now.cmd (arguments_of call.now) }
+        ensures spare { self.new.spare ≡ self.old.spare }
     {
         let effect = row(call.cmd).effect;
         if !may_end(effect) {
@@ -146,10 +166,12 @@ impl ObjectRecords {
         results: &[u64],
     ) -> Result<(), NoMemory>
         requires shape { HasParams call.now }
-        requires once { AreNewOnce self.old.births (read_results ty results.now) }
-        ensures births { OnOk result (self.new.births ≡ self.old.births ++ births_of self.old.births is_created (owners_given self.old.births (arguments_of call.now) owner) (read_results ty results.now)) }
-        ensures living { OnOk result (self.new.living ≡ self.old.living ++ map (λ b. b.object) (births_of self.old.births is_created (owners_given self.old.births (arguments_of call.now) owner) (read_results ty results.now))) }
-        ensures err { OnErr result (self.new ≡ self.old) }
+        requires once { AreNewOnce self.old.kept.births (read_results ty results.now) }
+        ensures births { OnOk result (self.new.kept.births ≡ self.old.kept.births ++ births_of self.old.kept.births is_created (owners_given self.old.kept.births (arguments_of call.now) owner) (read_results ty results.now)) }
+        ensures living { OnOk result (self.new.kept.living ≡ self.old.kept.living ++ map (λ b. b.object) (births_of self.old.kept.births is_created (owners_given self.old.kept.births (arguments_of call.now) owner) (read_results ty results.now))) }
+        ensures err { OnErr result (self.new.kept ≡ self.old.kept) }
+        ensures succeeds { length results.now ≤ self.old.spare → IsOk result }
+        ensures spare { self.old.spare ≤ self.new.spare + length results.now }
     {
         self.table.reserve(results.len())?;
         let owner = owner_for(&self.table, owner, call);
@@ -159,12 +181,15 @@ impl ObjectRecords {
         Ok(())
     }
 
-    /// Takes in the results of a call: each that isn't 0 and wasn't born is born and lives. After `NoMemory` all is as it was.
+    /// Takes in the results of a call: each that isn't 0 and wasn't born is born and lives. After `NoMemory`, which comes only where there
+    /// was no room for so many births, all is as it was.
     pub fn bear(&mut self, call: &LayerCall, results: &[u64]) -> Result<(), NoMemory>
         requires shape { HasParams call.now }
-        requires once { AreNewOnce self.old.births (made_of call.now results.now) }
-        ensures ok { OnOk result (self.new ≡ life_leave self.old call.now.cmd (arguments_of call.now) (made_of call.now results.now)) }
-        ensures err { OnErr result (self.new ≡ self.old) }
+        requires once { AreNewOnce self.old.kept.births (made_of call.now results.now) }
+        ensures ok { OnOk result (self.new.kept ≡ life_leave self.old.kept call.now.cmd (arguments_of call.now) (made_of call.now results.now)) }
+        ensures err { OnErr result (self.new.kept ≡ self.old.kept) }
+        ensures succeeds { length results.now ≤ self.old.spare → IsOk result }
+        ensures spare { self.old.spare ≤ self.new.spare + length results.now }
     {
         match row(call.cmd).effect {
             Effect::Create { ty, owner, .. } => self.bear_results(true, owner, ty, call, results),

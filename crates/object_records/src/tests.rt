@@ -6,6 +6,7 @@ use crate::{ObjectRecords, argument_at, count_places, first_argument};
 use command_tables::{CommandId, LayerCall, ObjectType, row};
 use object_model::{Argument, Object};
 use std::alloc::Global;
+use std::process::Abort;
 use std::test::Fail;
 
 // A call with these handles in each of its parameters.
@@ -553,4 +554,40 @@ fn what_is_born_below_a_dead_pool_ends_with_the_device(rt: HostRuntime) -> Resul
     assert!(rt; !records.is_alive(OTHER_SET));
     assert_eq!(rt; records.live_count(), 2);
     Ok(())
+}
+
+// Records with so many buffers, and their copy, which goes on by itself.
+fn copy_goes_on(rt: &impl Abort, alloc: Global, buffers: u64) -> Result<(), Fail> {
+    let mut records = with_device(alloc)?;
+    records.reserve(3).ok().ok_or("memory")?;
+    for k in 0..buffers {
+        bear(
+            alloc,
+            &mut records,
+            CommandId::CreateBuffer,
+            &[&[3]],
+            k + 10,
+        )?;
+    }
+    let born = records.live_count();
+    let mut copy = records.copy().ok().ok_or("memory")?;
+    copy.reserve(1).ok().ok_or("memory")?;
+    assert_eq!(rt; copy.live_count(), born);
+    assert_eq!(rt; copy.owner(DEVICE), Some(PHYSICAL_DEVICE));
+    assert_eq!(rt; copy.count_children(DEVICE) as u64, buffers);
+    bear(alloc, &mut copy, CommandId::CreateBuffer, &[&[3]], 9)?;
+    end(alloc, &mut copy, CommandId::DestroyDevice, &[&[3]])?;
+    assert_eq!(rt; copy.live_count(), 2);
+    assert_eq!(rt; records.live_count(), born);
+    assert_eq!(rt; records.count_children(DEVICE) as u64, buffers);
+    assert!(rt; records.is_alive(DEVICE));
+    Ok(())
+}
+
+#[test]
+fn copies_of_all_sizes(rt: HostRuntime) -> Result<(), Fail> {
+    let alloc = rt.alloc();
+    copy_goes_on(&rt, alloc, 0)?;
+    copy_goes_on(&rt, alloc, 3)?;
+    copy_goes_on(&rt, alloc, 1000)
 }

@@ -15,7 +15,7 @@ use Rattle.object_model.specs.declared.Object.{Object}
 use Rattle.object_model.specs.Objects.{are_same, same}
 use Rattle.handle_map.specs.Pairs.{MapEntry, is_pair, with_values}
 use Rattle.layer_model.specs.Ids.{Key, KeptId, has_key, kept_id}
-use Rattle.layer_model.proofs.Same.{and_true, same_is, type_is, type_self}
+use Rattle.layer_model.proofs.Same.{and_true, type_is, type_self}
 use Rattle.terminator.specs.declared.key.RetrievedKey.{RetrievedKey}
 use Rattle.terminator.specs.declared.entry.KeptEntry.{KeptEntry}
 use Rattle.terminator.specs.Chains.{AreChained, AreLatest, AreLinked, HavePayloads, IsLink, first_link, is_owner, latest_in, link_of, with_link}

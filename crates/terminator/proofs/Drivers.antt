@@ -1,5 +1,5 @@
 -- The drivers of a call, by their places.
-use Rattle.std.proofs.Common.{◌≡◌, ◌<◌, ◌+◌, ℕ, zero, suc, length, get_or, refl, sym, ◌∙◌, arith, ap}
+use Rattle.std.proofs.Common.{◌≡◌, ◌<◌, ◌+◌, ℕ, zero, suc, length, get_or, refl, ◌∙◌, arith, ap}
 use Rattle.std.specs.List.{range_with_len}
 
 count_from : (a n : ℕ) → length (range_with_len a n) ≡ n

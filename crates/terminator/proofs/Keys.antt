@@ -1,14 +1,13 @@
 -- By what a call retrieves.
-use Rattle.std.proofs.Common.{◌≡◌, ℕ, List, refl, ap, sym, ◌∙◌, map, Option}
+use Rattle.std.proofs.Common.{◌≡◌, ℕ, List, refl, ap, ◌∙◌, map, Option}
 use Rattle.command_tables.specs.declared.types.CommandId.{CommandId}
 use Rattle.command_tables.specs.declared.types.Effect.{Effect}
 use Rattle.command_tables.specs.declared.types.Effect.TheVariants as eff
 use Rattle.command_tables.specs.declared.types.Row.{Row}
 use Rattle.command_tables.specs.declared.call.LayerCall.{LayerCall}
 use Rattle.command_tables.specs.Calls.{call_content}
-use Rattle.command_tables.specs.Table.{ParamSpec, RowSpec, row_of, seen, seen_param}
+use Rattle.command_tables.specs.Table.{RowSpec, row_of, seen, seen_param}
 use Rattle.object_model.specs.declared.Argument.{Argument}
-use Rattle.object_model.specs.declared.Object.{Object}
 use Rattle.object_model.specs.Keys.{key_payload}
 use Rattle.object_model.specs.Objects.{first_in}
 use Rattle.layer_model.specs.Ids.{Key}

@@ -1,5 +1,5 @@
 -- Each kept id was issued.
-use Rattle.std.proofs.Common.{◌≡◌, ◌==◌, ◌&&◌, ◌||◌, ℕ, Bool, true, false, cond, Option, Some, None, List, [], ◌∷◌, ◌++◌, refl, ap, sym, ◌∙◌, subst}
+use Rattle.std.proofs.Common.{◌≡◌, ◌==◌, ◌&&◌, ◌||◌, ℕ, Bool, true, false, cond, Option, Some, None, List, [], ◌∷◌, ◌++◌, refl, ap, sym, ◌∙◌}
 use Rattle.std.proofs.lemmas.Bool.{eq-eqb}
 use Rattle.std.specs.List.{find, list_all}
 use Rattle.std.specs.Option.{option_map}
@@ -8,7 +8,7 @@ use Rattle.std.specs.Str.{bytes_eq}
 use Rattle.command_tables.specs.declared.types.ObjectType.{ObjectType}
 use Rattle.command_tables.specs.Tests.{same_type}
 use Rattle.handle_map.specs.Pairs.{MapEntry, has_pair, is_pair, with_values}
-use Rattle.layer_model.specs.Ids.{Key, KeptId, has_key, keep_new, kept_for, kept_id}
+use Rattle.layer_model.specs.Ids.{Key, KeptId, has_key, kept_for, kept_id}
 use Rattle.layer_model.proofs.Same.{and_true, type_is, type_self}
 use Rattle.object_model.specs.Objects.{are_same}
 use Rattle.object_model.specs.Values.{Value}

@@ -14,7 +14,6 @@ use Rattle.command_tables.specs.Facts.{is_dispatchable}
 use Rattle.command_tables.specs.Table.{row_of}
 use Rattle.command_tables.specs.Tests.{same_command, same_type}
 use Rattle.object_model.specs.declared.Argument.{Argument}
-use Rattle.object_model.specs.declared.Object.{Object}
 use Rattle.object_model.specs.declared.Routed.{Routed}
 use Rattle.object_model.specs.Routes.{driver_behind, is_routed}
 use Rattle.object_model.specs.Values.{Answered, Value}

@@ -14,17 +14,17 @@ use Rattle.command_tables.specs.Effects.{type_made}
 use Rattle.command_tables.specs.Table.{ParamSpec, row_of}
 use Rattle.command_tables.specs.Tests.{same_command, same_type}
 use Rattle.handle_map.specs.Pairs.{MapEntry, has_pair, is_pair, values_of, with_values}
-use Rattle.layer_model.specs.Ids.{IdMap, Issued, IssuedAll, Key, KeptId, at_key, has_key, is_wrapped, issue, issue_all, issue_where, keep_new, kept_for, kept_id, next_id}
+use Rattle.layer_model.specs.Ids.{IdMap, IssuedAll, Key, KeptId, at_key, has_key, is_wrapped, issue, issue_all, issue_where, keep_new, kept_for, kept_id, next_id}
 use Rattle.layer_model.specs.Parts.{key_read}
 use Rattle.layer_model.specs.Reading.{read_call}
 use Rattle.layer_model.specs.Routes.{add_route, drivers_at, has_route, route_all, routes_then}
-use Rattle.layer_model.specs.Terminator.{plain_handle, terminator_leave, terminator_results, told_call, told_handles, told_params, values_from}
-use Rattle.model_driver.specs.Driver.{FitsAsked, FitsParam, FitsRow, HasShape}
+use Rattle.layer_model.specs.Terminator.{plain_handle, terminator_results, told_call, told_handles, told_params, values_from}
+use Rattle.model_driver.specs.Driver.{FitsAsked, FitsRow, HasShape}
 use Rattle.object_model.specs.declared.Object.{Object}
 use Rattle.object_model.specs.declared.Routed.{Routed}
 use Rattle.object_model.specs.Objects.{first_in, same}
 use Rattle.object_model.specs.Routes.{driver_behind, driver_in, is_routed, receivers}
-use Rattle.object_model.specs.Values.{Answered, Value, asked_of_each, value_for}
+use Rattle.object_model.specs.Values.{Value, asked_of_each, value_for}
 use Rattle.terminator.specs.Calls.{FitsCall, TerminatorState, answered, born_where, drivers_for, is_settled, left_by, routes_left}
 
 -- ---- in general

@@ -1,14 +1,20 @@
 -- Calls that are told one by one.
-use Rattle.std.proofs.Common.{◌≡◌, ◌<◌, ◌≤◌, ℕ, suc, ◌+◌, List, [], ◌∷◌, ◌++◌, map, length, take, set, get_or, refl, ap, sym, ◌∙◌, arith, add-one}
-use Rattle.std.proofs.Math.ListN.{length-set}
+use Rattle.std.proofs.Common.{◌≡◌, ◌<◌, ◌≤◌, ℕ, ◌+◌, List, [], ◌∷◌, ◌++◌, map, length, take, set, get_or, ap, sym, ◌∙◌, arith, add-one}
 use Rattle.std.proofs.Math.Seq.{take-suc-set}
 use Rattle.std.proofs.lemmas.List.{map-append, take_all, take_more}
+use Rattle.std.specs.Prelude.{slice_get, unwrap_or}
 use Rattle.command_tables.specs.Calls.{CallContent, DriverCallContent}
 use Rattle.layer_model.specs.Ids.{IdMap}
 use Rattle.layer_model.specs.Terminator.{told_call}
 use Rattle.model_driver.specs.declared.driver.DriverCall.{DriverCall}
 use Rattle.model_driver.specs.Driver.{call_shown}
 use Rattle.object_model.specs.Values.{Value}
+
+-- the call of one driver
+pub told_one : (m : IdMap (List Value)) (c : CallContent) (ds named : List ℕ) (driver : ℕ) (told : DriverCallContent) → length ds ≡ 1 → named ≡ ds → driver ≡ unwrap_or (slice_get named 0) 0 → told ≡ told_call m c driver → map (told_call m c) ds ≡ told ∷ []
+told_one m c [] named driver told one same first is = absurd (omega (arith, one))
+told_one m c (d ∷ []) named driver told one same first is = ap (λ n. told_call m c n ∷ []) (sym (first ∙ ap (λ ns. unwrap_or (slice_get ns 0) 0) same)) ∙ ap (λ x. x ∷ []) (sym is)
+told_one m c (d ∷ e ∷ ds) named driver told one same first is = absurd (omega (arith, one))
 
 -- one call more
 pub told_more : (m : IdMap (List Value)) (c : CallContent) (ds : List ℕ) (out : List DriverCall) (k : ℕ) (told : DriverCall) → k < length out → length out ≡ length ds → map call_shown (take k out) ≡ map (told_call m c) (take k ds) → call_shown told ≡ told_call m c (get_or ds k 0)

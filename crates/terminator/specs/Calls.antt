@@ -1,5 +1,5 @@
 -- What the terminator keeps, as contracts see it; the calls that it tells, and what it makes of their replies. Source: this project.
-use Rattle.std.specs.Prelude.{◌≡◌, ℕ, Bool, true, not, ◌||◌, ◌==◌, Option, Some, None, List, [], map}
+use Rattle.std.specs.Prelude.{ℕ, Bool, true, not, ◌||◌, ◌==◌, Option, Some, None, List, [], map}
 use Rattle.std.specs.List.{zip}
 use Rattle.command_tables.specs.Calls.{CallContent, DriverCallContent, ReplyContent}
 use Rattle.command_tables.specs.Effects.{type_made}
@@ -8,10 +8,8 @@ use Rattle.command_tables.specs.Tests.{same_type}
 use Rattle.command_tables.specs.declared.types.ObjectType.TheVariants as ty
 use Rattle.object_model.specs.declared.Object.{Object}
 use Rattle.object_model.specs.declared.Routed.{Routed}
-use Rattle.object_model.specs.Objects.{first_in}
 use Rattle.object_model.specs.Values.{Answered, Value}
 use Rattle.layer_model.specs.Ids.{IdMap, IssuedAll, no_ids}
-use Rattle.layer_model.specs.Reading.{read_call}
 use Rattle.layer_model.specs.Routes.{drivers_at, has_route, routes_then}
 use Rattle.layer_model.specs.Terminator.{terminator_leave, told_call}
 use Rattle.model_driver.specs.Driver.{FitsAsked, FitsRow}

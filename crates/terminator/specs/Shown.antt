@@ -1,7 +1,6 @@
 -- What the parts of the terminator say. Source: this project.
-use Rattle.std.specs.Prelude.{◌≡◌, ℕ, Bool, true, false, if◌then◌else◌, Option, Some, None, List, [], ◌∷◌, ◌++◌, map, take, drop, slice_index_or}
+use Rattle.std.specs.Prelude.{◌≡◌, ℕ, false, Option, Some, None, List, [], ◌∷◌, ◌++◌, length, map, take, drop}
 use Rattle.std.specs.List.{range_with_len}
-use Rattle.command_tables.specs.Calls.{ReplyContent}
 use Rattle.command_tables.specs.declared.types.Effect.{Effect}
 use Rattle.command_tables.specs.declared.types.Effect.TheVariants as eff
 use Rattle.command_tables.specs.declared.types.ObjectType.{ObjectType}
@@ -20,10 +19,26 @@ use Rattle.terminator.specs.declared.receivers.Receivers.TheVariants.{All, One}
 use Rattle.terminator.specs.declared.key.RetrievedKey.{RetrievedKey}
 use Rattle.terminator.specs.declared.entry.KeptEntry.{KeptEntry}
 
--- the ids with each driver's values, and the driver behind each id that has one of its own
+-- the ids that are kept of retrieved objects; and how many further ones, and how many further bytes of their payloads, can be kept with no
+-- further memory
+pub record KeptState : Type 0 where
+  pub ids : List KeptId
+  pub spare : ℕ
+  pub bytes : ℕ
+
+-- the ids with each driver's values, and the driver behind each id that has one of its own; and how many further ids, how many further
+-- values, and how many further bytes of payloads can be held with no further memory
 pub record IssuedState : Type 0 where
   pub ids : IdMap (List Value)
   pub routes : List Routed
+  pub spare : ℕ
+  pub room : ℕ
+  pub bytes : ℕ
+
+-- how many bytes of payload are kept with a key
+abbrev pub bytes_of : Option Key → ℕ
+bytes_of None = 0
+bytes_of (Some k) = length k.payload
 
 -- the drivers, in order
 abbrev pub drivers_named : Receivers → List ℕ

@@ -1,8 +1,7 @@
 -- How ids are kept: entries in order of issue, of which the first has the id 1, and one flat list of values. Source: this project.
-use Rattle.std.specs.Prelude.{◌≡◌, ◌≢◌, ℕ, suc, ◌+◌, ◌≤◌, ◌<◌, ◌⊎◌, Bool, true, false, if◌then◌else◌, List, [], ◌∷◌, length, map, take, drop, slice_set, slice_index_or}
+use Rattle.std.specs.Prelude.{◌≡◌, ◌≢◌, ℕ, suc, ◌+◌, ◌≤◌, ◌<◌, ◌⊎◌, true, false, if◌then◌else◌, List, [], ◌∷◌, length, map, take, drop, slice_set, slice_index_or}
 use Rattle.std.specs.List.{list_all}
 use Rattle.command_tables.specs.declared.types.ObjectType.{ObjectType}
-use Rattle.command_tables.specs.Tests.{same_type}
 use Rattle.object_model.specs.declared.Routed.{Routed}
 use Rattle.object_model.specs.Routes.{is_routed}
 use Rattle.object_model.specs.Values.{Value}
@@ -11,10 +10,13 @@ use Rattle.layer_model.specs.Ids.{KeptId}
 use Rattle.terminator.specs.declared.entry.IdEntry.{IdEntry}
 use Rattle.terminator.specs.declared.value.DriverValue.{DriverValue}
 
--- the ids with their values, and the driver behind each id that has one of its own
+-- the ids with their values, and the driver behind each id that has one of its own; and how many further ids, and how many further values
+-- in all, can be held with no further memory
 pub record TableState : Type 0 where
   pub entries : List (MapEntry (List Value))
   pub routes : List Routed
+  pub spare : ℕ
+  pub room : ℕ
 
 -- a driver's value
 abbrev pub value_of : DriverValue → Value

@@ -1,11 +1,11 @@
 //! The ids that were issued, with those of retrieved objects by their keys.
-ghost use Rattle.std.specs.Prelude.{◌≡◌, ◌≤◌, [], true, map, unwrap_or, IfOk, IfSome};
+ghost use Rattle.std.specs.Prelude.{◌≡◌, ◌≤◌, ◌+◌, [], true, length, map, unwrap_or, IfOk, IfSome, IsOk, OnOk};
 ghost use Rattle.command_tables.specs.declared.types.ObjectType.{ObjectType};
 ghost use Rattle.handle_map.specs.Pairs.{has_pair, values_of};
 ghost use Rattle.layer_model.specs.Ids.{issue, kept_for, new_id, no_ids};
 ghost use Rattle.layer_model.specs.Routes.{add_route};
 ghost use Rattle.object_model.specs.Routes.{driver_in};
-ghost use Rattle.terminator.specs.Shown.{IsKeyOf, key_asked};
+ghost use Rattle.terminator.specs.Shown.{IsKeyOf, bytes_of, key_asked};
 ghost use Rattle.terminator.specs.Table.{value_of};
 
 use crate::kept::KeptIds;
@@ -25,14 +25,15 @@ pub struct IssuedIds {
 }
 
 impl Model for IssuedIds {
+    ghost use Rattle.std.specs.Prelude.{min};
     ghost use Rattle.terminator.specs.Shown.{IssuedState};
     ghost use Rattle.terminator.specs.Table.{AreIssued};
 
     ghost Value = { IssuedState };
 
-    ghost view = { λ s. record { ids = record { entries = s.table.entries; kept = s.kept }; routes = s.table.routes } };
+    ghost view = { λ s. record { ids = record { entries = s.table.entries; kept = s.kept.ids }; routes = s.table.routes; spare = min s.table.spare s.kept.spare; room = s.table.room; bytes = s.kept.bytes } };
 
-    ghost invariant = { λ s. AreIssued s.table.entries s.kept };
+    ghost invariant = { λ s. AreIssued s.table.entries s.kept.ids };
 }
 
 impl IssuedIds {
@@ -44,6 +45,33 @@ impl IssuedIds {
             table: IdTable::new(alloc),
             kept: KeptIds::new(alloc),
         }
+    }
+
+    /// Ids of their own, the same. Of room nothing is said.
+    pub fn copy(&self) -> Result<IssuedIds, NoMemory>
+        ensures ids { IfOk result (λ issued. issued.ids ≡ self.now.ids) }
+        ensures routes { IfOk result (λ issued. issued.routes ≡ self.now.routes) }
+    {
+        Ok(IssuedIds {
+            table: self.table.copy()?,
+            kept: self.kept.copy()?,
+        })
+    }
+
+    /// Makes room for so many further ids, with so many values and so many bytes of payloads in all. After `NoMemory` the ids are as
+    /// before, and no room is lost.
+    pub fn reserve(&mut self, ids: usize, values: usize, bytes: usize) -> Result<(), NoMemory>
+        ensures ids { self.new.ids ≡ self.old.ids }
+        ensures routes { self.new.routes ≡ self.old.routes }
+        ensures ok_spare { OnOk result (ids ≤ self.new.spare) }
+        ensures ok_room { OnOk result (values ≤ self.new.room) }
+        ensures ok_bytes { OnOk result (bytes ≤ self.new.bytes) }
+        ensures spare { self.old.spare ≤ self.new.spare }
+        ensures room { self.old.room ≤ self.new.room }
+        ensures bytes { self.old.bytes ≤ self.new.bytes }
+    {
+        self.table.reserve(ids, values)?;
+        self.kept.reserve(ids, bytes)
     }
 
     /// The values of an id of this type; none where it wasn't issued.
@@ -83,6 +111,10 @@ impl IssuedIds {
         requires { IsKeyOf ty (key_asked key) }
         ensures ids { IfOk result (λ id. record { id = id; ids = self.new.ids } ≡ new_id self.old.ids (key_asked key.entry) ty (map value_of values.now)) }
         ensures positive { IfOk result (λ id. 1 ≤ id) }
+        ensures succeeds { 1 ≤ self.old.spare → length values.now ≤ self.old.room → bytes_of (key_asked key.entry) ≤ self.old.bytes → IsOk result }
+        ensures spare { self.old.spare ≤ self.new.spare + 1 }
+        ensures room { self.old.room ≤ self.new.room + length values.now }
+        ensures bytes { self.old.bytes ≤ self.new.bytes + bytes_of (key_asked key.entry) }
         ensures routes { IfOk result (λ id. self.new.routes ≡ add_route self.old.routes (record { ty = ty; number = id }) driver) }
     {
         let id = self.table.add(ty, driver, values)?;
@@ -104,6 +136,10 @@ impl IssuedIds {
         requires { IsKeyOf ty (key_asked key) }
         ensures ids { IfOk result (λ id. record { id = id; ids = self.new.ids } ≡ issue self.old.ids (key_asked key.entry) ty (map value_of values.now)) }
         ensures positive { IfOk result (λ id. 1 ≤ id) }
+        ensures succeeds { 1 ≤ self.old.spare → length values.now ≤ self.old.room → bytes_of (key_asked key.entry) ≤ self.old.bytes → IsOk result }
+        ensures spare { self.old.spare ≤ self.new.spare + 1 }
+        ensures room { self.old.room ≤ self.new.room + length values.now }
+        ensures bytes { self.old.bytes ≤ self.new.bytes + bytes_of (key_asked key.entry) }
         ensures routes { IfOk result (λ id. self.new.routes ≡ add_route self.old.routes (record { ty = ty; number = id }) driver) }
     {
         match self.kept_for(key) {

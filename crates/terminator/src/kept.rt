@@ -1,5 +1,5 @@
 //! The ids of retrieved objects by their keys.
-ghost use Rattle.std.specs.Prelude.{◌≡◌, ◌++◌, ◌∷◌, [], OnErr, OnOk};
+ghost use Rattle.std.specs.Prelude.{◌≡◌, ◌≤◌, ◌+◌, ◌++◌, ◌∷◌, [], length, IfOk, IsOk, OnErr, OnOk};
 ghost use Rattle.layer_model.specs.Ids.{kept_id};
 ghost use Rattle.terminator.specs.Shown.{key_of};
 
@@ -22,21 +22,20 @@ pub struct KeptIds {
 }
 
 impl Model for KeptIds {
-    ghost use Rattle.std.specs.Prelude.{List, map};
-    ghost use Rattle.layer_model.specs.Ids.{KeptId};
+    ghost use Rattle.std.specs.Prelude.{◌-◌, length, map, min, vec_capacity};
     ghost use Rattle.terminator.specs.Chains.{AreChained};
-    ghost use Rattle.terminator.specs.Shown.{kept_of};
+    ghost use Rattle.terminator.specs.Shown.{KeptState, kept_of};
 
-    ghost Value = { List KeptId };
+    ghost Value = { KeptState };
 
-    ghost view = { λ k. map (kept_of k.bytes.items) k.entries.items };
+    ghost view = { λ k. record { ids = map (kept_of k.bytes.items) k.entries.items; spare = min (vec_capacity k.entries - length k.entries.items) (min k.latest.spare k.latest.room); bytes = vec_capacity k.bytes - length k.bytes.items } };
 
     ghost invariant = { λ k. AreChained k.entries.items k.bytes.items k.latest.entries };
 }
 
 impl KeptIds {
     pub fn new(alloc: Global) -> KeptIds
-        ensures { result ≡ [] }
+        ensures { result.ids ≡ [] }
     {
         KeptIds {
             entries: Vec::new(alloc),
@@ -47,15 +46,43 @@ impl KeptIds {
 
     /// The id kept by a key.
     pub fn get(&self, key: RetrievedKey<'_>) -> Option<u64>
-        ensures { result ≡ kept_id self.now (key_of key.entry) }
+        ensures { result ≡ kept_id self.now.ids (key_of key.entry) }
     {
         id_of(&self.entries, &self.bytes, &self.latest, key)
     }
 
-    /// Keeps an id by a key, behind the others. After `NoMemory` what is kept is as before.
+    /// Kept ids of their own, the same. Of room nothing is said.
+    pub fn copy(&self) -> Result<KeptIds, NoMemory>
+        ensures { IfOk result (λ kept. kept.ids ≡ self.now.ids) }
+    {
+        let alloc = *self.entries.allocator();
+        Ok(KeptIds {
+            entries: Vec::from_slice(alloc, &self.entries)?,
+            bytes: Vec::from_slice(alloc, &self.bytes)?,
+            latest: self.latest.copy()?,
+        })
+    }
+
+    /// Makes room for so many further ids with so many bytes of payloads. After `NoMemory` the ids are as before, and no room is lost.
+    pub fn reserve(&mut self, n: usize, bytes: usize) -> Result<(), NoMemory>
+        ensures ids { self.new.ids ≡ self.old.ids }
+        ensures ok_spare { OnOk result (n ≤ self.new.spare) }
+        ensures ok_bytes { OnOk result (bytes ≤ self.new.bytes) }
+        ensures spare { self.old.spare ≤ self.new.spare }
+        ensures bytes { self.old.bytes ≤ self.new.bytes }
+    {
+        self.entries.reserve(n)?;
+        self.bytes.reserve(bytes)?;
+        self.latest.reserve(n, 1)
+    }
+
+    /// Keeps an id by a key, behind the others. After `NoMemory`, which comes only where there was no room, what is kept is as before.
     pub fn add(&mut self, key: RetrievedKey<'_>, id: u64) -> Result<(), NoMemory>
-        ensures ok { OnOk result (self.new ≡ self.old ++ record { key = key_of key.entry; id = id } ∷ []) }
-        ensures err { OnErr result (self.new ≡ self.old) }
+        ensures ok { OnOk result (self.new.ids ≡ self.old.ids ++ record { key = key_of key.entry; id = id } ∷ []) }
+        ensures err { OnErr result (self.new.ids ≡ self.old.ids) }
+        ensures succeeds { 1 ≤ self.old.spare → length key.entry.payload.now ≤ self.old.bytes → IsOk result }
+        ensures spare { self.old.spare ≤ self.new.spare + 1 }
+        ensures bytes { self.old.bytes ≤ self.new.bytes + length key.entry.payload.now }
     {
         self.entries.reserve(1)?;
         self.bytes.reserve(key.payload.len())?;

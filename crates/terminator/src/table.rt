@@ -1,5 +1,5 @@
 //! The ids with their values.
-ghost use Rattle.std.specs.Prelude.{◌≡◌, ◌≤◌, [], ℕ, true, map, unwrap_or, IfNone, IfOk, IfSome, OnErr, OnOk};
+ghost use Rattle.std.specs.Prelude.{◌≡◌, ◌≤◌, ◌+◌, [], ℕ, true, length, map, unwrap_or, IfNone, IfOk, IfSome, IsOk, OnErr, OnOk};
 ghost use Rattle.command_tables.specs.Tests.{same_type};
 ghost use Rattle.handle_map.specs.Pairs.{has_pair, values_of, with_values};
 ghost use Rattle.layer_model.specs.Ids.{next_id};
@@ -24,11 +24,12 @@ pub struct IdTable {
 }
 
 impl Model for IdTable {
+    ghost use Rattle.std.specs.Prelude.{◌-◌, length, vec_capacity};
     ghost use Rattle.terminator.specs.Table.{IsTable, TableState, ids_from, routes_from};
 
     ghost Value = { TableState };
 
-    ghost view = { λ t. record { entries = ids_from 1 t.values.items t.entries.items; routes = routes_from 1 t.entries.items } };
+    ghost view = { λ t. record { entries = ids_from 1 t.values.items t.entries.items; routes = routes_from 1 t.entries.items; spare = vec_capacity t.entries - length t.entries.items; room = vec_capacity t.values - length t.values.items } };
 
     ghost invariant = { λ t. IsTable t.entries.items t.values.items };
 }
@@ -101,7 +102,33 @@ impl IdTable {
         }
     }
 
-    /// Issues the next id. After `NoMemory` all is as before.
+    /// A table of its own with the same ids. Of room nothing is said.
+    pub fn copy(&self) -> Result<IdTable, NoMemory>
+        ensures entries { IfOk result (λ table. table.entries ≡ self.now.entries) }
+        ensures routes { IfOk result (λ table. table.routes ≡ self.now.routes) }
+    {
+        let alloc = *self.entries.allocator();
+        Ok(IdTable {
+            entries: Vec::from_slice(alloc, &self.entries)?,
+            values: Vec::from_slice(alloc, &self.values)?,
+        })
+    }
+
+    /// Makes room for so many further ids with so many values in all. After `NoMemory` the ids are as before, and no room is lost.
+    pub fn reserve(&mut self, ids: usize, values: usize) -> Result<(), NoMemory>
+        ensures entries { self.new.entries ≡ self.old.entries }
+        ensures routes { self.new.routes ≡ self.old.routes }
+        ensures ok_spare { OnOk result (ids ≤ self.new.spare) }
+        ensures ok_room { OnOk result (values ≤ self.new.room) }
+        ensures spare { self.old.spare ≤ self.new.spare }
+        ensures room { self.old.room ≤ self.new.room }
+    {
+        self.entries.reserve(ids)?;
+        self.values.reserve(values)?;
+        Ok(())
+    }
+
+    /// Issues the next id. After `NoMemory`, which comes only where there was no room, all is as before.
     pub fn add(
         &mut self,
         ty: ObjectType,
@@ -111,7 +138,11 @@ impl IdTable {
         ensures id { IfOk result (λ id. id ≡ next_id self.old.entries) }
         ensures entries { IfOk result (λ id. self.new.entries ≡ with_values self.old.entries ty id (map value_of values.now)) }
         ensures routes { IfOk result (λ id. self.new.routes ≡ add_route self.old.routes (record { ty = ty; number = id }) driver) }
-        ensures err { OnErr result (self.new ≡ self.old) }
+        ensures err { OnErr result (self.new.entries ≡ self.old.entries) }
+        ensures err_routes { OnErr result (self.new.routes ≡ self.old.routes) }
+        ensures succeeds { 1 ≤ self.old.spare → length values.now ≤ self.old.room → IsOk result }
+        ensures spare { self.old.spare ≤ self.new.spare + 1 }
+        ensures room { self.old.room ≤ self.new.room + length values.now }
     {
         self.entries.reserve(1)?;
         self.values.reserve(values.len())?;
@@ -133,7 +164,10 @@ impl IdTable {
         ensures routes { self.new.routes ≡ self.old.routes }
         ensures positive { 1 ≤ id }
         ensures known { (driver : ℕ) → add_route self.old.routes (record { ty = ty; number = id }) driver ≡ self.old.routes }
-        ensures err { OnErr result (self.new ≡ self.old) }
+        ensures err { OnErr result (self.new.entries ≡ self.old.entries) }
+        ensures succeeds { length values.now ≤ self.old.room → IsOk result }
+        ensures spare { self.old.spare ≤ self.new.spare }
+        ensures room { self.old.room ≤ self.new.room + length values.now }
     {
         let _count = self.entries.len();
         let place = (id - 1) as usize;

@@ -1,6 +1,6 @@
 //! What a driver is told.
-ghost use Rattle.std.specs.Prelude.{◌≡◌, ◌<◌, [], map, length, unwrap_or, slice_set, OnOk};
-ghost use Rattle.command_tables.specs.Calls.{call_content};
+ghost use Rattle.std.specs.Prelude.{◌≡◌, ◌<◌, [], map, length, unwrap_or, slice_set, IsOk, OnOk};
+ghost use Rattle.command_tables.specs.Calls.{HasRoomFor, call_content};
 ghost use Rattle.command_tables.specs.Handles.{list_at};
 ghost use Rattle.command_tables.specs.Table.{seen_param};
 ghost use Rattle.handle_map.specs.Pairs.{values_of};
@@ -52,14 +52,16 @@ fn asked_of_each(cmd: CommandId, asked: u32) -> u32
     if enumerates_devices(cmd) { 1 } else { asked }
 }
 
-/// A driver's call becomes what it is told of this one. After `NoMemory` anything stands there.
+/// A driver's call becomes what it is told of this one. After `NoMemory`, which comes only where there was no room for it, anything
+/// stands there.
 pub fn tell(
     issued: &IssuedIds,
     call: &LayerCall,
     driver: u32,
     told: &mut DriverCall,
 ) -> Result<(), NoMemory>
-    ensures { OnOk result (call_shown told.new ≡ told_call issued.now.ids (call_content call.now) driver) }
+    ensures told { OnOk result (call_shown told.new ≡ told_call issued.now.ids (call_content call.now) driver) }
+    ensures succeeds { HasRoomFor told.old.body (call_content call.now) → IsOk result }
 {
     told.body.copy_from(call)?;
     tell_params(issued, driver, row(call.cmd).params, &mut told.body.args);

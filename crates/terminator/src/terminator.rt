@@ -1,6 +1,6 @@
 //! The terminator: its ids with the drivers' values, what it tells the drivers, and what becomes of their replies.
-ghost use Rattle.std.specs.Prelude.{◌≡◌, ◌≤◌, map, length, IfOk, OnOk};
-ghost use Rattle.command_tables.specs.Calls.{call_content};
+ghost use Rattle.std.specs.Prelude.{◌≡◌, ◌≤◌, ◌∷◌, [], map, length, IfOk, OnOk};
+ghost use Rattle.command_tables.specs.Calls.{HasRoomFor, call_content};
 ghost use Rattle.layer_model.specs.Ids.{at_key, issue, issue_all};
 ghost use Rattle.layer_model.specs.Routes.{add_route, route_all};
 ghost use Rattle.object_model.specs.Routes.{driver_behind};
@@ -68,6 +68,20 @@ impl Terminator {
         }
     }
 
+    /// A terminator of its own above as many drivers, which has issued the same. Of room nothing is said.
+    pub fn copy(&self) -> Result<Terminator, NoMemory>
+        ensures ids { IfOk result (λ copy. copy.ids ≡ self.now.ids) }
+        ensures routes { IfOk result (λ copy. copy.routes ≡ self.now.routes) }
+        ensures drivers { IfOk result (λ copy. copy.drivers ≡ self.now.drivers) }
+    {
+        Ok(Terminator {
+            alloc: self.alloc,
+            drivers: self.drivers,
+            issued: self.issued.copy()?,
+            values: Vec::new(self.alloc),
+        })
+    }
+
     /// How many drivers there are. Takes no memory.
     pub fn drivers(&self) -> u32
         ensures { result ≡ self.now.drivers }
@@ -114,6 +128,17 @@ impl Terminator {
         let receivers = self.receivers(call);
         make_calls(self.alloc, receivers.count() as usize, out)?;
         self.tell_each(call, receivers, out)
+    }
+
+    /// What the one driver of a call is told, in the place of what stood in `out`. Takes no memory.
+    #[tactic(auto, using(crate::proofs::Told::told_one))]
+    pub fn target_into(&self, call: &LayerCall, out: &mut DriverCall)
+        requires one { length (drivers_for self.now (call_content call.now)) ≡ 1 }
+        requires room { HasRoomFor out.old.body (call_content call.now) }
+        ensures { targets_of self.now (call_content call.now) ≡ call_shown out.new ∷ [] }
+    {
+        let driver = self.receivers(call).first();
+        tell(&self.issued, call, driver, out).unwrap();
     }
 
     // The id of one result that is born, with the values that the drivers answered for it.

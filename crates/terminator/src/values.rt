@@ -1,5 +1,5 @@
 //! The flat list of values.
-ghost use Rattle.std.specs.Prelude.{◌≡◌, ◌≤◌, ◌+◌, drop, length, take};
+ghost use Rattle.std.specs.Prelude.{◌≡◌, ◌≤◌, ◌+◌, drop, length, take, vec_capacity};
 ghost use Rattle.terminator.specs.Table.{written};
 
 use crate::value::DriverValue;
@@ -7,7 +7,8 @@ use crate::value::DriverValue;
 /// Puts values in the place of those from `start` on.
 pub fn write(flat: &mut Vec<DriverValue>, start: usize, values: &[DriverValue])
     requires { start + length values.now ≤ length flat.old.items }
-    ensures { flat.new.items ≡ written flat.old.items start values.now }
+    ensures items { flat.new.items ≡ written flat.old.items start values.now }
+    ensures capacity { vec_capacity flat.new ≡ vec_capacity flat.old }
 {
     for (k, value) in values.iter().enumerate() {
         flat[start + k] = *value;

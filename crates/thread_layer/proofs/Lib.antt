@@ -1,3 +1,4 @@
 pub mod Gathered
 pub mod Least
 pub mod Standing
+pub mod Copies

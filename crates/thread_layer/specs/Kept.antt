@@ -6,10 +6,11 @@ use Rattle.layer_model.specs.Parts.{LifeModel, UseModel}
 use Rattle.thread_layer.specs.declared.object_use.ObjectUse.{ObjectUse}
 use Rattle.thread_layer.specs.declared.open_call.OpenCall.{OpenCall}
 
--- a part with its place in the chain
+-- a part with its place in the chain, and how many further objects can be born with no further memory
 pub record PlacedUses : Type 0 where
   pub place : ℕ
   pub kept : UseModel
+  pub spare : ℕ
 
 -- a use as one of the model
 abbrev pub use_seen : ObjectUse → Use

@@ -70,8 +70,8 @@ fn gather_argument(
     gathered: &mut Gathered,
     verdict: &mut Verdict,
 ) -> Result<(), NoMemory>
-    ensures uses { OnOk result (map use_seen gathered.new.uses.items ≡ map use_seen gathered.old.uses.items ++ argument_uses (with_opens beside.entry.records.now beside.entry.open_calls.now) at.param (seen_param param.now) at.index argument) }
-    ensures findings { OnOk result (reports_of verdict.new.findings.items ≡ reports_of verdict.old.findings.items ++ argument_reports beside.entry.place beside.entry.thread (with_opens beside.entry.records.now beside.entry.open_calls.now) at.param (seen_param param.now) at.index argument) }
+    ensures uses { OnOk result (map use_seen gathered.new.uses.items ≡ map use_seen gathered.old.uses.items ++ argument_uses (with_opens beside.entry.records.now.kept beside.entry.open_calls.now) at.param (seen_param param.now) at.index argument) }
+    ensures findings { OnOk result (reports_of verdict.new.findings.items ≡ reports_of verdict.old.findings.items ++ argument_reports beside.entry.place beside.entry.thread (with_opens beside.entry.records.now.kept beside.entry.open_calls.now) at.param (seen_param param.now) at.index argument) }
     ensures skip { verdict.new.skip ≡ verdict.old.skip }
 {
     let start = gathered.uses.len();
@@ -109,8 +109,8 @@ fn gather_places(
 ) -> Result<(), NoMemory>
     requires shape { HasParams call.now }
     requires few { HasFewPlaces call.now }
-    ensures uses { OnOk result (map use_seen gathered.new.uses.items ≡ map use_seen gathered.old.uses.items ++ places_from (argument_uses (with_opens beside.entry.records.now beside.entry.open_calls.now) i (seen_param param.now)) 0 (list_at (arguments_of call.now) i)) }
-    ensures findings { OnOk result (reports_of verdict.new.findings.items ≡ reports_of verdict.old.findings.items ++ places_from (argument_reports beside.entry.place beside.entry.thread (with_opens beside.entry.records.now beside.entry.open_calls.now) i (seen_param param.now)) 0 (list_at (arguments_of call.now) i)) }
+    ensures uses { OnOk result (map use_seen gathered.new.uses.items ≡ map use_seen gathered.old.uses.items ++ places_from (argument_uses (with_opens beside.entry.records.now.kept beside.entry.open_calls.now) i (seen_param param.now)) 0 (list_at (arguments_of call.now) i)) }
+    ensures findings { OnOk result (reports_of verdict.new.findings.items ≡ reports_of verdict.old.findings.items ++ places_from (argument_reports beside.entry.place beside.entry.thread (with_opens beside.entry.records.now.kept beside.entry.open_calls.now) i (seen_param param.now)) 0 (list_at (arguments_of call.now) i)) }
     ensures skip { verdict.new.skip ≡ verdict.old.skip }
 {
     for k in 0..count_few(call, i as usize) {
@@ -135,8 +135,8 @@ fn gather_params(
     requires shape { HasParams call.now }
     requires few { HasFewPlaces call.now }
     requires row { map seen_param params.now ≡ (row_of call.now.cmd).params }
-    ensures uses { OnOk result (map use_seen gathered.new.uses.items ≡ map use_seen gathered.old.uses.items ++ params_from (argument_uses (with_opens beside.entry.records.now beside.entry.open_calls.now)) 0 (map seen_param params.now) (arguments_of call.now)) }
-    ensures findings { OnOk result (reports_of verdict.new.findings.items ≡ reports_of verdict.old.findings.items ++ params_from (argument_reports beside.entry.place beside.entry.thread (with_opens beside.entry.records.now beside.entry.open_calls.now)) 0 (map seen_param params.now) (arguments_of call.now)) }
+    ensures uses { OnOk result (map use_seen gathered.new.uses.items ≡ map use_seen gathered.old.uses.items ++ params_from (argument_uses (with_opens beside.entry.records.now.kept beside.entry.open_calls.now)) 0 (map seen_param params.now) (arguments_of call.now)) }
+    ensures findings { OnOk result (reports_of verdict.new.findings.items ≡ reports_of verdict.old.findings.items ++ params_from (argument_reports beside.entry.place beside.entry.thread (with_opens beside.entry.records.now.kept beside.entry.open_calls.now)) 0 (map seen_param params.now) (arguments_of call.now)) }
     ensures skip { verdict.new.skip ≡ verdict.old.skip }
 {
     let _count = call.args.len();
@@ -157,8 +157,8 @@ pub(crate) fn gather(
 ) -> Result<(), NoMemory>
     requires shape { HasParams call.now }
     requires few { HasFewPlaces call.now }
-    ensures uses { OnOk result (map use_seen gathered.new.uses.items ≡ uses_in beside.entry.records.now.births (is_in beside.entry.records.now.living) call.now.cmd (arguments_of call.now)) }
-    ensures findings { OnOk result (reports_of verdict.new.findings.items ≡ reports_of verdict.old.findings.items ++ at_place beside.entry.place (use_failures (with_opens beside.entry.records.now beside.entry.open_calls.now) beside.entry.thread call.now.cmd (arguments_of call.now))) }
+    ensures uses { OnOk result (map use_seen gathered.new.uses.items ≡ uses_in beside.entry.records.now.kept.births (is_in beside.entry.records.now.kept.living) call.now.cmd (arguments_of call.now)) }
+    ensures findings { OnOk result (reports_of verdict.new.findings.items ≡ reports_of verdict.old.findings.items ++ at_place beside.entry.place (use_failures (with_opens beside.entry.records.now.kept beside.entry.open_calls.now) beside.entry.thread call.now.cmd (arguments_of call.now))) }
     ensures skip { verdict.new.skip ≡ verdict.old.skip }
 {
     gathered.uses.clear();

@@ -1,5 +1,5 @@
 //! What a threads part keeps, and its two steps.
-ghost use Rattle.std.specs.Prelude.{◌≡◌, ◌++◌, ◌∷◌, [], ℕ, ◌==◌, false, filter, map, not, IfOk, OnErr, OnOk};
+ghost use Rattle.std.specs.Prelude.{◌≡◌, ◌≤◌, ◌+◌, ◌++◌, ◌∷◌, [], ℕ, ◌==◌, false, filter, length, map, not, IfOk, IsOk, OnErr, OnOk};
 ghost use Rattle.object_model.specs.Findings.{at_place};
 ghost use Rattle.object_model.specs.History.{Begins, History, Returns};
 ghost use Rattle.object_model.specs.Objects.{is_in};
@@ -38,7 +38,7 @@ impl Model for UseState {
 
     ghost Value = { PlacedUses };
 
-    ghost view = { λ s. record { place = s.place; kept = with_opens s.records s.open_calls.items } };
+    ghost view = { λ s. record { place = s.place; kept = with_opens s.records.kept s.open_calls.items; spare = s.records.spare } };
 }
 
 // The first open call of a thread is taken out, for its buffer.
@@ -73,20 +73,45 @@ fn keep_others(open_calls: &mut Vec<OpenCall>, thread: u32)
     retain_others(open_calls, thread);
 }
 
-// Closes the calls of a thread, and keeps a buffer.
-fn close(
-    open_calls: &mut Vec<OpenCall>,
-    thread: u32,
-    spare: &mut Vec<Vec<ObjectUse>>,
-) -> Result<(), NoMemory>
-    ensures { OnOk result (map open_seen open_calls.new.items ≡ of_others thread (map open_seen open_calls.old.items)) }
+// Keeps a buffer where there is room, which is made when a call begins.
+fn keep_buffer(uses: Vec<ObjectUse>, spare: &mut Vec<Vec<ObjectUse>>) {
+    if spare.len() < spare.capacity() {
+        spare.push(uses).unwrap();
+    }
+}
+
+// Closes the calls of a thread, and keeps a buffer. Takes no memory.
+fn close(open_calls: &mut Vec<OpenCall>, thread: u32, spare: &mut Vec<Vec<ObjectUse>>)
+    ensures { map open_seen open_calls.new.items ≡ of_others thread (map open_seen open_calls.old.items) }
 {
     let taken = take_call(open_calls, thread);
     keep_others(open_calls, thread);
     if let Some(call) = taken {
-        spare.push(call.uses)?;
+        keep_buffer(call.uses, spare);
     }
-    Ok(())
+}
+
+// The uses of a call in a list of their own.
+fn copy_call(alloc: Global, call: &OpenCall) -> Result<OpenCall, NoMemory>
+    ensures { IfOk result (λ copy. open_seen copy ≡ open_seen call.now) }
+{
+    Ok(OpenCall {
+        number: call.number,
+        thread: call.thread,
+        uses: Vec::from_slice(alloc, &call.uses)?,
+    })
+}
+
+// A list of its own of the same open calls.
+#[tactic(auto, using(crate::proofs::Copies::copied_more, crate::proofs::Copies::copied_all))]
+fn copy_calls(alloc: Global, calls: &[OpenCall]) -> Result<Vec<OpenCall>, NoMemory>
+    ensures { IfOk result (λ copy. map open_seen copy.items ≡ map open_seen calls.now) }
+{
+    let mut copy = Vec::new(alloc);
+    for i in 0..calls.len() {
+        copy.push(copy_call(alloc, &calls[i])?)?;
+    }
+    Ok(copy)
 }
 
 // An empty list of uses.
@@ -105,7 +130,8 @@ fn empty_uses(alloc: Global, spare: &mut Vec<Vec<ObjectUse>>) -> Vec<ObjectUse>
 impl UseState {
     /// Nothing is born yet, and no call is open. Places of a chain are numbered from 1, from the application down.
     pub fn new(alloc: Global, place: u32) -> UseState
-        ensures { result ≡ record { place = place; kept = record { births = []; living = []; opens = [] } } }
+        ensures place { result.place ≡ place }
+        ensures kept { result.kept ≡ record { births = []; living = []; opens = [] } }
     {
         UseState {
             alloc,
@@ -118,6 +144,34 @@ impl UseState {
                 implied: Vec::new(alloc),
             },
         }
+    }
+
+    /// A part of its own, at the same place, that keeps the same. Of room nothing is said.
+    pub fn copy(&self) -> Result<UseState, NoMemory>
+        ensures place { IfOk result (λ state. state.place ≡ self.now.place) }
+        ensures kept { IfOk result (λ state. state.kept ≡ self.now.kept) }
+    {
+        Ok(UseState {
+            alloc: self.alloc,
+            place: self.place,
+            records: self.records.copy()?,
+            open_calls: copy_calls(self.alloc, &self.open_calls)?,
+            spare: Vec::new(self.alloc),
+            gathered: Gathered {
+                uses: Vec::new(self.alloc),
+                implied: Vec::new(self.alloc),
+            },
+        })
+    }
+
+    /// Makes room for the births of so many further objects. After `NoMemory` what is kept is as before, and no room is lost.
+    pub fn reserve_births(&mut self, births: usize) -> Result<(), NoMemory>
+        ensures place { self.new.place ≡ self.old.place }
+        ensures kept { self.new.kept ≡ self.old.kept }
+        ensures ok { OnOk result (births ≤ self.new.spare) }
+        ensures spare { self.old.spare ≤ self.new.spare }
+    {
+        self.records.reserve(births)
     }
 
     /// A call with this number begins on a thread. What is found goes behind the verdict's findings, in the order of the arguments: at
@@ -137,6 +191,7 @@ impl UseState {
         ensures skip { verdict.new.skip ≡ verdict.old.skip }
         ensures place { self.new.place ≡ self.old.place }
         ensures err { OnErr result (self.new ≡ self.old) }
+        ensures spare { self.new.spare ≡ self.old.spare }
         ensures overlaps { OnOk result ((h : History) → UseMirrors h self.old.kept → reports_of verdict.new.findings.items ≡ reports_of verdict.old.findings.items ++ at_place self.old.place (overlaps h (call_read number thread call.now))) }
         ensures stands { OnOk result ((h : History) → UseMirrors h self.old.kept → UseMirrors (Begins (call_read number thread call.now) false ∷ h) self.new.kept) }
     {
@@ -159,7 +214,9 @@ impl UseState {
         ensures skip { verdict.new.skip ≡ verdict.old.skip }
         ensures place { self.new.place ≡ self.old.place }
         ensures err { OnErr result (self.new ≡ self.old) }
+        ensures spare { self.new.spare ≡ self.old.spare }
     {
+        self.spare.reserve(self.open_calls.len().saturating_add(1))?;
         let uses = self.uses_of(thread, call, verdict)?;
         self.open_calls.push(OpenCall {
             number,
@@ -196,12 +253,14 @@ impl UseState {
     }
 
     /// The results of a thread's open call come: the call is open no longer, and each result that isn't 0 and wasn't born is born and
-    /// lives. After `NoMemory` the call may be closed and only a part of the results born.
+    /// lives. After `NoMemory`, which comes only where there was no room for so many births, the call is closed and no result is born.
     pub fn leave(&mut self, thread: u32, call: &LayerCall, results: &[u64]) -> Result<(), NoMemory>
         requires shape { HasParams call.now }
         requires once { AreNewOnce self.old.kept.births (made_of call.now results.now) }
         ensures kept { OnOk result (self.new.kept ≡ use_leave self.old.kept thread call.now.cmd (arguments_of call.now) (made_of call.now results.now)) }
         ensures place { self.new.place ≡ self.old.place }
+        ensures succeeds { length results.now ≤ self.old.spare → IsOk result }
+        ensures spare { self.old.spare ≤ self.new.spare + length results.now }
         ensures stands { OnOk result ((h : History) (number : ℕ) → UseMirrors h self.old.kept → UseMirrors (Returns (call_read number thread call.now) (made_of call.now results.now) ∷ h) self.new.kept) }
     {
         self.take_back(thread, call, results)?;
@@ -214,8 +273,10 @@ impl UseState {
         requires once { AreNewOnce self.old.kept.births (made_of call.now results.now) }
         ensures kept { OnOk result (self.new.kept ≡ use_leave self.old.kept thread call.now.cmd (arguments_of call.now) (made_of call.now results.now)) }
         ensures place { self.new.place ≡ self.old.place }
+        ensures succeeds { length results.now ≤ self.old.spare → IsOk result }
+        ensures spare { self.old.spare ≤ self.new.spare + length results.now }
     {
-        close(&mut self.open_calls, thread, &mut self.spare)?;
+        close(&mut self.open_calls, thread, &mut self.spare);
         self.records.bear(call, results)
     }
 }

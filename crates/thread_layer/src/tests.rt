@@ -178,3 +178,50 @@ pub(crate) fn with_set(alloc: Global) -> Result<UseState, Fail> {
     make(alloc, &mut state, allocate, &[&[3], &[8], &[10]], 9)?;
     Ok(state)
 }
+
+// A part's copy keeps the open calls with their numbers, and goes on by itself.
+#[test]
+fn a_copy_goes_on_by_itself(rt: HostRuntime) -> Result<(), Fail> {
+    let alloc = rt.alloc();
+    let mut state = with_queue(alloc)?;
+    begin(
+        alloc,
+        &mut state,
+        on(1, 20),
+        CommandId::QueueWaitIdle,
+        &[&[4]],
+    )?;
+    let mut copy = state.copy().ok().ok_or("memory")?;
+    copy.reserve_births(3).ok().ok_or("memory")?;
+    let wrong = [overlap(0, 0, 20)];
+    assert!(rt;
+        is_found(
+            alloc,
+            &mut copy,
+            on(2, 21),
+            CommandId::QueueWaitIdle,
+            &[&[4]],
+            &wrong
+        )?
+    );
+    end(alloc, &mut copy, 2, CommandId::QueueWaitIdle, &[&[4]], 0)?;
+    end(alloc, &mut copy, 1, CommandId::QueueWaitIdle, &[&[4]], 0)?;
+    begin(
+        alloc,
+        &mut copy,
+        on(2, 22),
+        CommandId::QueueWaitIdle,
+        &[&[4]],
+    )?;
+    assert!(rt;
+        is_found(
+            alloc,
+            &mut state,
+            on(3, 23),
+            CommandId::QueueWaitIdle,
+            &[&[4]],
+            &wrong
+        )?
+    );
+    Ok(())
+}

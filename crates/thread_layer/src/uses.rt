@@ -23,7 +23,7 @@ fn list_owner(
     object: Object,
     objects: &mut Vec<Object>,
 ) -> Result<(), NoMemory>
-    ensures { OnOk result (objects.new.items ≡ objects.old.items ++ implied_objects records.now.births (is_in records.now.living) imp.PoolOf object) }
+    ensures { OnOk result (objects.new.items ≡ objects.old.items ++ implied_objects records.now.kept.births (is_in records.now.kept.living) imp.PoolOf object) }
 {
     if let Some(owner) = records.owner(object) {
         objects.push(owner)?;
@@ -38,7 +38,7 @@ fn list_implied(
     object: Object,
     objects: &mut Vec<Object>,
 ) -> Result<(), NoMemory>
-    ensures { OnOk result (objects.new.items ≡ implied_objects records.now.births (is_in records.now.living) implied object) }
+    ensures { OnOk result (objects.new.items ≡ implied_objects records.now.kept.births (is_in records.now.kept.living) implied object) }
 {
     objects.clear();
     match implied {
@@ -90,7 +90,7 @@ fn add_object_uses(
     implied: &mut Vec<Object>,
     uses: &mut Vec<ObjectUse>,
 ) -> Result<(), NoMemory>
-    ensures { OnOk result (map use_seen uses.new.items ≡ map use_seen uses.old.items ++ uses_at records.now.births (is_in records.now.living) at.param (seen_param param.now) at.index (Some object)) }
+    ensures { OnOk result (map use_seen uses.new.items ≡ map use_seen uses.old.items ++ uses_at records.now.kept.births (is_in records.now.kept.living) at.param (seen_param param.now) at.index (Some object)) }
 {
     if !records.is_born(object) {
         return Ok(());
@@ -109,7 +109,7 @@ pub(crate) fn add_uses(
     implied: &mut Vec<Object>,
     uses: &mut Vec<ObjectUse>,
 ) -> Result<(), NoMemory>
-    ensures { OnOk result (map use_seen uses.new.items ≡ map use_seen uses.old.items ++ uses_at records.now.births (is_in records.now.living) at.param (seen_param param.now) at.index (object_of argument)) }
+    ensures { OnOk result (map use_seen uses.new.items ≡ map use_seen uses.old.items ++ uses_at records.now.kept.births (is_in records.now.kept.living) at.param (seen_param param.now) at.index (object_of argument)) }
 {
     match object_of(argument) {
         None => Ok(()),

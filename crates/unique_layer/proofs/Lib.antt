@@ -4,3 +4,4 @@ pub mod Places
 pub mod Issued
 pub mod FirstRead
 pub mod Payloads
+pub mod Room

@@ -1,5 +1,5 @@
 -- What a unique part's lists say. Source: this project.
-use Rattle.std.specs.Prelude.{ℕ, Option, Some, None, List, [], ◌++◌, map, take, drop, slice_index_or}
+use Rattle.std.specs.Prelude.{ℕ, ◌≤◌, Option, Some, None, List, [], ◌∷◌, ◌++◌, map, take, drop, slice_index_or}
 use Rattle.handle_map.specs.Pairs.{MapEntry}
 use Rattle.command_tables.specs.declared.types.Effect.{Effect}
 use Rattle.command_tables.specs.declared.types.Effect.TheVariants as eff
@@ -17,6 +17,21 @@ first_of values = slice_index_or values 0 0
 -- an entry with the handle below
 abbrev pub id_of : MapEntry (List ℕ) → MapEntry ℕ
 id_of e = record { ty = e.ty; id = e.id; values = first_of e.values }
+
+-- the ids that are kept of retrieved objects, and how many further ones can be kept with no further memory
+pub record KeptState : Type 0 where
+  pub ids : List KeptId
+  pub spare : ℕ
+
+-- the ids of a unique part, and how many objects can still be born to it with no further memory
+pub record UniqueKept : Type 0 where
+  pub ids : IdMap ℕ
+  pub spare : ℕ
+
+-- each of these ids is at most a number
+abbrev pub AreUpTo : ℕ → List KeptId → Type 0
+AreUpTo most [] = Unit {0}
+AreUpTo most (r ∷ rs) = (r.id ≤ most) × AreUpTo most rs
 
 -- all entries
 abbrev pub ids_of : List (MapEntry (List ℕ)) → List (MapEntry ℕ)

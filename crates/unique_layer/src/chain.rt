@@ -1,5 +1,5 @@
 //! The chains through the kept ids.
-ghost use Rattle.std.specs.Prelude.{◌≡◌, Some, map, length, if◌then◌else◌, IfOk, OnErr};
+ghost use Rattle.std.specs.Prelude.{◌≡◌, ◌≤◌, ◌+◌, Some, map, length, if◌then◌else◌, IfOk, IsOk, OnErr};
 ghost use Rattle.layer_model.specs.Ids.{has_key, kept_id};
 ghost use Rattle.unique_layer.specs.Chains.{AreLatest, AreLinked, chain_number, IsLink, latest_in, link_of, with_link};
 ghost use Rattle.unique_layer.specs.Shown.{key_of, kept_of};
@@ -78,7 +78,8 @@ pub fn id_of(entries: &[KeptEntry], latest: &HandleMap<1024>, key: RetrievedKey)
     }
 }
 
-/// Makes a link that of the latest entry of a key's chain, and gives the one that was. After `NoMemory` the links are as before.
+/// Makes a link that of the latest entry of a key's chain, and gives the one that was. After `NoMemory` the links are as before; it comes
+/// only where there was no room.
 pub fn put_link(
     latest: &mut HandleMap<1024>,
     key: RetrievedKey,
@@ -87,6 +88,9 @@ pub fn put_link(
     ensures before { IfOk result (λ next. next ≡ link_of latest.old.entries key.owner key.place) }
     ensures ok { IfOk result (λ next. latest.new.entries ≡ with_link latest.old.entries key.owner key.place link) }
     ensures err { OnErr result (latest.new.entries ≡ latest.old.entries) }
+    ensures succeeds { 1 ≤ latest.old.spare → 1 ≤ latest.old.room → IsOk result }
+    ensures spare { latest.old.spare ≤ latest.new.spare + 1 }
+    ensures room { latest.old.room ≤ latest.new.room + 1 }
 {
     match key.owner {
         None => Ok(0),

@@ -1,10 +1,10 @@
 //! A unique part: its ids with the handles below them.
-ghost use Rattle.std.specs.Prelude.{◌≡◌, ◌<◌, map, length, unwrap_or, slice_set, IfOk, OnOk};
+ghost use Rattle.std.specs.Prelude.{◌≡◌, ◌<◌, ◌≤◌, ◌+◌, map, length, unwrap_or, slice_set, IfOk, IfSome, IsOk, OnOk};
 ghost use Rattle.command_tables.specs.Handles.{list_at};
 ghost use Rattle.command_tables.specs.Table.{seen_param};
 ghost use Rattle.command_tables.specs.Calls.{call_content};
 ghost use Rattle.layer_model.specs.Ids.{issue, issue_all, kept_for, known, new_id, no_ids};
-ghost use Rattle.handle_map.specs.Pairs.{values_of};
+ghost use Rattle.handle_map.specs.Pairs.{greatest_id, values_of};
 ghost use Rattle.layer_model.specs.Parts.{below_handles, below_params, there, unique_enter, unique_leave};
 ghost use Rattle.unique_layer.specs.Shown.{key_asked};
 
@@ -19,7 +19,7 @@ use std::alloc::Global;
 use std::marker::Model;
 
 /// What a unique part keeps: its ids with the handles below them, and the ids of retrieved objects by their keys, the oldest
-/// first.
+/// first. Contracts see besides how many objects can be born to it with no further memory.
 #[derive(Drop)]
 pub struct UniqueState {
     ids: HandleMap<64>,
@@ -29,22 +29,21 @@ pub struct UniqueState {
 }
 
 impl Model for UniqueState {
-    ghost use Rattle.std.specs.Prelude.{◌≡◌, ℕ};
+    ghost use Rattle.std.specs.Prelude.{◌≡◌, ◌-◌, min};
     ghost use Rattle.handle_map.specs.Pairs.{greatest_id};
-    ghost use Rattle.layer_model.specs.Ids.{IdMap};
-    ghost use Rattle.unique_layer.specs.Shown.{ids_of};
+    ghost use Rattle.unique_layer.specs.Shown.{AreUpTo, UniqueKept, ids_of};
 
-    ghost Value = { IdMap ℕ };
+    ghost Value = { UniqueKept };
 
-    ghost view = { λ s. record { entries = ids_of s.ids.entries; kept = s.kept } };
+    ghost view = { λ s. record { ids = record { entries = ids_of s.ids.entries; kept = s.kept.ids }; spare = min (min (min s.ids.spare s.ids.room) s.kept.spare) (18446744073709551615 - s.greatest) } };
 
-    ghost invariant = { λ s. s.greatest ≡ greatest_id s.ids.entries };
+    ghost invariant = { λ s. (s.greatest ≡ greatest_id s.ids.entries) × AreUpTo s.greatest s.kept.ids };
 }
 
 impl UniqueState {
     /// A part that has issued nothing.
     pub fn new(alloc: Global) -> UniqueState
-        ensures { result ≡ no_ids }
+        ensures { result.ids ≡ no_ids }
     {
         UniqueState {
             ids: HandleMap::new(alloc),
@@ -53,10 +52,34 @@ impl UniqueState {
         }
     }
 
+    /// A part of its own that keeps the same. Of room nothing is said.
+    pub fn copy(&self) -> Result<UniqueState, NoMemory>
+        ensures { IfOk result (λ state. state.ids ≡ self.now.ids) }
+    {
+        Ok(UniqueState {
+            ids: self.ids.copy()?,
+            greatest: self.greatest,
+            kept: self.kept.copy()?,
+        })
+    }
+
+    /// Makes room for the births of so many further objects. After `NoMemory` what is kept is as before, and no room is lost.
+    pub fn reserve(&mut self, births: usize) -> Result<(), NoMemory>
+        ensures ids { self.new.ids ≡ self.old.ids }
+        ensures ok { OnOk result (births ≤ self.new.spare) }
+        ensures spare { self.old.spare ≤ self.new.spare }
+    {
+        if u64::MAX - self.greatest < births as u64 {
+            return Err(NoMemory);
+        }
+        self.ids.reserve(births, 1)?;
+        self.kept.reserve(births)
+    }
+
     // The handle below an id, and 0 below an unknown one.
     #[tactic(auto, using(crate::proofs::Found::found_below))]
     fn value_below(&self, ty: ObjectType, id: u64) -> u64
-        ensures { result ≡ unwrap_or (values_of self.now.entries ty id) 0 }
+        ensures { result ≡ unwrap_or (values_of self.now.ids.entries ty id) 0 }
     {
         match self.ids.get(ty, id) {
             None => 0,
@@ -67,7 +90,7 @@ impl UniqueState {
     // The handles of one parameter are replaced by those below.
     fn replace(&self, ty: ObjectType, args: &mut HandleArgs<6>, p: usize)
         requires { p < length args.old.lists }
-        ensures lists { args.new.lists ≡ slice_set args.old.lists p (map (λ h. unwrap_or (values_of self.now.entries ty h) 0) (list_at args.old.lists p)) }
+        ensures lists { args.new.lists ≡ slice_set args.old.lists p (map (λ h. unwrap_or (values_of self.now.ids.entries ty h) 0) (list_at args.old.lists p)) }
         ensures marks { args.new.marks ≡ args.old.marks }
     {
         for k in 0..args.param(p).len() {
@@ -79,7 +102,7 @@ impl UniqueState {
     // One parameter is replaced where the part issues ids for its type.
     #[tactic(auto, using(crate::proofs::Places::own, crate::proofs::Places::set_beyond))]
     fn enter_param(&self, ty: ObjectType, args: &mut HandleArgs<6>, p: usize)
-        ensures lists { args.new.lists ≡ slice_set args.old.lists p (below_handles self.now ty (list_at args.old.lists p)) }
+        ensures lists { args.new.lists ≡ slice_set args.old.lists p (below_handles self.now.ids ty (list_at args.old.lists p)) }
         ensures marks { args.new.marks ≡ args.old.marks }
     {
         if p < args.len() && wraps(ty) {
@@ -89,7 +112,7 @@ impl UniqueState {
 
     // All parameters are.
     fn enter_params(&self, params: &[Param], args: &mut HandleArgs<6>)
-        ensures lists { args.new.lists ≡ below_params self.now (map seen_param params.now) args.old.lists }
+        ensures lists { args.new.lists ≡ below_params self.now.ids (map seen_param params.now) args.old.lists }
         ensures marks { args.new.marks ≡ args.old.marks }
     {
         for p in 0..params.len() {
@@ -100,14 +123,16 @@ impl UniqueState {
     /// The call as it goes on: each handle of a type for which the part issues ids is replaced by the one below it, and by 0
     /// where the id is unknown.
     pub fn enter(&self, call: &mut LayerCall)
-        ensures { call_content call.new ≡ unique_enter self.now (call_content call.old) }
+        ensures { call_content call.new ≡ unique_enter self.now.ids (call_content call.old) }
     {
         self.enter_params(row(call.cmd).params, &mut call.args);
     }
 
-    // The id kept for a result, where the call retrieves.
+    // The id kept for a result, where the call retrieves. It was issued.
+    #[tactic(auto, using(crate::proofs::Room::found_up_to, crate::proofs::Found::greatest_is))]
     fn kept_for(&self, key: Option<RetrievedKey>) -> Option<u64>
-        ensures { result ≡ kept_for self.now.kept (key_asked key) }
+        ensures id { result ≡ kept_for self.now.ids.kept (key_asked key) }
+        ensures known { IfSome result (λ id. id ≤ greatest_id self.now.ids.entries) }
     {
         match key {
             None => None,
@@ -115,25 +140,28 @@ impl UniqueState {
         }
     }
 
-    // A known id gets the new value.
-    #[tactic(auto, using(crate::proofs::Found::put_found))]
+    // A known id, which is at most the greatest, gets the new value.
+    #[tactic(auto, using(crate::proofs::Found::put_found, crate::proofs::Found::greatest_is, crate::proofs::Room::least_falls))]
     fn put_known(&mut self, ty: ObjectType, id: u64, value: u64) -> Result<(), NoMemory>
-        ensures { OnOk result (record { id = id; ids = self.new } ≡ known self.old ty id value) }
+        requires { id ≤ greatest_id self.old.ids.entries }
+        ensures ids { OnOk result (record { id = id; ids = self.new.ids } ≡ known self.old.ids ty id value) }
+        ensures succeeds { 1 ≤ self.old.spare → IsOk result }
+        ensures spare { self.old.spare ≤ self.new.spare + 1 }
     {
-        self.ids.insert(ty, id, &[value])?;
-        self.greatest = self.greatest.max(id);
-        Ok(())
+        self.ids.insert(ty, id, &[value])
     }
 
     // A new id, kept by its key where the call retrieves.
-    #[tactic(auto, using(crate::proofs::Found::put_found, crate::proofs::Found::next_is))]
+    #[tactic(auto, using(crate::proofs::Found::put_found, crate::proofs::Found::next_is, crate::proofs::Room::up_to_more, crate::proofs::Room::up_to_last, crate::proofs::Room::least_falls))]
     fn put_new(
         &mut self,
         key: Option<RetrievedKey>,
         ty: ObjectType,
         value: u64,
     ) -> Result<u64, NoMemory>
-        ensures { IfOk result (λ id. record { id = id; ids = self.new } ≡ new_id self.old (key_asked key) ty value) }
+        ensures ids { IfOk result (λ id. record { id = id; ids = self.new.ids } ≡ new_id self.old.ids (key_asked key) ty value) }
+        ensures succeeds { 1 ≤ self.old.spare → IsOk result }
+        ensures spare { self.old.spare ≤ self.new.spare + 1 }
     {
         let id = self.greatest.checked_add(1).ok_or(NoMemory)?;
         self.ids.insert(ty, id, &[value])?;
@@ -151,7 +179,9 @@ impl UniqueState {
         ty: ObjectType,
         value: u64,
     ) -> Result<u64, NoMemory>
-        ensures { IfOk result (λ id. record { id = id; ids = self.new } ≡ issue self.old (key_asked key) ty value) }
+        ensures ids { IfOk result (λ id. record { id = id; ids = self.new.ids } ≡ issue self.old.ids (key_asked key) ty value) }
+        ensures succeeds { 1 ≤ self.old.spare → IsOk result }
+        ensures spare { self.old.spare ≤ self.new.spare + 1 }
     {
         match self.kept_for(key) {
             None => self.put_new(key, ty, value),
@@ -170,7 +200,9 @@ impl UniqueState {
         ty: ObjectType,
         results: &mut [u64],
     ) -> Result<(), NoMemory>
-        ensures { OnOk result (record { results = results.new; ids = self.new } ≡ issue_all self.old (key_asked key) ty 0 (map there results.old)) }
+        ensures ids { OnOk result (record { results = results.new; ids = self.new.ids } ≡ issue_all self.old.ids (key_asked key) ty 0 (map there results.old)) }
+        ensures succeeds { length results.old ≤ self.old.spare → IsOk result }
+        ensures spare { self.old.spare ≤ self.new.spare + length results.old }
     {
         for k in 0..results.len() {
             if results[k] != 0 {
@@ -182,9 +214,12 @@ impl UniqueState {
 
     /// Results on their way up, by the call as it stood above: each that isn't 0 gets an id where the part issues ids for its
     /// type. A created one gets a new id, one above the greatest; a retrieved one the kept id of its owner, type and place, else
-    /// a new one. The handle below that id is the new one. After `NoMemory` the part and the results are for dropping.
+    /// a new one. The handle below that id is the new one. After `NoMemory`, which comes only where there was no room for so many
+    /// births, the part and the results are for dropping.
     pub fn leave(&mut self, upper: &LayerCall, results: &mut [u64]) -> Result<(), NoMemory>
-        ensures { OnOk result (record { results = results.new; ids = self.new } ≡ unique_leave self.old (call_content upper.now) results.old) }
+        ensures ids { OnOk result (record { results = results.new; ids = self.new.ids } ≡ unique_leave self.old.ids (call_content upper.now) results.old) }
+        ensures succeeds { length results.old ≤ self.old.spare → IsOk result }
+        ensures spare { self.old.spare ≤ self.new.spare + length results.old }
     {
         let row = row(upper.cmd);
         match row.effect.type_made() {

@@ -308,3 +308,59 @@ fn few_and_many_images(rt: HostRuntime) -> Result<(), Fail> {
     images(&rt, rt.alloc(), 10, 1_000)?;
     images(&rt, rt.alloc(), 1_000, 10)
 }
+
+// A part to which so many buffers and as many images of a swapchain were born goes on beside its copy.
+fn copy_goes_on(rt: &impl Abort, alloc: Global, count: u64) -> Result<(), Fail> {
+    let create = call(CommandId::CreateBuffer, &[&[40]]);
+    let images = call(CommandId::GetSwapchainImagesKHR, &[&[40], &[1]]);
+    let mut part = UniqueState::new(alloc);
+    part.reserve(2).ok().ok_or("memory")?;
+    for k in 0..count {
+        comes_up(rt, alloc, &mut part, &create, &[k % 9 + 7], &[k + 1])?;
+    }
+    comes_up(rt, alloc, &mut part, &images, &[5], &[count + 1])?;
+    let mut copy = part.copy().ok().ok_or("memory")?;
+    copy.reserve(2).ok().ok_or("memory")?;
+    comes_up(
+        rt,
+        alloc,
+        &mut copy,
+        &images,
+        &[6, 4],
+        &[count + 1, count + 2],
+    )?;
+    comes_up(rt, alloc, &mut copy, &create, &[3], &[count + 3])?;
+    comes_up(rt, alloc, &mut part, &create, &[2], &[count + 2])?;
+    comes_up(
+        rt,
+        alloc,
+        &mut part,
+        &images,
+        &[8, 8],
+        &[count + 1, count + 3],
+    )?;
+    let unknown = call(CommandId::DestroyBuffer, &[&[40], &[9000]]);
+    goes_on(rt, alloc, &copy, &unknown, &[&[40], &[0]])
+}
+
+// What stands below an id in the copy and in the part differs once both have gone on.
+#[test]
+fn a_copy_shares_nothing(rt: HostRuntime) -> Result<(), Fail> {
+    let alloc = rt.alloc();
+    let images = call(CommandId::GetSwapchainImagesKHR, &[&[40], &[1]]);
+    let destroy = call(CommandId::DestroyImage, &[&[40], &[1]]);
+    let mut part = UniqueState::new(alloc);
+    comes_up(&rt, alloc, &mut part, &images, &[5], &[1])?;
+    let mut copy = part.copy().ok().ok_or("memory")?;
+    comes_up(&rt, alloc, &mut copy, &images, &[6], &[1])?;
+    goes_on(&rt, alloc, &part, &destroy, &[&[40], &[5]])?;
+    goes_on(&rt, alloc, &copy, &destroy, &[&[40], &[6]])
+}
+
+#[test]
+fn copies_of_all_sizes(rt: HostRuntime) -> Result<(), Fail> {
+    let alloc = rt.alloc();
+    copy_goes_on(&rt, alloc, 0)?;
+    copy_goes_on(&rt, alloc, 3)?;
+    copy_goes_on(&rt, alloc, 2000)
+}

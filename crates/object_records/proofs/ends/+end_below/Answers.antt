@@ -1,4 +1,4 @@
-use Rattle.std.proofs.Common.{◌≡◌, ◌<◌, ◌-◌, ◌+◌, ◌∙◌, suc, List, length, ap, arith}
+use Rattle.std.proofs.Common.{◌≡◌, ◌<◌, ◌-◌, ◌+◌, ◌∙◌, suc, List, length, ap, arith, refl}
 use Rattle.object_records.specs.declared.record.ObjectRecord.{ObjectRecord}
 use Rattle.object_records.specs.Records.{IsEndedBelow, living_kept}
 use Rattle.object_records.proofs.Sweeping.{below_length, ends_fit, leaves_begin, leaves_end, leaves_go, sweep_back, sweep_begins, sweep_ends, sweep_goes, sweep_leads, sweep_length, sweep_strays}
@@ -9,6 +9,7 @@ loop-link-init t c = record {
   walked = sweep_begins c.args.table.now.records c.args.place c.last_owned-link.result c.last_owned-link.ensures.link;
   leaves = λ yes. leaves_begin c.args.table.now.records c.args.place c.last_owned-link.result c.last_owned-link.ensures.link;
   count = omega arith;
+  spare = refl;
 }
 
 pub previous-link-requires : goal.previous-link-requires
@@ -67,6 +68,7 @@ loop-link-preserved t c =
       leaves = λ yes. let both = c.are_leaves_with-are_leaves.ensures yes in
           leaves_go c.args.table.now.records c.loop-link.table.records c.args.place c.loop-link.link (c.loop-link.link - 1) c.previous-link.result c.loop-link.invariant.walked is c.previous-link.ensures (c.loop-link.invariant.leaves both.0) both.1;
       count = omega (arith, c.loop-link.invariant.count, c.end_below-ended.ensures.count, c.end_record-ended.ensures.count);
+      spare = c.end_record-ended.ensures.spare ∙ (c.end_below-ended.ensures.spare ∙ c.loop-link.invariant.spare);
     }
 
 pub loop-link-smaller : goal.loop-link-smaller
@@ -89,7 +91,7 @@ returns-clause-records t c =
     let rs = c.args.table.now.records in
     let ended : IsEndedBelow rs c.args.place c.loop-link.table.records
     = sweep_ends rs c.loop-link.table.records c.args.place c.loop-link.link c.passed-passed.result c.last_owned-link.ensures.owners c.last_owned-link.ensures.once c.requires.born c.loop-link.invariant.walked c.passed-passed.ensures c.loop-link-test.false in
-    λ p e. c.pass_leaves.ensures ∙ ended p e
+    λ p e. c.pass_leaves.ensures.records ∙ ended p e
 
 pub returns-clause-count : goal.returns-clause-count
-returns-clause-count t c = omega (arith, c.loop-link.invariant.count, ap (λ (xs : List ObjectRecord). length (living_kept xs)) c.pass_leaves.ensures)
+returns-clause-count t c = omega (arith, c.loop-link.invariant.count, ap (λ (xs : List ObjectRecord). length (living_kept xs)) c.pass_leaves.ensures.records)

@@ -8,6 +8,7 @@ invariant-loop-link l = record {
   walked : IsSweeping l.fn.table.records l.table.records l.place l.link;
   leaves : l.are_leaves ≡ true → AreLeaves l.fn.table.records l.place l.link;
   count : l.ended + length (living_kept l.table.records) ≡ length (living_kept l.fn.table.records);
+  spare : l.table.spare ≡ l.fn.table.spare;
 }
 
 abbrev pub decreases-loop-link : goal.decreases-loop-link

@@ -1,4 +1,4 @@
-use Rattle.std.proofs.Common.{◌<◌, ◌+◌, ◌∙◌, Bool, false, List, length, ap, arith}
+use Rattle.std.proofs.Common.{◌<◌, ◌+◌, ◌∙◌, Bool, false, List, length, ap, arith, refl}
 use Rattle.std.specs.Option.{option_map_or}
 use Rattle.command_tables.specs.Handles.{list_at}
 use Rattle.object_model.specs.declared.Argument.{Argument}
@@ -12,7 +12,7 @@ use Rattle.object_records.proofs.Sweeping.{ending_begins, ending_ends, ending_go
 use Rattle.object_records.proofs.ends.end_all_named.Goals as goal
 
 pub loop-k-init : goal.loop-k-init
-loop-k-init c = record { ended = ending_begins ends_with c.args.table.now.records (list_at (arguments_of c.args.call.now) c.args.p); count = omega arith }
+loop-k-init c = record { ended = ending_begins ends_with c.args.table.now.records (list_at (arguments_of c.args.call.now) c.args.p); count = omega arith; spare = refl }
 
 pub end_argument-ended-requires : goal.end_argument-ended-requires
 end_argument-ended-requires c = ending_strays ends_with c.args.table.now.records c.loop-k.table.records (list_at (arguments_of c.args.call.now) c.args.p) c.loop-k.k c.loop-k.invariant.ended ∙ c.requires.born
@@ -34,6 +34,7 @@ loop-k-preserved c =
       ended = ending_goes goes c.args.table.now.records rs c.end_argument-ended.new.table.records places c.loop-k.k c.loop-k.invariant.ended less
           (c.end_argument-ended.ensures.records ∙ ap (λ a. swept (λ o. option_map_or (goes (births_kept rs) o) (object_of a) false) (length rs) rs) c.argument_at.ensures);
       count = omega (arith, c.loop-k.invariant.count, c.end_argument-ended.ensures.count);
+      spare = c.end_argument-ended.ensures.spare ∙ c.loop-k.invariant.spare;
     }
 
 pub returns-clause-records : goal.returns-clause-records

@@ -11,4 +11,5 @@ abbrev pub invariant-loop-k : goal.invariant-loop-k
 invariant-loop-k l = record {
   ended : IsEnding (λ births o. is_in (owners_in births o)) l.fn.table.records l.table.records (list_at (arguments_of l.call) l.p) l.k;
   count : l.ended + length (living_kept l.table.records) ≡ length (living_kept l.fn.table.records);
+  spare : l.table.spare ≡ l.fn.table.spare;
 }

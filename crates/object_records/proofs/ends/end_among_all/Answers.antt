@@ -32,4 +32,5 @@ loop-i-preserved c =
         | then-end_one w ↦ omega (arith, c.loop-i.invariant.few, w.ended-is)
         | else-end_one w ↦ omega (arith, c.loop-i.invariant.few, w.ended-is)
       ];
+      spare = c.end_one.ensures.spare ∙ c.loop-i.invariant.spare;
     }

@@ -8,5 +8,6 @@ abbrev pub invariant-loop-i : goal.invariant-loop-i
 invariant-loop-i l = record {
   records : l.table.records ≡ swept (ends_by (births_kept l.fn.table.records) (arguments_of l.call) l.effect) l.i l.fn.table.records;
   count : l.ended + length (living_kept l.table.records) ≡ length (living_kept l.fn.table.records);
+  spare : l.table.spare ≡ l.fn.table.spare;
   few : l.ended ≤ l.i;
 }

@@ -15,7 +15,7 @@ pub returns-clause-records : goal.returns-clause-records
 returns-clause-records c =
     let rs = c.args.table.now.records in
     let lived : c.record-kept.result.lives ≡ true = search rules in
-    λ ends only. c.pass_front.ensures ∙ (c.end_at.ensures.records ∙ sym (one_swept ends rs c.args.place c.record-kept.result only c.record-kept.ensures.found ∙ ap (λ u. cond u (ended_at rs c.args.place) rs) lived))
+    λ ends only. c.pass_front.ensures.records ∙ (c.end_at.ensures.records ∙ sym (one_swept ends rs c.args.place c.record-kept.result only c.record-kept.ensures.found ∙ ap (λ u. cond u (ended_at rs c.args.place) rs) lived))
 
 pub pass_front-requires : goal.pass_front-requires
 pass_front-requires c =

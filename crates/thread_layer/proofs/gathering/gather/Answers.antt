@@ -16,8 +16,8 @@ use Rattle.thread_layer.proofs.gathering.gather.Goals as goal
 pub returns-clause-findings : goal.returns-clause-findings
 returns-clause-findings c =
     subst (λ (x : List Report). OnOk c.gather_params.result (reports_of c.gather_params.new.verdict.findings.items ≡ reports_of c.args.verdict.now.findings.items ++ x))
-    (ap (λ (r : RowSpec). params_from (argument_reports c.args.beside.place c.args.beside.thread (with_opens c.args.beside.records.now c.args.beside.open_calls.now)) 0 r.params (arguments_of c.args.call.now)) c.row.ensures
+    (ap (λ (r : RowSpec). params_from (argument_reports c.args.beside.place c.args.beside.thread (with_opens c.args.beside.records.now.kept c.args.beside.open_calls.now)) 0 r.params (arguments_of c.args.call.now)) c.row.ensures
     ∙ params_placed c.args.beside.place
-    (λ i p k a. overlap_at i k (least (flat_map (conflicts_in (map open_seen c.args.beside.open_calls.now) c.args.beside.thread) (uses_at c.args.beside.records.now.births (is_in c.args.beside.records.now.living) i p k (object_of a)))))
+    (λ i p k a. overlap_at i k (least (flat_map (conflicts_in (map open_seen c.args.beside.open_calls.now) c.args.beside.thread) (uses_at c.args.beside.records.now.kept.births (is_in c.args.beside.records.now.kept.living) i p k (object_of a)))))
     0 (row_of c.args.call.now.cmd).params (arguments_of c.args.call.now))
     c.gather_params.ensures.findings

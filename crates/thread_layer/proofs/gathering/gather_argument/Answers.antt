@@ -16,6 +16,6 @@ returns-clause-findings c =
     (c.least_conflict-conflict.ensures
     ∙ ap (λ (us : List Use). least (flat_map (conflicts_in (map open_seen c.args.beside.open_calls.now) c.args.beside.thread) us))
     (behind c.add_uses.new.uses.items c.args.gathered.now.uses.items c.deref.result.now c.len-start.result
-    (argument_uses (with_opens c.args.beside.records.now c.args.beside.open_calls.now) c.args.at.param (seen_param c.args.param.now) c.args.at.index c.args.argument)
+    (argument_uses (with_opens c.args.beside.records.now.kept c.args.beside.open_calls.now) c.args.at.param (seen_param c.args.param.now) c.args.at.index c.args.argument)
     (c.len-start.ensures ∙ c.args.gathered.now.uses.ok.0) c.deref.ensures.value (c.in_ok-add_uses.ensures)))
     c.report.ensures.findings

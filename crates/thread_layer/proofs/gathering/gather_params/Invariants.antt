@@ -9,9 +9,9 @@ use Rattle.thread_layer.proofs.gathering.gather_params.Given as goal
 
 abbrev pub invariant-loop-i : goal.invariant-loop-i
 invariant-loop-i l = record {
-  uses : map use_seen l.gathered.uses.items ++ params_from (argument_uses (with_opens l.beside.records.now l.beside.open_calls.now)) l.i (map seen_param (drop l.i l.params)) (drop l.i (arguments_of l.call))
-      ≡ map use_seen l.fn.gathered.uses.items ++ params_from (argument_uses (with_opens l.beside.records.now l.beside.open_calls.now)) 0 (map seen_param l.params) (arguments_of l.call);
-  findings : reports_of l.verdict.findings.items ++ params_from (argument_reports l.beside.place l.beside.thread (with_opens l.beside.records.now l.beside.open_calls.now)) l.i (map seen_param (drop l.i l.params)) (drop l.i (arguments_of l.call))
-      ≡ reports_of l.fn.verdict.findings.items ++ params_from (argument_reports l.beside.place l.beside.thread (with_opens l.beside.records.now l.beside.open_calls.now)) 0 (map seen_param l.params) (arguments_of l.call);
+  uses : map use_seen l.gathered.uses.items ++ params_from (argument_uses (with_opens l.beside.records.now.kept l.beside.open_calls.now)) l.i (map seen_param (drop l.i l.params)) (drop l.i (arguments_of l.call))
+      ≡ map use_seen l.fn.gathered.uses.items ++ params_from (argument_uses (with_opens l.beside.records.now.kept l.beside.open_calls.now)) 0 (map seen_param l.params) (arguments_of l.call);
+  findings : reports_of l.verdict.findings.items ++ params_from (argument_reports l.beside.place l.beside.thread (with_opens l.beside.records.now.kept l.beside.open_calls.now)) l.i (map seen_param (drop l.i l.params)) (drop l.i (arguments_of l.call))
+      ≡ reports_of l.fn.verdict.findings.items ++ params_from (argument_reports l.beside.place l.beside.thread (with_opens l.beside.records.now.kept l.beside.open_calls.now)) 0 (map seen_param l.params) (arguments_of l.call);
   skip : l.verdict.skip ≡ l.fn.verdict.skip;
 }

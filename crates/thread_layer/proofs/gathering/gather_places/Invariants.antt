@@ -10,9 +10,9 @@ use Rattle.thread_layer.proofs.gathering.gather_places.Given as goal
 
 abbrev pub invariant-loop-k : goal.invariant-loop-k
 invariant-loop-k l = record {
-  uses : map use_seen l.gathered.uses.items ++ places_from (argument_uses (with_opens l.beside.records.now l.beside.open_calls.now) l.i (seen_param l.param)) l.k (drop l.k (list_at (arguments_of l.call) l.i))
-      ≡ map use_seen l.fn.gathered.uses.items ++ places_from (argument_uses (with_opens l.beside.records.now l.beside.open_calls.now) l.i (seen_param l.param)) 0 (list_at (arguments_of l.call) l.i);
-  findings : reports_of l.verdict.findings.items ++ places_from (argument_reports l.beside.place l.beside.thread (with_opens l.beside.records.now l.beside.open_calls.now) l.i (seen_param l.param)) l.k (drop l.k (list_at (arguments_of l.call) l.i))
-      ≡ reports_of l.fn.verdict.findings.items ++ places_from (argument_reports l.beside.place l.beside.thread (with_opens l.beside.records.now l.beside.open_calls.now) l.i (seen_param l.param)) 0 (list_at (arguments_of l.call) l.i);
+  uses : map use_seen l.gathered.uses.items ++ places_from (argument_uses (with_opens l.beside.records.now.kept l.beside.open_calls.now) l.i (seen_param l.param)) l.k (drop l.k (list_at (arguments_of l.call) l.i))
+      ≡ map use_seen l.fn.gathered.uses.items ++ places_from (argument_uses (with_opens l.beside.records.now.kept l.beside.open_calls.now) l.i (seen_param l.param)) 0 (list_at (arguments_of l.call) l.i);
+  findings : reports_of l.verdict.findings.items ++ places_from (argument_reports l.beside.place l.beside.thread (with_opens l.beside.records.now.kept l.beside.open_calls.now) l.i (seen_param l.param)) l.k (drop l.k (list_at (arguments_of l.call) l.i))
+      ≡ reports_of l.fn.verdict.findings.items ++ places_from (argument_reports l.beside.place l.beside.thread (with_opens l.beside.records.now.kept l.beside.open_calls.now) l.i (seen_param l.param)) 0 (list_at (arguments_of l.call) l.i);
   skip : l.verdict.skip ≡ l.fn.verdict.skip;
 }

@@ -11,5 +11,5 @@ put-requires c = subst (λ (s : IssuedState). has_pair s.ids.entries c.args.ty c
 
 pub invariant_of-self-in-Some : goal.invariant_of-self-in-Some
 invariant_of-self-in-Some c =
-    subst (λ (es : List (MapEntry (List Value))). AreIssued es c.self.inside.kept) (sym c.in_ok-put-in-Some.ensures.entries)
-    (issued_stay c.self.inside.table.entries c.self.inside.kept c.args.ty c.in-Some.id (map value_of c.args.values.now) c.self.invariant)
+    subst (λ (es : List (MapEntry (List Value))). AreIssued es c.self.inside.kept.ids) (sym c.in_ok-put-in-Some.ensures.entries)
+    (issued_stay c.self.inside.table.entries c.self.inside.kept.ids c.args.ty c.in-Some.id (map value_of c.args.values.now) c.self.invariant)

@@ -1,4 +1,4 @@
-use Rattle.std.proofs.Common.{◌≡◌, ◌+◌, ◌++◌, [], ◌∷◌, List, map, length, ap, refl, arith, ◌∙◌, length-append}
+use Rattle.std.proofs.Common.{◌≡◌, ◌+◌, ◌++◌, [], ◌∷◌, length, ap, refl, arith, ◌∙◌, length-append}
 use Rattle.terminator.specs.declared.entry.IdEntry.{IdEntry}
 use Rattle.terminator.proofs.Placed.{added_as, next_is}
 use Rattle.terminator.proofs.table.IdTable.add.Goals as goal

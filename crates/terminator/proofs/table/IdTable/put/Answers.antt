@@ -1,8 +1,8 @@
-use Rattle.std.proofs.Common.{◌≡◌, ◌+◌, ◌++◌, ◌<◌, ◌≤◌, ◌-◌, true, ℕ, List, length, ap, sym, subst, arith, ◌∙◌}
+use Rattle.std.proofs.Common.{◌≡◌, ◌+◌, ◌++◌, ◌<◌, ◌≤◌, ◌-◌, true, ℕ, length, ap, sym, subst, arith, ◌∙◌}
 use Rattle.handle_map.specs.Pairs.{has_pair}
 use Rattle.terminator.specs.declared.entry.IdEntry.{IdEntry}
-use Rattle.terminator.specs.declared.value.DriverValue.{DriverValue}
-use Rattle.terminator.specs.Table.{IsInside, IsPlace, TableState, ids_from}
+use Rattle.terminator.specs.Table.{IsPlace, TableState}
+use Rattle.terminator.proofs.Flat.{length-written}
 use Rattle.terminator.proofs.Placed.{known_route, place_is, put_behind, put_here}
 use Rattle.terminator.proofs.table.IdTable.put.Goals as goal
 
@@ -28,17 +28,21 @@ index_mut-requires-else-len-entry c = let within : c.args.id - 1 < length c.self
 
 pub invariant_of-self : goal.invariant_of-self
 invariant_of-self c =
-    (put_here c.self.inside.entries.items c.self.inside.values.items c.write.new.flat.items c.args.values.now c.index-entry.result.now c.args.id c.args.ty (subst (λ (s : TableState). has_pair s.entries c.args.ty c.args.id ≡ true) (sym c.self.view_is) c.requires) c.self.invariant c.index-entry.ensures c.if-len-entry.true c.write.ensures).table
+    (put_here c.self.inside.entries.items c.self.inside.values.items c.write.new.flat.items c.args.values.now c.index-entry.result.now c.args.id c.args.ty (subst (λ (s : TableState). has_pair s.entries c.args.ty c.args.id ≡ true) (sym c.self.view_is) c.requires) c.self.invariant c.index-entry.ensures c.if-len-entry.true c.write.ensures.items).table
 
 pub returns-then-len-entry-clause-entries : goal.returns-then-len-entry-clause-entries
 returns-then-len-entry-clause-entries c =
     rw (← c.self.view_is)
-    (put_here c.self.inside.entries.items c.self.inside.values.items c.write.new.flat.items c.args.values.now c.index-entry.result.now c.args.id c.args.ty (subst (λ (s : TableState). has_pair s.entries c.args.ty c.args.id ≡ true) (sym c.self.view_is) c.requires) c.self.invariant c.index-entry.ensures c.if-len-entry.true c.write.ensures).entries
+    (put_here c.self.inside.entries.items c.self.inside.values.items c.write.new.flat.items c.args.values.now c.index-entry.result.now c.args.id c.args.ty (subst (λ (s : TableState). has_pair s.entries c.args.ty c.args.id ≡ true) (sym c.self.view_is) c.requires) c.self.invariant c.index-entry.ensures c.if-len-entry.true c.write.ensures.items).entries
+
+pub returns-then-len-entry-clause-room : goal.returns-then-len-entry-clause-room
+returns-then-len-entry-clause-room c =
+    omega (arith, ap length c.write.ensures.items, length-written c.self.inside.values.items c.index-entry.result.now.start c.args.values.now, c.write.ensures.capacity, ap (λ (s : TableState). s.room) c.self.view_is)
 
 pub returns-then-len-entry-clause-routes : goal.returns-then-len-entry-clause-routes
 returns-then-len-entry-clause-routes c =
     rw (← c.self.view_is)
-    (put_here c.self.inside.entries.items c.self.inside.values.items c.write.new.flat.items c.args.values.now c.index-entry.result.now c.args.id c.args.ty (subst (λ (s : TableState). has_pair s.entries c.args.ty c.args.id ≡ true) (sym c.self.view_is) c.requires) c.self.invariant c.index-entry.ensures c.if-len-entry.true c.write.ensures).routes
+    (put_here c.self.inside.entries.items c.self.inside.values.items c.write.new.flat.items c.args.values.now c.index-entry.result.now c.args.id c.args.ty (subst (λ (s : TableState). has_pair s.entries c.args.ty c.args.id ≡ true) (sym c.self.view_is) c.requires) c.self.invariant c.index-entry.ensures c.if-len-entry.true c.write.ensures.items).routes
 
 pub returns-then-len-entry-clause-positive : goal.returns-then-len-entry-clause-positive
 returns-then-len-entry-clause-positive c =

@@ -1,8 +1,8 @@
-use Rattle.std.proofs.Common.{◌≡◌, ◌+◌, ◌≤◌, Option, List, [], map, length, take, drop, ap, sym, ◌∙◌, subst, unwrap_or}
+use Rattle.std.proofs.Common.{Option, List, [], map, take, drop, ap, sym, ◌∙◌, unwrap_or}
 use Rattle.object_model.specs.Values.{Value}
 use Rattle.terminator.specs.declared.entry.IdEntry.{IdEntry}
 use Rattle.terminator.specs.declared.value.DriverValue.{DriverValue}
-use Rattle.terminator.specs.Table.{IsPlace, ids_from, value_of, values_at}
+use Rattle.terminator.specs.Table.{ids_from, value_of, values_at}
 use Rattle.terminator.proofs.Placed.{values_none, values_there}
 use Rattle.terminator.proofs.table.IdTable.values.Goals as goal
 

@@ -1,6 +1,6 @@
-use Rattle.std.proofs.Common.{◌≡◌, ℕ, List, map, length, ap, sym, ◌∙◌, subst}
+use Rattle.std.proofs.Common.{◌≡◌, List, map, subst}
 use Rattle.std.specs.Prelude.{OnOk}
-use Rattle.command_tables.specs.Calls.{CallContent, ReplyContent, call_content}
+use Rattle.command_tables.specs.Calls.{call_content}
 use Rattle.layer_model.specs.Ids.{IssuedAll}
 use Rattle.model_driver.specs.Driver.{reply_shown}
 use Rattle.object_model.specs.Values.{Value}

@@ -5,6 +5,6 @@ use Rattle.unique_layer.proofs.state.UniqueState.enter_params.Given as goal
 
 abbrev pub invariant-loop-p : goal.invariant-loop-p
 invariant-loop-p l = record {
-  lists : l.args.lists ≡ entered l.self l.p (map seen_param l.params) l.fn.args.lists;
+  lists : l.args.lists ≡ entered l.self.ids l.p (map seen_param l.params) l.fn.args.lists;
   marks : l.args.marks ≡ l.fn.args.marks;
 }

@@ -6,6 +6,6 @@ use Rattle.unique_layer.proofs.state.UniqueState.replace.Given as goal
 
 abbrev pub invariant-loop-k : goal.invariant-loop-k
 invariant-loop-k l = record {
-  lists : l.args.lists ≡ slice_set l.fn.args.lists l.fn.p (mapped (λ h. unwrap_or (values_of l.self.entries l.fn.ty h) 0) l.k (list_at l.fn.args.lists l.fn.p));
+  lists : l.args.lists ≡ slice_set l.fn.args.lists l.fn.p (mapped (λ h. unwrap_or (values_of l.self.ids.entries l.fn.ty h) 0) l.k (list_at l.fn.args.lists l.fn.p));
   marks : l.args.marks ≡ l.fn.args.marks;
 }
