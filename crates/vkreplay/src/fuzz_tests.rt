@@ -1,18 +1,20 @@
-// Traces that are changed at random, with a fixed seed: what holds of a run whatever came.
+// Traces and trees that are changed at random, with a fixed seed: what holds of a run whatever came. `bench/fuzz.py` tries more of them.
 ghost use Rattle.std.specs.Prelude.{IsTrue};
 ghost use Rattle.model_driver.specs.Driver.{are_handles};
 
-use crate::chain_tests::{DRIVER, HOME, VALIDATION, put, tree_of, variables};
+use crate::chain_tests::{DRIVER, HOME, VALIDATION, put, variables};
 use crate::tests::{TWICE, finished_of, sink, words_of};
 use model_driver::{AdverseDriver, Driver, ModelDriver};
-use replay_base::{MemSink, MemSource};
+use replay_base::{MemSink, MemSource, MemTree};
 use replay_core::Status;
 use std::alloc::{AllocError, Global};
 use std::process::Abort;
 use std::test::Fail;
 
-// How many changed traces are tried of each stored one.
+// How many changed traces, and how many changed trees, are tried of each stored trace, and the first number of the generator.
 const ROUNDS: u32 = 40;
+
+const SEED: u64 = 11;
 
 // Two threads that submit to one queue, a buffer that is used behind its end, and sets that end with their pool.
 const MIXED: &str = "vktrace 1
@@ -75,10 +77,34 @@ struct Came {
     errs: MemSink,
 }
 
+// What a run is over: a trace, the driver's manifest and the layer's.
+#[derive(Drop)]
+struct Given {
+    trace: Vec<u8>,
+    driver: Vec<u8>,
+    layer: Vec<u8>,
+}
+
+fn given_of(alloc: Global, stored: &str) -> Result<Given, AllocError> {
+    Ok(Given {
+        trace: Vec::from_slice(alloc, stored.as_bytes())?,
+        driver: Vec::from_slice(alloc, DRIVER.1.as_bytes())?,
+        layer: Vec::from_slice(alloc, VALIDATION.1.as_bytes())?,
+    })
+}
+
+fn tree_under(alloc: Global, given: &Given) -> Result<MemTree, Fail> {
+    let mut tree = MemTree::new(alloc);
+    put(&mut tree, DRIVER.0, &given.driver)?;
+    put(&mut tree, VALIDATION.0, &given.layer)?;
+    Ok(tree)
+}
+
+// A run of a trace over the manifests.
 fn came_under<D: Driver>(
     alloc: Global,
     trace: &[u8],
-    manifest: &[u8],
+    given: &Given,
     driver: &mut D,
 ) -> Result<Came, Fail> {
     let words = words_of(alloc, "run")?;
@@ -86,8 +112,7 @@ fn came_under<D: Driver>(
         alloc,
         &[HOME, ("VK_INSTANCE_LAYERS", "VK_LAYER_KHRONOS_validation")],
     )?;
-    let mut tree = tree_of(alloc, &[DRIVER])?;
-    put(&mut tree, VALIDATION.0, manifest)?;
+    let mut tree = tree_under(alloc, given)?;
     let mut trace = MemSource::new(Vec::from_slice(alloc, trace)?, Vec::new(alloc));
     let mut out = MemSink::new(alloc, 65_536, Vec::new(alloc))
         .ok()
@@ -100,17 +125,23 @@ fn came_under<D: Driver>(
     Ok(Came { status, out, errs })
 }
 
-// Bytes with one that is another, a piece that is missing or doubled, or an end that is missing.
+// Each bit of a byte.
+const BITS: [u8; 8] = [1, 2, 4, 8, 16, 32, 64, 128];
+
+// Bytes with one that is another or has a bit flipped, a piece that is missing or doubled, or an end that is missing.
 fn with_bytes_changed(alloc: Global, dice: &mut Dice, bytes: &[u8]) -> Result<Vec<u8>, AllocError> {
-    let kind = dice.below(4);
+    let kind = dice.below(5);
     let at = dice.below(bytes.len());
     let end = at.saturating_add(dice.below(12));
     let other = u8::try_from(dice.below(95)).unwrap_or(0).saturating_add(32);
+    let bit = BITS.get(dice.below(8)).copied().unwrap_or(1);
     let mut changed = Vec::new(alloc);
     for (i, byte) in bytes.iter().enumerate() {
         let within = at <= i && i < end;
         if kind == 0 && i == at {
             changed.push(other)?;
+        } else if kind == 4 && i == at {
+            changed.push(*byte ^ bit)?;
         } else if (kind != 1 || !within) && (kind != 2 || i < at) {
             changed.push(*byte)?;
         }
@@ -121,10 +152,15 @@ fn with_bytes_changed(alloc: Global, dice: &mut Dice, bytes: &[u8]) -> Result<Ve
     Ok(changed)
 }
 
-// Lines of which two have changed places, or one stands in the place of another.
-fn with_lines_changed(alloc: Global, dice: &mut Dice, bytes: &[u8]) -> Result<Vec<u8>, AllocError> {
+// Lines, or other parts up to a byte, of which two have changed places, or one stands in the place of another.
+fn with_parts_changed(
+    alloc: Global,
+    dice: &mut Dice,
+    bytes: &[u8],
+    end: u8,
+) -> Result<Vec<u8>, AllocError> {
     let mut lines: Vec<&[u8]> = Vec::new(alloc);
-    for line in bytes.split(|byte| *byte == b'\n') {
+    for line in bytes.split(|byte| *byte == end) {
         lines.push(line)?;
     }
     let first = dice.below(lines.len());
@@ -140,15 +176,15 @@ fn with_lines_changed(alloc: Global, dice: &mut Dice, bytes: &[u8]) -> Result<Ve
             i
         };
         changed.extend_from_slice(lines.get(from).copied().unwrap_or(*line))?;
-        changed.push(b'\n')?;
+        changed.push(end)?;
     }
     changed.pop();
     Ok(changed)
 }
 
-fn changed(alloc: Global, dice: &mut Dice, bytes: &[u8]) -> Result<Vec<u8>, AllocError> {
+fn changed(alloc: Global, dice: &mut Dice, bytes: &[u8], end: u8) -> Result<Vec<u8>, AllocError> {
     if dice.below(2) == 0 {
-        with_lines_changed(alloc, dice, bytes)
+        with_parts_changed(alloc, dice, bytes, end)
     } else {
         with_bytes_changed(alloc, dice, bytes)
     }
@@ -158,6 +194,27 @@ fn lines_with(text: &[u8], front: &[u8]) -> usize {
     let mut count: usize = 0;
     for line in text.split(|byte| *byte == b'\n') {
         count = count.saturating_add(usize::from(line.starts_with(front)));
+    }
+    count
+}
+
+// How many calls are skipped: those that a report stands above, but not of an overlap, and the instances that are refused. What is
+// reported of one call stands together.
+fn skipped_in(text: &[u8]) -> usize {
+    let mut count: usize = 0;
+    let mut last: &[u8] = b"";
+    for line in text.split(|byte| *byte == b'\n') {
+        let mut words = line.split(|byte| *byte == b' ');
+        let first = words.next().unwrap_or(b"");
+        let call = words.next().unwrap_or(b"");
+        let third = words.next().unwrap_or(b"");
+        let rule = words.next().unwrap_or(b"");
+        let is_refused = first == b"chain".as_slice() && third != b"ok".as_slice();
+        let is_reported = first == b"report".as_slice() && !rule.ends_with(b"-overlap");
+        if (is_refused || is_reported) && call != last {
+            count = count.saturating_add(1);
+            last = call;
+        }
     }
     count
 }
@@ -177,8 +234,8 @@ fn without_end(text: &[u8]) -> &[u8] {
     &text[..kept.min(text.len())]
 }
 
-// The output is whole lines. Where the run came to its end, the end line is the last one, and it counts the returns and the reports
-// above it; otherwise there is none, and one line is said.
+// The output is whole lines. Where the run came to its end, the end line is the last one, and it counts the returns, the skipped calls
+// and the reports above it; otherwise there is none, and one line is said.
 fn is_whole(rt: &impl Abort, alloc: Global, came: &Came, trace: &[u8]) -> Result<(), Fail> {
     let out = came.out.bytes();
     let said = came.errs.bytes();
@@ -186,9 +243,9 @@ fn is_whole(rt: &impl Abort, alloc: Global, came: &Came, trace: &[u8]) -> Result
     let reports = lines_with(out, b"report ");
     if came.status == Status::Clean || came.status == Status::Reported {
         let calls = lines_with(out, b"ret ");
-        let front = format!(in alloc; "end calls={calls} skipped=")?;
-        let end = format!(in alloc; " reports={reports}\n")?;
-        assert!(rt; lines_with(out, front.as_bytes()) == 1, "{trace:?}");
+        let skipped = skipped_in(out);
+        let end = format!(in alloc; "end calls={calls} skipped={skipped} reports={reports}\n")?;
+        assert!(rt; lines_with(out, b"end ") == 1, "{trace:?}");
         assert!(rt; out.ends_with(end.as_bytes()), "{trace:?}");
         assert!(rt;
             (came.status == Status::Clean) == (reports == 0),
@@ -213,15 +270,14 @@ fn answers_make_no_difference(
     rt: &impl Abort,
     alloc: Global,
     came: &Came,
-    trace: &[u8],
-    manifest: &[u8],
+    given: &Given,
     handles: &[u64],
 ) -> Result<(), Fail>
     requires { IsTrue (are_handles handles.now) }
 {
     let mut driver = AdverseDriver::new(Vec::from_slice(alloc, handles)?);
-    let other = came_under(alloc, trace, manifest, &mut driver)?;
-    is_same(rt, came, &other, trace);
+    let other = came_under(alloc, &given.trace, given, &mut driver)?;
+    is_same(rt, came, &other, &given.trace);
     Ok(())
 }
 
@@ -231,16 +287,16 @@ fn front_comes_first(
     alloc: Global,
     dice: &mut Dice,
     came: &Came,
-    trace: &[u8],
-    manifest: &[u8],
+    given: &Given,
 ) -> Result<(), Fail> {
+    let trace = given.trace.as_slice();
     let count = dice.below(lines_with(trace, b""));
     let mut front = Vec::new(alloc);
     for line in trace.split(|byte| *byte == b'\n').take(count) {
         front.extend_from_slice(line)?;
         front.push(b'\n')?;
     }
-    let cut = came_under(alloc, &front, manifest, &mut ModelDriver::new(alloc))?;
+    let cut = came_under(alloc, &front, given, &mut ModelDriver::new(alloc))?;
     assert!(rt;
         came.out.bytes().starts_with(without_end(cut.out.bytes())),
         "{trace:?}"
@@ -249,55 +305,61 @@ fn front_comes_first(
 }
 
 // All that holds of any run.
-fn holds(
-    rt: &impl Abort,
-    alloc: Global,
-    dice: &mut Dice,
-    trace: &[u8],
-    manifest: &[u8],
-) -> Result<(), Fail> {
+fn holds(rt: &impl Abort, alloc: Global, dice: &mut Dice, given: &Given) -> Result<(), Fail> {
     const M: u64 = u64::MAX;
-    let came = came_under(alloc, trace, manifest, &mut ModelDriver::new(alloc))?;
-    is_whole(rt, alloc, &came, trace)?;
-    let again = came_under(alloc, trace, manifest, &mut ModelDriver::new(alloc))?;
-    is_same(rt, &came, &again, trace);
-    answers_make_no_difference(rt, alloc, &came, trace, manifest, &[])?;
-    answers_make_no_difference(
-        rt,
-        alloc,
-        &came,
-        trace,
-        manifest,
-        &[M, M, M, M, M, M, M, M, M],
-    )?;
-    answers_make_no_difference(
-        rt,
-        alloc,
-        &came,
-        trace,
-        manifest,
-        &[2, 1, 4, 3, 6, 5, 8, 7, 9],
-    )?;
-    front_comes_first(rt, alloc, dice, &came, trace, manifest)
+    let came = came_under(alloc, &given.trace, given, &mut ModelDriver::new(alloc))?;
+    is_whole(rt, alloc, &came, &given.trace)?;
+    let again = came_under(alloc, &given.trace, given, &mut ModelDriver::new(alloc))?;
+    is_same(rt, &came, &again, &given.trace);
+    answers_make_no_difference(rt, alloc, &came, given, &[])?;
+    answers_make_no_difference(rt, alloc, &came, given, &[M, M, M, M, M, M, M, M, M])?;
+    answers_make_no_difference(rt, alloc, &came, given, &[2, 1, 4, 3, 6, 5, 8, 7, 9])?;
+    front_comes_first(rt, alloc, dice, &came, given)
 }
 
 // Changes a trace more and more, and begins again now and then.
 fn traces_hold(rt: &impl Abort, alloc: Global, dice: &mut Dice, stored: &str) -> Result<(), Fail> {
-    let manifest = VALIDATION.1.as_bytes();
-    let mut trace = Vec::from_slice(alloc, stored.as_bytes())?;
+    let mut given = given_of(alloc, stored)?;
     for round in 0..ROUNDS {
         if round % 4 == 0 {
-            trace = Vec::from_slice(alloc, stored.as_bytes())?;
+            given = given_of(alloc, stored)?;
         }
-        trace = changed(alloc, dice, &trace)?;
-        holds(rt, alloc, dice, &trace, manifest)?;
+        given.trace = changed(alloc, dice, &given.trace, b'\n')?;
+        holds(rt, alloc, dice, &given)?;
+    }
+    Ok(())
+}
+
+// Changes a manifest more and more: its bytes, what stands between its commas, or which of the two files has it.
+fn trees_hold(rt: &impl Abort, alloc: Global, dice: &mut Dice, stored: &str) -> Result<(), Fail> {
+    let mut given = given_of(alloc, stored)?;
+    for round in 0..ROUNDS {
+        if round % 4 == 0 {
+            given = given_of(alloc, stored)?;
+        }
+        match dice.below(8) {
+            0 => given.driver = Vec::from_slice(alloc, &given.layer)?,
+            1 => given.layer = Vec::from_slice(alloc, &given.driver)?,
+            2 | 3 => given.driver = changed(alloc, dice, &given.driver, b',')?,
+            _ => given.layer = changed(alloc, dice, &given.layer, b',')?,
+        }
+        holds(rt, alloc, dice, &given)?;
     }
     Ok(())
 }
 
 #[test]
 fn changed_traces_keep_what_holds_of_any(rt: HostRuntime) -> Result<(), Fail> {
-    let mut dice = Dice { number: 11 };
+    let mut dice = Dice { number: SEED };
     traces_hold(&rt, rt.alloc(), &mut dice, TWICE)?;
     traces_hold(&rt, rt.alloc(), &mut dice, MIXED)
+}
+
+#[test]
+fn changed_trees_keep_what_holds_of_any(rt: HostRuntime) -> Result<(), Fail> {
+    let mut dice = Dice {
+        number: SEED.wrapping_add(2),
+    };
+    trees_hold(&rt, rt.alloc(), &mut dice, TWICE)?;
+    trees_hold(&rt, rt.alloc(), &mut dice, MIXED)
 }
