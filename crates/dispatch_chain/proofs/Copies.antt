@@ -1,9 +1,8 @@
 -- The copy of a list of parts, part by part.
 use Rattle.std.proofs.Common.{◌≡◌, ◌<◌, ◌≤◌, ℕ, ◌+◌, List, [], ◌∷◌, ◌++◌, map, length, take, get_or, ap, sym, ◌∙◌}
 use Rattle.std.proofs.lemmas.List.{map-append, take_all, take_more}
-use Rattle.layer_model.specs.Walks.{PartState}
 use Rattle.dispatch_chain.specs.declared.part.Part.{Part}
-use Rattle.dispatch_chain.specs.Seats.{Seat, seat_of, state_of}
+use Rattle.dispatch_chain.specs.Seats.{seat_of, state_of}
 
 -- what is seen of one part more
 part_more : {X : Type 0} (seen : Part → X) (parts copies next : List Part) (i : ℕ) (d copy : Part) → i < length parts → map seen copies ≡ map seen (take i parts) → seen copy ≡ seen (get_or parts i d) → next ≡ copies ++ copy ∷ []
