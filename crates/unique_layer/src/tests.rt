@@ -309,36 +309,55 @@ fn few_and_many_images(rt: HostRuntime) -> Result<(), Fail> {
     images(&rt, rt.alloc(), 1_000, 10)
 }
 
-// A part to which so many buffers and as many images of a swapchain were born goes on beside its copy.
-fn copy_goes_on(rt: &impl Abort, alloc: Global, count: u64) -> Result<(), Fail> {
+fn buffer_comes(
+    rt: &impl Abort,
+    alloc: Global,
+    part: &mut UniqueState,
+    below: u64,
+    above: u64,
+) -> Result<(), Fail> {
     let create = call(CommandId::CreateBuffer, &[&[40]]);
+    comes_up(rt, alloc, part, &create, &[below], &[above])
+}
+
+fn images_come(
+    rt: &impl Abort,
+    alloc: Global,
+    part: &mut UniqueState,
+    results: &[u64],
+    above: &[u64],
+) -> Result<(), Fail> {
     let images = call(CommandId::GetSwapchainImagesKHR, &[&[40], &[1]]);
+    comes_up(rt, alloc, part, &images, results, above)
+}
+
+// A part to which so many buffers were born.
+fn with_buffers(rt: &impl Abort, alloc: Global, count: u32) -> Result<UniqueState, Fail> {
     let mut part = UniqueState::new(alloc);
-    part.reserve(2).ok().ok_or("memory")?;
     for k in 0..count {
-        comes_up(rt, alloc, &mut part, &create, &[k % 9 + 7], &[k + 1])?;
+        let id = u64::from(k) + 1;
+        buffer_comes(rt, alloc, &mut part, id % 9 + 7, id)?;
     }
-    comes_up(rt, alloc, &mut part, &images, &[5], &[count + 1])?;
+    Ok(part)
+}
+
+// A copy with room for two births.
+fn copy_with_room(part: &UniqueState) -> Result<UniqueState, Fail> {
     let mut copy = part.copy().ok().ok_or("memory")?;
     copy.reserve(2).ok().ok_or("memory")?;
-    comes_up(
-        rt,
-        alloc,
-        &mut copy,
-        &images,
-        &[6, 4],
-        &[count + 1, count + 2],
-    )?;
-    comes_up(rt, alloc, &mut copy, &create, &[3], &[count + 3])?;
-    comes_up(rt, alloc, &mut part, &create, &[2], &[count + 2])?;
-    comes_up(
-        rt,
-        alloc,
-        &mut part,
-        &images,
-        &[8, 8],
-        &[count + 1, count + 3],
-    )?;
+    Ok(copy)
+}
+
+// A part to which so many buffers and an image of a swapchain were born goes on beside its copy.
+fn copy_goes_on(rt: &impl Abort, alloc: Global, count: u32) -> Result<(), Fail> {
+    let next = u64::from(count) + 1;
+    let mut part = with_buffers(rt, alloc, count)?;
+    images_come(rt, alloc, &mut part, &[5], &[next])?;
+    let mut copy = copy_with_room(&part)?;
+    images_come(rt, alloc, &mut copy, &[6, 4], &[next, next + 1])?;
+    buffer_comes(rt, alloc, &mut copy, 3, next + 2)?;
+    buffer_comes(rt, alloc, &mut part, 2, next + 1)?;
+    images_come(rt, alloc, &mut part, &[8, 8], &[next, next + 2])?;
     let unknown = call(CommandId::DestroyBuffer, &[&[40], &[9000]]);
     goes_on(rt, alloc, &copy, &unknown, &[&[40], &[0]])
 }
