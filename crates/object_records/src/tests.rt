@@ -557,7 +557,7 @@ fn what_is_born_below_a_dead_pool_ends_with_the_device(rt: HostRuntime) -> Resul
 }
 
 // Records with so many buffers, and their copy, which goes on by itself.
-fn copy_goes_on(rt: &impl Abort, alloc: Global, buffers: u64) -> Result<(), Fail> {
+fn copy_goes_on(rt: &impl Abort, alloc: Global, buffers: u32) -> Result<(), Fail> {
     let mut records = with_device(alloc)?;
     records.reserve(3).ok().ok_or("memory")?;
     for k in 0..buffers {
@@ -566,20 +566,20 @@ fn copy_goes_on(rt: &impl Abort, alloc: Global, buffers: u64) -> Result<(), Fail
             &mut records,
             CommandId::CreateBuffer,
             &[&[3]],
-            k + 10,
+            u64::from(k) + 10,
         )?;
     }
     let born = records.live_count();
     let mut copy = records.copy().ok().ok_or("memory")?;
     copy.reserve(1).ok().ok_or("memory")?;
     assert_eq!(rt; copy.live_count(), born);
-    assert_eq!(rt; copy.owner(DEVICE), Some(PHYSICAL_DEVICE));
-    assert_eq!(rt; copy.count_children(DEVICE) as u64, buffers);
+    assert_eq!(rt; copy.owner(DEVICE), Some(INSTANCE));
+    assert_eq!(rt; copy.count_children(DEVICE) as u64, u64::from(buffers));
     bear(alloc, &mut copy, CommandId::CreateBuffer, &[&[3]], 9)?;
     end(alloc, &mut copy, CommandId::DestroyDevice, &[&[3]])?;
     assert_eq!(rt; copy.live_count(), 2);
     assert_eq!(rt; records.live_count(), born);
-    assert_eq!(rt; records.count_children(DEVICE) as u64, buffers);
+    assert_eq!(rt; records.count_children(DEVICE) as u64, u64::from(buffers));
     assert!(rt; records.is_alive(DEVICE));
     Ok(())
 }
