@@ -1,21 +1,17 @@
 -- Bounds of the ids of a table, and pairs that are beyond them.
-use Rattle.std.proofs.Common.{◌≡◌, ◌≤◌, ◌<◌, ◌∙◌, ◌&&◌, ◌||◌, ◌==◌, ℕ, max, cond, Bool, true, false, List, [], ◌∷◌, ◌++◌, length, get_or, refl, ap, sym, subst, arith, eq-eqb, length-append, get_or-set_same, get_or-set_other}
-use Rattle.std.specs.Prelude.{nat_eq, nat_lt, min}
-use Rattle.std.proofs.Math.ListN.{set, length-set}
+use Rattle.std.proofs.Common.{◌≡◌, ◌≤◌, ◌<◌, ◌∙◌, ◌&&◌, ◌||◌, ◌==◌, ℕ, max, cond, Bool, true, false, List, [], ◌∷◌, ◌++◌, length, get_or, refl, ap, sym, subst, arith, length-append}
+use Rattle.std.specs.Prelude.{nat_lt, min}
 use Rattle.std.proofs.lemmas.Bool.{eqb-true, ltb-true}
 use Rattle.command_tables.specs.declared.types.ObjectType.{ObjectType}
 use Rattle.command_tables.specs.Tests.{same_type}
 use Rattle.handle_map.specs.declared.bounds.Bounds.{Bounds}
 use Rattle.handle_map.specs.declared.entry.Entry.{Entry}
 use Rattle.handle_map.specs.Bounds.{IsBounded, bounds_with, is_beyond, is_numbered_apart}
-use Rattle.handle_map.specs.Chains.{HasNoPlace, entries_of, is_at}
+use Rattle.handle_map.specs.Chains.{HasNoPlace, is_at, pairs_of}
 use Rattle.handle_map.specs.Pairs.{greatest_id, has_pair}
 use Rattle.handle_map.proofs.Links.{type_is}
-use Rattle.handle_map.proofs.Adding.{got_before, got_last, none_above, none_of}
-
-and_true : (a b : Bool) → (a && b) ≡ true → (a ≡ true) × (b ≡ true)
-and_true true b e = (refl, e)
-and_true false b e = cc e
+use Rattle.handle_map.proofs.Adding.{got_before, got_last, none_of}
+use Rattle.handle_map.proofs.PairLists.{and_true, none_above}
 
 -- the same entries have the same bounds
 pub bounded_same : (es es' : List Entry) (bounds : Bounds) → es' ≡ es → IsBounded es bounds → IsBounded es' bounds
@@ -65,33 +61,6 @@ bounded_more es es' e bounds more same is bounded = bounded_same (es ++ e ∷ []
         let own : e.id ≤ more.apart = last (is_numbered_apart e.ty) apart_is (ap (λ (u : Entry). is_numbered_apart u.ty) (sym same_entry) ∙ apart) in
         omega (arith, own, ap (λ (u : Entry). u.id) same_entry)
 
--- an entry of the same pair in its place
-pub bounded_put : (es : List Entry) (place : ℕ) (d e : Entry) (bounds : Bounds) → place < length es → e.ty ≡ (get_or es place d).ty → e.id ≡ (get_or es place d).id → IsBounded es bounds → IsBounded (set es place e) bounds
-bounded_put es place d e bounds within ty id bounded = record {
-  least = λ p other below. under p other below (nat_eq p place) refl;
-  apart = λ p other below apart. over p other below apart (nat_eq p place) refl;
-}
-  where
-    new : (p : ℕ) (other : Entry) → nat_eq p place ≡ true → get_or (set es place e) p other ≡ e
-    new p other at = ap (λ n. get_or (set es place e) n other) (eqb-true p place at) ∙ get_or-set_same es place e other within
-
-    same : (p : ℕ) (other : Entry) → nat_eq p place ≡ false → get_or (set es place e) p other ≡ get_or es p other
-    same p other at = get_or-set_other es place p e other (λ (k : p ≡ place). let t : nat_eq p place ≡ true = eq-eqb p place k in cc)
-
-    under : (p : ℕ) (other : Entry) → p < length (set es place e) → (b : Bool) → nat_eq p place ≡ b → bounds.least ≤ (get_or (set es place e) p other).id
-    under p other below true at = omega (arith, bounded.least place d within, id, ap (λ (u : Entry). u.id) (new p other at))
-    under p other below false at =
-        let old : bounds.least ≤ (get_or es p other).id = bounded.least p other (omega (arith, below, length-set es place e)) in
-        omega (arith, old, ap (λ (u : Entry). u.id) (same p other at))
-
-    over : (p : ℕ) (other : Entry) → p < length (set es place e) → is_numbered_apart (get_or (set es place e) p other).ty ≡ true → (b : Bool) → nat_eq p place ≡ b → (get_or (set es place e) p other).id ≤ bounds.apart
-    over p other below apart true at =
-        let old : (get_or es place d).id ≤ bounds.apart = bounded.apart place d within (ap is_numbered_apart (sym ty) ∙ (ap (λ (u : Entry). is_numbered_apart u.ty) (sym (new p other at)) ∙ apart)) in
-        omega (arith, old, id, ap (λ (u : Entry). u.id) (new p other at))
-    over p other below apart false at =
-        let old : (get_or es p other).id ≤ bounds.apart = bounded.apart p other (omega (arith, below, length-set es place e)) (ap (λ (u : Entry). is_numbered_apart u.ty) (sym (same p other at)) ∙ apart) in
-        omega (arith, old, ap (λ (u : Entry). u.id) (same p other at))
-
 -- an entry of the pair is an entry of this type and id
 pair_is : (t : ObjectType) (id : ℕ) (e : Entry) → is_at t id e ≡ true → (e.ty ≡ t) × (e.id ≡ id)
 pair_is t id e is =
@@ -120,18 +89,18 @@ none_under es bounds t id bounded less p other below = go (is_at t id (get_or es
     go false is = is
 
 -- no entry is of a pair beyond the bounds
-pub none_is_beyond : (es : List Entry) (values : List ℕ) (bounds : Bounds) (t : ObjectType) (id : ℕ) → bounds.greatest ≡ greatest_id (entries_of values es) → IsBounded es bounds → is_beyond bounds t id ≡ true
-    → has_pair (entries_of values es) t id ≡ false
-none_is_beyond es values bounds t id is bounded beyond = go (nat_lt id bounds.least) (nat_lt bounds.greatest id) refl refl
+pub none_is_beyond : (es : List Entry) (bounds : Bounds) (t : ObjectType) (id : ℕ) → bounds.greatest ≡ greatest_id (pairs_of es) → IsBounded es bounds → is_beyond bounds t id ≡ true
+    → has_pair (pairs_of es) t id ≡ false
+none_is_beyond es bounds t id is bounded beyond = go (nat_lt id bounds.least) (nat_lt bounds.greatest id) refl refl
   where
     rest : (a b : Bool) → nat_lt id bounds.least ≡ a → nat_lt bounds.greatest id ≡ b → a ≡ false → b ≡ false → (is_numbered_apart t && nat_lt bounds.apart id) ≡ true
     rest true b low high not none = cc not
     rest false true low high not none = cc none
     rest false false low high not none = ap (λ c. c || (is_numbered_apart t && nat_lt bounds.apart id)) (sym high) ∙ (ap (λ c. c || (nat_lt bounds.greatest id || (is_numbered_apart t && nat_lt bounds.apart id))) (sym low) ∙ beyond)
 
-    go : (a b : Bool) → nat_lt id bounds.least ≡ a → nat_lt bounds.greatest id ≡ b → has_pair (entries_of values es) t id ≡ false
-    go true b low high = none_of es values t id (none_under es bounds t id bounded (ltb-true id bounds.least low))
-    go false true low high = none_above (entries_of values es) t id (subst (λ n. n < id) is (ltb-true bounds.greatest id high))
+    go : (a b : Bool) → nat_lt id bounds.least ≡ a → nat_lt bounds.greatest id ≡ b → has_pair (pairs_of es) t id ≡ false
+    go true b low high = none_of es t id (none_under es bounds t id bounded (ltb-true id bounds.least low))
+    go false true low high = none_above (pairs_of es) t id (subst (λ n. n < id) is (ltb-true bounds.greatest id high))
     go false false low high =
         let parts = and_true (is_numbered_apart t) (nat_lt bounds.apart id) (rest false false low high refl refl) in
-        none_of es values t id (none_over es bounds t id bounded parts.0 (ltb-true bounds.apart id parts.1))
+        none_of es t id (none_over es bounds t id bounded parts.0 (ltb-true bounds.apart id parts.1))

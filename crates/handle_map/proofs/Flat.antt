@@ -1,7 +1,7 @@
 -- Parts of the flat list of values.
 use Rattle.std.proofs.Common.{◌≡◌, ◌≤◌, ◌<◌, ◌⊎◌, ◌+◌, ◌∙◌, ℕ, zero, suc, List, [], ◌∷◌, ◌++◌, length, get_or, take, drop, refl, ap, sym, arith, inl, inr, add-one, drop-cons, get_or-set_same, get_or-set_other}
 use Rattle.std.proofs.Math.ListN.{set, length-set}
-use Rattle.handle_map.specs.Chains.{written}
+use Rattle.handle_map.specs.Spans.{written}
 
 pub length-written : (flat : List ℕ) (start : ℕ) (vs : List ℕ) → length (written flat start vs) ≡ length flat
 length-written flat start [] = refl

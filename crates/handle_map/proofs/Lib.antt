@@ -1,6 +1,6 @@
 pub mod Links
+pub mod PairLists
 pub mod Flat
-pub mod Tables
 pub mod Adding
-pub mod Putting
+pub mod Spreading
 pub mod Bounding

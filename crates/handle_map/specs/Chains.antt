@@ -1,10 +1,9 @@
--- How pairs of a type and an id are found: entries in order of insertion, chains through them, and one flat list of values.
--- Source: this project.
-use Rattle.std.specs.Prelude.{◌≡◌, ◌≢◌, ℕ, zero, suc, ◌+◌, ◌%◌, ◌≤◌, ◌<◌, ◌⊎◌, Bool, true, false, ◌&&◌, ◌==◌, List, [], ◌∷◌, length, map, take, drop, slice_index, slice_index_or, slice_set, bit_xor, replicate}
+-- How pairs of a type and an id are found: entries in order of insertion, and chains through them. Source: this project.
+use Rattle.std.specs.Prelude.{◌≡◌, ◌≢◌, ℕ, suc, ◌%◌, ◌≤◌, ◌<◌, ◌⊎◌, Bool, true, false, ◌&&◌, ◌==◌, List, [], ◌∷◌, length, map, slice_index, slice_index_or, bit_xor, replicate}
 use Rattle.command_tables.specs.declared.types.ObjectType.{ObjectType}
 use Rattle.command_tables.specs.declared.types.ObjectType.TheVariants as ty
 use Rattle.command_tables.specs.Tests.{same_type}
-use Rattle.handle_map.specs.Pairs.{AreDistinct, MapEntry, greatest_id}
+use Rattle.handle_map.specs.Pairs.{AreDistinct, Pair, greatest_id, pair}
 use Rattle.handle_map.specs.declared.entry.Entry.{Entry}
 
 -- a type as a number, in the order of the types
@@ -40,17 +39,13 @@ type_number ty.Swapchain = 25
 abbrev pub chain_of : ℕ → ObjectType → ℕ → ℕ
 chain_of chains t id = bit_xor id (type_number t) % chains
 
--- the values of an entry
-abbrev pub values_at : List ℕ → Entry → List ℕ
-values_at values e = take e.len (drop e.start values)
+-- the pair of an entry
+abbrev pub pair_of : Entry → Pair
+pair_of e = pair e.ty e.id
 
--- an entry with its values
-abbrev pub entry_of : List ℕ → Entry → MapEntry (List ℕ)
-entry_of values e = record { ty = e.ty; id = e.id; values = values_at values e }
-
--- all entries with their values
-abbrev pub entries_of : List ℕ → List Entry → List (MapEntry (List ℕ))
-entries_of values entries = map (entry_of values) entries
+-- the pairs of all entries
+abbrev pub pairs_of : List Entry → List Pair
+pairs_of entries = map pair_of entries
 
 -- a link into a chain, among the first so many entries: one more than the place of an entry of the chain, or 0. From it on no entry is
 -- of the chain.
@@ -69,24 +64,13 @@ pub record AreFirst (chains : ℕ) (entries : List Entry) (firsts : List ℕ) : 
   pub all : (length firsts ≡ chains) ⊎ ((firsts ≡ []) × (entries ≡ []))
   pub link : (chain : ℕ) → chain < length firsts → IsLink chains entries chain (length entries) (slice_index firsts chain)
 
--- an entry's values lie within its room, and that within the flat list
-pub record IsWithin (values : List ℕ) (e : Entry) : Type 0 where
-  pub few : e.len ≤ e.room
-  pub inside : e.start + e.room ≤ length values
-
--- the rooms of two entries have no place in common
-abbrev pub AreApart : Entry → Entry → Type 0
-AreApart a b = (a.start + a.room ≤ b.start) ⊎ (b.start + b.room ≤ a.start)
-
--- the entries, their values, their chains, of which there are some, and the greatest id fit together
-pub record IsTable (chains : ℕ) (entries : List Entry) (values firsts : List ℕ) (greatest : ℕ) : Type 0 where
+-- the entries, their chains, of which there are some, and the greatest id fit together
+pub record IsTable (chains : ℕ) (entries : List Entry) (firsts : List ℕ) (greatest : ℕ) : Type 0 where
   pub some : 1 ≤ chains
   pub linked : AreLinked chains entries
   pub first : AreFirst chains entries firsts
-  pub within : (place : ℕ) (other : Entry) → place < length entries → IsWithin values (slice_index_or entries place other)
-  pub apart : (a b : ℕ) (other : Entry) → a < length entries → b < length entries → a ≢ b → AreApart (slice_index_or entries a other) (slice_index_or entries b other)
-  pub distinct : AreDistinct (entries_of values entries)
-  pub most : greatest ≡ greatest_id (entries_of values entries)
+  pub distinct : AreDistinct (pairs_of entries)
+  pub most : greatest ≡ greatest_id (pairs_of entries)
 
 -- the entry is of this pair
 abbrev pub is_at : ObjectType → ℕ → Entry → Bool
@@ -100,17 +84,6 @@ pub record IsPlace (entries : List Entry) (t : ObjectType) (id place : ℕ) : Ty
 -- no entry is of the pair
 abbrev pub HasNoPlace : List Entry → ObjectType → ℕ → Type 0
 HasNoPlace entries t id = (place : ℕ) (other : Entry) → place < length entries → is_at t id (slice_index_or entries place other) ≡ false
-
--- values in the place of others, from this place on
-abbrev pub written : List ℕ → ℕ → List ℕ → List ℕ
-written values start [] = values
-written values start (v ∷ more) = written (slice_set values start v) (suc start) more
-
--- the entry at a place has these values now
-abbrev pub put_at : List (MapEntry (List ℕ)) → ℕ → List ℕ → List (MapEntry (List ℕ))
-put_at [] place values = []
-put_at (e ∷ entries) zero values = record e { values = values } ∷ entries
-put_at (e ∷ entries) (suc place) values = e ∷ put_at entries place values
 
 -- the chains' first links once there are chains: all empty where there were none
 abbrev pub chains_made : ℕ → List ℕ → List ℕ

@@ -1,3 +1,4 @@
 pub mod Pairs
 pub mod Chains
+pub mod Spans
 pub mod Bounds

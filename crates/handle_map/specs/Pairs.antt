@@ -1,5 +1,5 @@
--- A list of values by type and id, which holds each pair once. Source: this project.
-use Rattle.std.specs.Prelude.{◌≡◌, ℕ, ◌*◌, ◌≤◌, Bool, false, ◌&&◌, ◌==◌, if◌then◌else◌, max, Option, List, [], ◌∷◌, find}
+-- A list of values by type and id, which holds each pair once; and a list of such pairs alone. Source: this project.
+use Rattle.std.specs.Prelude.{◌≡◌, ℕ, suc, ◌*◌, ◌≤◌, Bool, false, ◌&&◌, ◌==◌, if◌then◌else◌, max, Option, Some, None, List, [], ◌∷◌, find}
 use Rattle.std.specs.List.{list_any}
 use Rattle.std.specs.Option.{option_map}
 use Rattle.command_tables.specs.declared.types.ObjectType.{ObjectType}
@@ -10,6 +10,19 @@ pub record MapEntry (V : Type 0) : Type 0 where
   pub ty : ObjectType
   pub id : ℕ
   pub values : V
+
+-- a pair with nothing below it
+abbrev pub Pair : Type 0
+Pair = MapEntry (Unit {0})
+
+-- the pair of a type and an id
+abbrev pub pair : ObjectType → ℕ → Pair
+pair ty id = record { ty = ty; id = id; values = tt }
+
+-- pairs in order of insertion, and how many further ones can be held with no further memory
+pub record SetState : Type 0 where
+  pub pairs : List Pair
+  pub spare : ℕ
 
 -- the entries in order of insertion; and how many further entries, and how many further values in all, can be held with no further
 -- memory
@@ -25,6 +38,15 @@ is_pair ty id e = same_type e.ty ty && e.id == id
 -- there is an entry of the pair
 abbrev pub has_pair : {V : Type 0} → List (MapEntry V) → ObjectType → ℕ → Bool
 has_pair entries ty id = list_any (is_pair ty id) entries
+
+-- the place of a pair, where the first entry has this place
+abbrev pub place_from : {V : Type 0} → ℕ → List (MapEntry V) → ObjectType → ℕ → Option ℕ
+place_from k [] ty id = None
+place_from k (e ∷ entries) ty id = if is_pair ty id e then Some k else place_from (suc k) entries ty id
+
+-- the place of a pair, counted from 0
+abbrev pub place_of : {V : Type 0} → List (MapEntry V) → ObjectType → ℕ → Option ℕ
+place_of entries ty id = place_from 0 entries ty id
 
 -- the values of a pair, where it has an entry
 abbrev pub values_of : {V : Type 0} → List (MapEntry V) → ObjectType → ℕ → Option V

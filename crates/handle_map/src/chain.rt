@@ -40,7 +40,7 @@ pub fn walk<const S: usize>(
         if is_of(entry, ty, id) {
             return Some(link - 1);
         }
-        link = entry.next;
+        link = entry.next as usize;
     }
     None
 }
@@ -48,7 +48,7 @@ pub fn walk<const S: usize>(
 /// The place of a pair: that before a link, where it stands there, or else on its chain.
 pub fn place_of<const S: usize>(
     entries: &[Entry],
-    firsts: &[usize],
+    firsts: &[u32],
     link: u64,
     ty: ObjectType,
     id: u64,
@@ -64,12 +64,12 @@ pub fn place_of<const S: usize>(
     }
     match firsts.get(chain_of::<S>(ty, id)) {
         None => None,
-        Some(first) => walk::<S>(entries, *first, ty, id),
+        Some(first) => walk::<S>(entries, *first as usize, ty, id),
     }
 }
 
 /// Makes the chains, all empty, where there are none.
-pub fn make_chains<const S: usize>(firsts: &mut Vec<usize>) -> Result<(), NoMemory>
+pub fn make_chains<const S: usize>(firsts: &mut Vec<u32>) -> Result<(), NoMemory>
     ensures ok { OnOk result (firsts.new.items ≡ chains_made S firsts.old.items) }
     ensures err { OnErr result (firsts.new.items ≡ firsts.old.items) }
     ensures succeeds { 1 ≤ length firsts.old.items → IsOk result }

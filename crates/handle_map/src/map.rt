@@ -1,12 +1,10 @@
 //! Values by type and id.
 ghost use Rattle.std.specs.Prelude.{◌≡◌, ◌≤◌, ◌<◌, ◌+◌, ◌^◌, ◌++◌, ◌∷◌, [], length, max, false, ◌==◌, IfOk, IfSome, IfNone, IsOk, OnOk, OnErr, Some, None};
-ghost use Rattle.handle_map.specs.Chains.{put_at};
+ghost use Rattle.handle_map.specs.Spans.{put_at};
 ghost use Rattle.handle_map.specs.Pairs.{AreDistinct, HasSpare, greatest_id, has_pair, values_of, with_values};
 
-use crate::bounds::{Bounds, bounds_with, is_beyond};
-use crate::chain::{chain_of, make_chains, place_of};
-use crate::entry::Entry;
-use crate::hints::Hints;
+use crate::set::HandleSet;
+use crate::span::Span;
 use crate::values::write;
 use command_tables::{NoMemory, ObjectType};
 use std::alloc::Global;
@@ -16,25 +14,22 @@ use std::marker::Model;
 /// further memory.
 #[derive(Drop)]
 pub struct HandleMap<const S: usize> {
-    entries: Vec<Entry>,
+    set: HandleSet<S>,
+    // Where the values of each pair stand.
+    spans: Vec<Span>,
     values: Vec<u64>,
-    // For each chain one more than the place of its last entry, or 0; empty until room is first made.
-    firsts: Vec<usize>,
-    hints: Hints,
-    bounds: Bounds,
 }
 
 impl<const S: usize> Model for HandleMap<S> {
-    ghost use Rattle.std.specs.Prelude.{◌-◌, if◌then◌else◌, nat_le, length, vec_capacity};
+    ghost use Rattle.std.specs.Prelude.{◌-◌, length, min, vec_capacity};
     ghost use Rattle.handle_map.specs.Pairs.{MapState};
-    ghost use Rattle.handle_map.specs.Bounds.{IsBounded};
-    ghost use Rattle.handle_map.specs.Chains.{IsTable, entries_of};
+    ghost use Rattle.handle_map.specs.Spans.{IsSpread, entries_of};
 
     ghost Value = { MapState };
 
-    ghost view = { λ m. record { entries = entries_of m.values.items m.entries.items; spare = if nat_le S (length m.firsts.items) then vec_capacity m.entries - length m.entries.items else 0; room = vec_capacity m.values - length m.values.items } };
+    ghost view = { λ m. record { entries = entries_of m.values.items m.set.pairs m.spans.items; spare = min m.set.spare (vec_capacity m.spans - length m.spans.items); room = vec_capacity m.values - length m.values.items } };
 
-    ghost invariant = { λ m. IsTable S m.entries.items m.values.items m.firsts.items m.bounds.greatest × IsBounded m.entries.items m.bounds };
+    ghost invariant = { λ m. IsSpread (length m.set.pairs) m.spans.items m.values.items };
 }
 
 impl<const S: usize> HandleMap<S> {
@@ -43,15 +38,9 @@ impl<const S: usize> HandleMap<S> {
         ensures { result.entries ≡ [] }
     {
         HandleMap {
-            entries: Vec::new(alloc),
+            set: HandleSet::new(alloc),
+            spans: Vec::new(alloc),
             values: Vec::new(alloc),
-            firsts: Vec::new(alloc),
-            hints: Hints::new(alloc),
-            bounds: Bounds {
-                least: u64::MAX,
-                greatest: 0,
-                apart: 0,
-            },
         }
     }
 
@@ -59,13 +48,11 @@ impl<const S: usize> HandleMap<S> {
     pub fn copy(&self) -> Result<HandleMap<S>, NoMemory>
         ensures { IfOk result (λ map. map.entries ≡ self.now.entries) }
     {
-        let alloc = *self.entries.allocator();
+        let alloc = *self.spans.allocator();
         Ok(HandleMap {
-            entries: Vec::from_slice(alloc, &self.entries)?,
+            set: self.set.copy()?,
+            spans: Vec::from_slice(alloc, &self.spans)?,
             values: Vec::from_slice(alloc, &self.values)?,
-            firsts: Vec::from_slice(alloc, &self.firsts)?,
-            hints: self.hints.copy(alloc)?,
-            bounds: self.bounds,
         })
     }
 
@@ -78,15 +65,12 @@ impl<const S: usize> HandleMap<S> {
         ensures room { self.old.room ≤ self.new.room }
         ensures succeeds { 1 ≤ self.old.spare → HasSpare self.old n values → IsOk result }
     {
-        make_chains::<S>(&mut self.firsts)?;
+        self.set.reserve(n)?;
         let Some(most) = n.checked_mul(values) else {
             return Err(NoMemory);
         };
-        self.entries.reserve(n)?;
-        self.values.reserve(most)?;
-        self.hints
-            .reserve(n, self.entries.len(), self.bounds.greatest);
-        Ok(())
+        self.spans.reserve(n)?;
+        Ok(self.values.reserve(most)?)
     }
 
     // Gives the entry at a place other values.
@@ -98,23 +82,23 @@ impl<const S: usize> HandleMap<S> {
         ensures spare { self.old.spare ≤ self.new.spare }
         ensures room { self.old.room ≤ self.new.room + length values.now }
     {
-        let entry = self.entries[place];
-        if values.len() <= entry.room {
-            write(&mut self.values, entry.start, values);
-            self.entries[place] = Entry {
+        let _count = self.set.len();
+        let span = self.spans[place];
+        if values.len() <= span.room {
+            write(&mut self.values, span.start, values);
+            self.spans[place] = Span {
                 len: values.len(),
-                ..entry
+                ..span
             };
             return Ok(());
         }
         self.values.reserve(values.len())?;
         let start = self.values.len();
         self.values.extend_from_slice(values).unwrap();
-        self.entries[place] = Entry {
+        self.spans[place] = Span {
             start,
             len: values.len(),
             room: values.len(),
-            ..entry
         };
         Ok(())
     }
@@ -128,26 +112,17 @@ impl<const S: usize> HandleMap<S> {
         ensures spare { self.old.spare ≤ self.new.spare + 1 }
         ensures room { self.old.room ≤ self.new.room + length values.now }
     {
-        make_chains::<S>(&mut self.firsts)?;
-        self.entries.reserve(1)?;
+        self.spans.reserve(1)?;
         self.values.reserve(values.len())?;
-        let chain = chain_of::<S>(ty, id);
+        self.set.add(ty, id)?;
         let start = self.values.len();
         self.values.extend_from_slice(values).unwrap();
-        let next = self.firsts[chain];
-        let entry = Entry {
-            ty,
-            id,
-            next,
+        let span = Span {
             start,
             len: values.len(),
             room: values.len(),
         };
-        let place = self.entries.len();
-        self.hints.note(ty, id, place);
-        self.entries.push(entry).unwrap();
-        self.firsts[chain] = self.entries.len();
-        self.bounds = bounds_with(self.bounds, ty, id);
+        self.spans.push(span).unwrap();
         Ok(())
     }
 
@@ -161,12 +136,7 @@ impl<const S: usize> HandleMap<S> {
         ensures spare { self.old.spare ≤ self.new.spare + 1 }
         ensures room { self.old.room ≤ self.new.room + length values.now }
     {
-        // A new id is mostly the next one: no chain need be walked for it.
-        if is_beyond(self.bounds, ty, id) {
-            return self.add(ty, id, values);
-        }
-        let link = self.hints.link(ty, id);
-        match place_of::<S>(&self.entries, &self.firsts, link, ty, id) {
+        match self.set.place(ty, id) {
             Some(place) => self.put(place, values),
             None => self.add(ty, id, values),
         }
@@ -177,16 +147,11 @@ impl<const S: usize> HandleMap<S> {
         ensures found { IfSome result (λ values. values_of self.now.entries ty id ≡ Some values.now) }
         ensures none { IfNone result (values_of self.now.entries ty id ≡ None) }
     {
-        // A new id is mostly the next one, and a null is 0: no chain need be walked to its end for either.
-        if is_beyond(self.bounds, ty, id) {
-            return None;
-        }
-        let link = self.hints.link(ty, id);
-        match place_of::<S>(&self.entries, &self.firsts, link, ty, id) {
+        match self.set.place(ty, id) {
             None => None,
             Some(place) => {
-                let entry = self.entries[place];
-                Some(&self.values[entry.start..entry.start + entry.len])
+                let span = self.spans[place];
+                Some(&self.values[span.start..span.start + span.len])
             }
         }
     }
@@ -196,19 +161,19 @@ impl<const S: usize> HandleMap<S> {
         requires { greatest_id self.now.entries < 2 ^ 62 }
         ensures { result ≡ greatest_id self.now.entries + 1 }
     {
-        self.bounds.greatest + 1
+        self.set.next_id()
     }
 
     pub fn len(&self) -> usize
         ensures count { result ≡ length self.now.entries }
         ensures distinct { AreDistinct self.now.entries }
     {
-        self.entries.len()
+        self.set.len()
     }
 
     pub fn is_empty(&self) -> bool
         ensures { result ≡ (length self.now.entries == 0) }
     {
-        self.entries.is_empty()
+        self.set.is_empty()
     }
 }

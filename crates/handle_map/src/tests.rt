@@ -2,7 +2,7 @@
 ghost use Rattle.std.specs.Prelude.{◌≤◌, ◌≡◌, max, OnOk};
 ghost use Rattle.handle_map.specs.Pairs.{greatest_id};
 
-use crate::HandleMap;
+use crate::{HandleMap, HandleSet};
 use command_tables::ObjectType;
 use std::alloc::Global;
 use std::process::Abort;
@@ -240,5 +240,40 @@ fn ids_numbered_apart_in_room(rt: HostRuntime) -> Result<(), Fail> {
         assert!(rt; map.get(ObjectType::Buffer, k) == Some([k].as_slice()));
         assert!(rt; map.get(ObjectType::Queue, k) == Some([k + 5000].as_slice()));
     }
+    Ok(())
+}
+
+fn add_new<const S: usize>(set: &mut HandleSet<S>, ty: ObjectType, id: u64) -> Result<(), Fail> {
+    if !set.contains(ty, id) {
+        set.add(ty, id).ok().ok_or("memory")?;
+    }
+    Ok(())
+}
+
+// Pairs of two types, of which each is added twice, and a copy that goes on by itself.
+#[test]
+fn a_set_of_pairs(rt: HostRuntime) -> Result<(), Fail> {
+    let mut set: HandleSet<64> = HandleSet::new(rt.alloc());
+    assert!(rt; set.is_empty());
+    assert_eq!(rt; set.next_id(), 1);
+    set.reserve(4).ok().ok_or("memory")?;
+    for k in 1..1001u64 {
+        add_new(&mut set, ObjectType::Buffer, k * 2)?;
+        add_new(&mut set, ObjectType::Queue, k)?;
+        add_new(&mut set, ObjectType::Buffer, k * 2)?;
+    }
+    assert_eq!(rt; set.len(), 2000);
+    for k in 1..1001u64 {
+        assert_eq!(rt;
+            set.place(ObjectType::Buffer, k * 2),
+            Some(k as usize * 2 - 2)
+        );
+        assert_eq!(rt; set.place(ObjectType::Queue, k), Some(k as usize * 2 - 1));
+        assert!(rt; set.place(ObjectType::Buffer, k * 2 - 1).is_none());
+    }
+    let mut copy = set.copy().ok().ok_or("memory")?;
+    add_new(&mut copy, ObjectType::Image, 1)?;
+    assert_eq!(rt; copy.place(ObjectType::Image, 1), Some(2000));
+    assert!(rt; !set.contains(ObjectType::Image, 1));
     Ok(())
 }

@@ -1,6 +1,6 @@
 //! The flat list of values.
 ghost use Rattle.std.specs.Prelude.{◌≡◌, ◌≤◌, ◌+◌, length, vec_capacity};
-ghost use Rattle.handle_map.specs.Chains.{written};
+ghost use Rattle.handle_map.specs.Spans.{written};
 
 /// Puts values in the place of those from `start` on.
 pub fn write(flat: &mut Vec<u64>, start: usize, values: &[u64])

@@ -13,4 +13,5 @@ pub mod Walked
 pub mod Below
 pub mod Sweeping
 pub mod Listing
+pub mod Padding
 pub mod SeenQueues

@@ -1,63 +1,113 @@
 -- What walks pass over.
-use Rattle.std.proofs.Common.{◌≡◌, ◌≤◌, ◌<◌, ◌∙◌, ◌+◌, ℕ, zero, suc, cond, Bool, true, false, Option, Some, None, List, [], ◌∷◌, ◌++◌, length, get_or, take, refl, sym, ap, arith, length-append}
-use Rattle.std.specs.Prelude.{nat_lt, slice_get}
+use Rattle.std.proofs.Common.{◌≡◌, ◌≤◌, ◌<◌, ◌⊎◌, ◌∙◌, ◌+◌, ℕ, zero, suc, cond, Bool, true, false, Option, Some, None, List, [], ◌∷◌, ◌++◌, length, get_or, take, refl, sym, ap, subst, arith, inl, inr, length-append}
+use Rattle.std.specs.Prelude.{nat_lt, replicate, slice_get}
 use Rattle.std.specs.Option.{option_map_or}
 use Rattle.std.proofs.Math.ListN.{set}
 use Rattle.std.proofs.lemmas.Bool.{ltb-true}
-use Rattle.std.proofs.lemmas.Option.{same_Some, slice_get-get_or}
+use Rattle.std.proofs.lemmas.List.{take_all}
+use Rattle.std.proofs.lemmas.Option.{get_or_from_slice_get, same_Some, slice_get-get_or}
 use Rattle.object_records.specs.declared.kept_owner.KeptOwner.{KeptOwner}
 use Rattle.object_records.specs.declared.kept_owner.KeptOwner.TheVariants.{Nobody, At, Unborn}
 use Rattle.object_records.specs.declared.record.ObjectRecord.{ObjectRecord}
 use Rattle.object_records.specs.Links.{IsPrevious, is_owner_at, last_link, link_by}
-use Rattle.object_records.specs.Passed.{ArePassed, IsDeadAt, IsPassed, limited, limited_at, reopened}
-use Rattle.object_records.specs.Table.{AreOwnersBefore, before_owned, ended_at}
+use Rattle.object_records.specs.Passed.{ArePassed, IsDeadAt, IsPassed, WasNoted, WasWidened, limited, limited_at, reopened}
+use Rattle.object_records.specs.Table.{before_owned, ended_at}
 use Rattle.object_records.proofs.Below.{past_last, take_get}
 use Rattle.object_records.proofs.Owned.{past}
 use Rattle.object_records.proofs.Walked.{is_at}
-use Rattle.object_records.proofs.Linking.{ended_length, get_front, get_last, get_low, last_ended, last_snoc, not_same, owner_before, suc_same, was_record}
+use Rattle.object_records.proofs.Linking.{ended_length, get_front, last_ended, last_snoc, not_same, suc_same, was_record}
 
 -- ---- read and written
 
-pub passed_read : (rs : List ObjectRecord) (passed : List ℕ) (place d : ℕ) → ArePassed rs passed → place < length rs → IsPassed rs place (get_or passed place d)
-passed_read rs passed place d are low = are.each place (get_or passed place d) (slice_get-get_or passed place d (omega (arith, low, are.count)))
+-- nothing is passed over
+nothing_passed : (rs : List ObjectRecord) (place n : ℕ) → n ≡ 0 → IsPassed rs place n
+nothing_passed rs place n is = record {
+  within = omega (arith, is);
+  dead = λ m x less e f. absurd (omega (arith, less, is));
+  leaf = λ m x less e f. absurd (omega (arith, less, is));
+}
+
+pub passed_read : (rs : List ObjectRecord) (passed : List ℕ) (place : ℕ) → ArePassed rs passed → IsPassed rs place (get_or passed place 0)
+passed_read rs passed place are = go (slice_get passed place) refl
+  where
+    missing : (ns : List ℕ) (p : ℕ) → slice_get ns p ≡ None → get_or ns p 0 ≡ 0
+    missing [] p e = refl
+    missing (n ∷ ns) zero e = cc e
+    missing (n ∷ ns) (suc p) e = missing ns p e
+
+    go : (x : Option ℕ) → slice_get passed place ≡ x → IsPassed rs place (get_or passed place 0)
+    go None e = nothing_passed rs place (get_or passed place 0) (missing passed place e)
+    go (Some n) e = subst (λ m. IsPassed rs place m) (sym (get_or_from_slice_get passed place n 0 e)) (are.each place n e)
 
 -- a number written over another
-pub written_limited : (passed : List ℕ) (w : KeptOwner) (place most x n : ℕ) → w ≡ At place → x ≡ get_or passed place x → n ≡ cond (nat_lt most x) most x → set passed place n ≡ limited passed w most
-written_limited passed w place most x n owner is least = go passed place is ∙ ap (λ (k : KeptOwner). limited passed k most) (sym owner)
+pub written_limited : (passed : List ℕ) (place most x n : ℕ) → x ≡ get_or passed place x → n ≡ cond (nat_lt most x) most x → set passed place n ≡ limited_at passed place most
+written_limited [] p most x n e least = refl
+written_limited (y ∷ ns) zero most x n e least = ap (λ m. m ∷ ns) (least ∙ ap (λ m. cond (nat_lt most m) most m) e)
+written_limited (y ∷ ns) (suc p) most x n e least = ap (λ ms. y ∷ ms) (written_limited ns p most x n e least)
+
+-- nothing is noted there
+pub none_limited : (passed : List ℕ) (place most : ℕ) → length passed ≤ place → passed ≡ limited_at passed place most
+none_limited [] place most past = refl
+none_limited (n ∷ ns) zero most past = absurd (omega (arith, past))
+none_limited (n ∷ ns) (suc place) most past = ap (λ ms. n ∷ ms) (none_limited ns place most (omega (arith, past)))
+
+-- ---- notes
+
+pub none_noted : (passed : List ℕ) (place before : ℕ) → WasNoted passed passed place before
+none_noted passed place before = λ at n e. inl e
+
+pub one_noted : (passed : List ℕ) (place before : ℕ) → WasNoted passed (set passed place before) place before
+one_noted [] place before = λ at n e. inl e
+one_noted (x ∷ ns) zero before = first
   where
-    go : (ns : List ℕ) (p : ℕ) → x ≡ get_or ns p x → set ns p n ≡ limited_at ns p most
-    go [] p e = refl
-    go (y ∷ ns) zero e = ap (λ m. m ∷ ns) (least ∙ ap (λ m. cond (nat_lt most m) most m) e)
-    go (y ∷ ns) (suc p) e = ap (λ ms. y ∷ ms) (go ns p e)
+    first : WasNoted (x ∷ ns) (before ∷ ns) 0 before
+    first zero n e = inr (refl, sym (same_Some before n e))
+    first (suc at) n e = inl e
+one_noted (x ∷ ns) (suc place) before = further (one_noted ns place before)
+  where
+    later : (at n : ℕ) → (slice_get ns at ≡ Some n) ⊎ ((at ≡ place) × (n ≡ before)) → (slice_get ns at ≡ Some n) ⊎ ((suc at ≡ suc place) × (n ≡ before))
+    later at n (inl e) = inl e
+    later at n (inr both) = inr (ap suc both.0, both.1)
 
--- the owner's own owner stands among the records
-pub reopen_within : (rs : List ObjectRecord) (w : KeptOwner) (place count : ℕ) (d : ObjectRecord) → AreOwnersBefore 0 rs → w ≡ At place → before_owned w ≤ length rs → count ≡ length rs → before_owned (get_or rs place d).owner ≤ count
-reopen_within rs w place count d all is low counted =
-    let less : place < length rs = omega (arith, low, ap before_owned is) in omega (arith, counted, owner_before 0 rs place (get_or rs place d) all (slice_get-get_or rs place d less))
+    further : WasNoted ns (set ns place before) place before → WasNoted (x ∷ ns) (x ∷ set ns place before) (suc place) before
+    further rest zero n e = inl e
+    further rest (suc at) n e = later at n (rest at n e)
 
+pub noted_passed : (rs : List ObjectRecord) (passed next : List ℕ) (place before : ℕ) → ArePassed rs passed → IsPassed rs place before → WasNoted passed next place before → ArePassed rs next
+noted_passed rs passed next place before are passes noted = record { each = λ at n e. go at n (noted at n e) }
+  where
+    go : (at n : ℕ) → (slice_get passed at ≡ Some n) ⊎ ((at ≡ place) × (n ≡ before)) → IsPassed rs at n
+    go at n (inl e) = are.each at n e
+    go at n (inr both) = subst (λ p. IsPassed rs p n) (sym both.0) (subst (λ m. IsPassed rs place m) (sym both.1) passes)
+
+-- ---- room for notes
+
+pub none_widened : (passed : List ℕ) → WasWidened passed passed
+none_widened passed = λ place n e. inl e
+
+zeros_only : (k : ℕ) (place n : ℕ) → slice_get (replicate k 0) place ≡ Some n → n ≡ 0
+zeros_only zero place n e = cc e
+zeros_only (suc k) zero n e = sym (same_Some 0 n e)
+zeros_only (suc k) (suc place) n e = zeros_only k place n e
+
+with_zeros : (passed : List ℕ) (k : ℕ) → WasWidened passed (passed ++ replicate k 0)
+with_zeros [] k = λ place n e. inr (zeros_only k place n e)
+with_zeros (x ∷ ns) k = further (with_zeros ns k)
+  where
+    further : WasWidened ns (ns ++ replicate k 0) → WasWidened (x ∷ ns) (x ∷ (ns ++ replicate k 0))
+    further rest zero n e = inl e
+    further rest (suc place) n e = rest place n e
+
+-- the list is as it was, or filled up
+pub zeros_widened : (passed next : List ℕ) (u : Bool) (most k : ℕ) → length passed ≤ most → next ≡ cond u (take most passed ++ replicate k 0) passed → WasWidened passed next
+zeros_widened passed next true most k long is = subst (λ ns. WasWidened passed ns) (sym (is ∙ ap (λ ns. ns ++ replicate k 0) (take_all most passed long))) (with_zeros passed k)
+zeros_widened passed next false most k long is = subst (λ ns. WasWidened passed ns) (sym is) (none_widened passed)
+
+-- the owner's own owner is limited
 pub reopen_limits : (rs : List ObjectRecord) (passed : List ℕ) (w : KeptOwner) (place : ℕ) (d : ObjectRecord) → w ≡ At place → before_owned w ≤ length rs → limited passed (get_or rs place d).owner place ≡ reopened rs passed w
 reopen_limits rs passed w place d is low =
     let less : place < length rs = omega (arith, low, ap before_owned is) in
     ap (λ x. option_map_or (λ (r : ObjectRecord). limited passed r.owner place) x passed) (sym (slice_get-get_or rs place d less)) ∙ ap (λ (k : KeptOwner). reopened rs passed k) (sym is)
-
-limited_at_length : (passed : List ℕ) (place most : ℕ) → length (limited_at passed place most) ≡ length passed
-limited_at_length [] place most = refl
-limited_at_length (n ∷ ns) zero most = refl
-limited_at_length (n ∷ ns) (suc place) most = ap suc (limited_at_length ns place most)
-
-limited_length : (passed : List ℕ) (w : KeptOwner) (most : ℕ) → length (limited passed w most) ≡ length passed
-limited_length passed Nobody most = refl
-limited_length passed (Unborn o) most = refl
-limited_length passed (At place) most = limited_at_length passed place most
-
-pub reopened_length : (rs : List ObjectRecord) (passed : List ℕ) (w : KeptOwner) → length (reopened rs passed w) ≡ length passed
-reopened_length rs passed Nobody = refl
-reopened_length rs passed (Unborn o) = refl
-reopened_length rs passed (At place) = go (slice_get rs place)
-  where
-    go : (x : Option ObjectRecord) → length (option_map_or (λ (r : ObjectRecord). limited passed r.owner place) x passed) ≡ length passed
-    go None = refl
-    go (Some r) = limited_length passed r.owner place
 
 -- ---- a further record
 
@@ -130,18 +180,9 @@ was_reopened rs passed (At at) place n e = go (slice_get rs at) refl e
         before_at (Unborn o) = 0
 
 -- a further record is passed over nowhere
-pub added_passed : (rs : List ObjectRecord) (passed : List ℕ) (r : ObjectRecord) → ArePassed rs passed → before_owned r.owner ≤ length rs → ArePassed (rs ++ r ∷ []) (reopened rs passed r.owner ++ 0 ∷ [])
-added_passed rs passed r are low = record {
-  count = omega (arith, length-append next (0 ∷ []), long, are.count, length-append rs (r ∷ []));
-  each = λ place n e. split place n e (nat_lt place (length rs)) refl;
-}
+pub added_passed : (rs : List ObjectRecord) (passed next : List ℕ) (r : ObjectRecord) → ArePassed rs passed → WasWidened (reopened rs passed r.owner) next → ArePassed (rs ++ r ∷ []) next
+added_passed rs passed next r are widened = record { each = λ place n e. split place n (widened place n e) }
   where
-    next : List ℕ
-    next = reopened rs passed r.owner
-
-    long : length next ≡ length passed
-    long = reopened_length rs passed r.owner
-
     more : length (rs ++ r ∷ []) ≡ length rs + 1
     more = length-append rs (r ∷ [])
 
@@ -159,22 +200,9 @@ added_passed rs passed r are low = record {
         other m x less e is true here none = absurd (omega (arith, less, was.most_is m x (is_at m r.owner here) e is))
         other m x less e is false here none = none
 
-    last : (place n : ℕ) → 0 ≡ n → IsPassed (rs ++ r ∷ []) place n
-    last place n is = record {
-      within = omega (arith, is);
-      dead = λ m x less e f. absurd (omega (arith, less, is));
-      leaf = λ m x less e f. absurd (omega (arith, less, is));
-    }
-
-    split : (place n : ℕ) → slice_get (next ++ 0 ∷ []) place ≡ Some n → (u : Bool) → nat_lt place (length rs) ≡ u → IsPassed (rs ++ r ∷ []) place n
-    split place n e true lt =
-        let less : place < length rs = ltb-true place (length rs) lt in
-        before place n (was_reopened rs passed r.owner place n (sym (get_front next 0 place (omega (arith, less, long, are.count))) ∙ e))
-    split place n e false lt =
-        let within : place < length (next ++ 0 ∷ []) = get_low (next ++ 0 ∷ []) n place e in
-        let least : length rs ≤ place = grind (arith, lt) in
-        let at : place ≡ length rs = omega (arith, within, length-append next (0 ∷ []), long, are.count, least) in
-        last place n (same_Some 0 n (sym (get_last next 0 place (omega (arith, at, long, are.count))) ∙ e))
+    split : (place n : ℕ) → (slice_get (reopened rs passed r.owner) place ≡ Some n) ⊎ (n ≡ 0) → IsPassed (rs ++ r ∷ []) place n
+    split place n (inl here) = before place n (was_reopened rs passed r.owner place n here)
+    split place n (inr none) = nothing_passed (rs ++ r ∷ []) place n none
 
 -- ---- an end
 
@@ -188,7 +216,6 @@ still_dead (x ∷ rs) (suc at) (suc n) r e h = still_dead rs at n r e h
 -- an end opens nothing
 pub ended_passed : (rs : List ObjectRecord) (passed : List ℕ) (at : ℕ) → ArePassed rs passed → ArePassed (ended_at rs at) passed
 ended_passed rs passed at are = record {
-  count = omega (arith, are.count, ended_length rs at);
   each = λ place n e. let old = are.each place n e in record {
     within = omega (arith, old.within, ended_length rs at);
     dead = λ m r less f is. still_dead rs at m r f (λ x g same. old.dead m x less g (ap (λ w. is_owner_at place w) same ∙ is));

@@ -10,9 +10,10 @@ use Rattle.object_records.specs.declared.kept_owner.KeptOwner.TheVariants.{Nobod
 use Rattle.object_records.specs.declared.links.Links.{Links}
 use Rattle.object_records.specs.declared.record.ObjectRecord.{ObjectRecord}
 use Rattle.object_records.specs.Links.{AreLinked, IsPrevious, is_owned_there, is_owner_at, last_link, owned_of_type, with_linked}
-use Rattle.object_records.specs.Queues.{queue_owner, queue_seen, queues_seen}
+use Rattle.object_records.specs.Queues.{no_links, padded, queue_owner, queue_seen, queues_seen}
 use Rattle.object_records.specs.Table.{AreOwnersBefore, before_owned, ended_at}
 use Rattle.object_records.proofs.Linking.{added_linked, ended_other, last_read, previous_read}
+use Rattle.object_records.proofs.Padding.{padded_read}
 use Rattle.object_records.proofs.Walked.{IsWalked, latest, walk_back, walk_ends, walk_goes, walk_within}
 
 -- ---- records as the queues' links see them
@@ -83,12 +84,14 @@ ended_queues rs queues at r are here lives =
     subst (λ (xs : List ObjectRecord). AreLinked xs queues) (sym (seen_ended rs at)) (ended_other (queues_seen rs) queues at (queue_seen r) are (seen_at rs at r here) lives refl)
 
 -- the link at a place
-pub last_queue_read : (rs : List ObjectRecord) (queues : List Links) (place : ℕ) (d : Links) → AreLinked (queues_seen rs) queues → place < length rs → (get_or queues place d).last_owned ≡ last_link (queues_seen rs) place
-last_queue_read rs queues place d are low = last_read (queues_seen rs) queues place d are (omega (arith, low, seen_length rs))
+pub last_queue_read : (rs : List ObjectRecord) (queues : List Links) (place : ℕ) → AreLinked (queues_seen rs) (padded (length rs) queues) → place < length rs → (get_or queues place no_links).last_owned ≡ last_link (queues_seen rs) place
+last_queue_read rs queues place are low =
+    ap (λ (l : Links). l.last_owned) (sym (padded_read (length rs) queues place no_links low)) ∙ last_read (queues_seen rs) (padded (length rs) queues) place no_links are (omega (arith, low, seen_length rs))
 
 -- the way on from a place
-pub previous_queue_read : (rs : List ObjectRecord) (queues : List Links) (place : ℕ) (d : Links) → AreLinked (queues_seen rs) queues → place < length rs → IsPrevious (queues_seen rs) place (get_or queues place d).previous
-previous_queue_read rs queues place d are low = previous_read (queues_seen rs) queues place d are (omega (arith, low, seen_length rs))
+pub previous_queue_read : (rs : List ObjectRecord) (queues : List Links) (place : ℕ) → AreLinked (queues_seen rs) (padded (length rs) queues) → place < length rs → IsPrevious (queues_seen rs) place (get_or queues place no_links).previous
+previous_queue_read rs queues place are low =
+    subst (λ (l : Links). IsPrevious (queues_seen rs) place l.previous) (padded_read (length rs) queues place no_links low) (previous_read (queues_seen rs) (padded (length rs) queues) place no_links are (omega (arith, low, seen_length rs)))
 
 -- ---- the walk
 

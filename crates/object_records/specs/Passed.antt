@@ -1,5 +1,5 @@
 -- Which of what an object owns a walk need not look at. Source: this project.
-use Rattle.std.specs.Prelude.{◌≡◌, ◌≤◌, ◌<◌, ℕ, zero, suc, true, false, if◌then◌else◌, nat_lt, Some, List, [], ◌∷◌, length, slice_get}
+use Rattle.std.specs.Prelude.{◌≡◌, ◌≤◌, ◌<◌, ◌⊎◌, ℕ, zero, suc, true, false, if◌then◌else◌, nat_lt, Some, List, [], ◌∷◌, length, slice_get}
 use Rattle.std.specs.Option.{option_map_or}
 use Rattle.object_records.specs.declared.kept_owner.KeptOwner.{KeptOwner}
 use Rattle.object_records.specs.declared.kept_owner.KeptOwner.TheVariants.{Nobody, At, Unborn}
@@ -16,10 +16,17 @@ pub record IsPassed (rs : List ObjectRecord) (place before : ℕ) : Type 0 where
 abbrev pub IsDeadAt : List ObjectRecord → ℕ → ℕ → Type 0
 IsDeadAt rs place above = (r : ObjectRecord) → slice_get rs place ≡ Some r → (r.owner ≡ At above) × (r.lives ≡ false)
 
--- what is kept at each record fits the records
+-- what is noted at the first records fits the records; nothing is passed over where nothing is noted
 pub record ArePassed (rs : List ObjectRecord) (passed : List ℕ) : Type 0 where
-  pub count : length passed ≡ length rs
   pub each : (place before : ℕ) → slice_get passed place ≡ Some before → IsPassed rs place before
+
+-- only zeros were added
+abbrev pub WasWidened : List ℕ → List ℕ → Type 0
+WasWidened old new = (place n : ℕ) → slice_get new place ≡ Some n → (slice_get old place ≡ Some n) ⊎ (n ≡ 0)
+
+-- only this number was written, and only at this place
+abbrev pub WasNoted : List ℕ → List ℕ → ℕ → ℕ → Type 0
+WasNoted old new place before = (at n : ℕ) → slice_get new at ≡ Some n → (slice_get old at ≡ Some n) ⊎ ((at ≡ place) × (n ≡ before))
 
 -- no more than a number is passed over at a place
 abbrev pub limited_at : List ℕ → ℕ → ℕ → List ℕ

@@ -1,8 +1,8 @@
 -- Records in order of birth, found by the type and the handle of their object. Source: this project.
-use Rattle.std.specs.Prelude.{◌≡◌, ◌≤◌, ℕ, zero, suc, Bool, true, false, if◌then◌else◌, Option, Some, None, List, [], ◌∷◌, map, find, slice_get}
+use Rattle.std.specs.Prelude.{◌≡◌, ◌≤◌, ℕ, zero, suc, Bool, true, false, if◌then◌else◌, Option, Some, None, List, [], ◌∷◌, length, map, find, slice_get}
 use Rattle.std.specs.List.{list_any}
 use Rattle.std.specs.Option.{option_map_or}
-use Rattle.handle_map.specs.Pairs.{MapEntry}
+use Rattle.handle_map.specs.Pairs.{Pair, pair}
 use Rattle.object_model.specs.declared.Object.{Object}
 use Rattle.object_model.specs.Objects.{same}
 use Rattle.object_records.specs.declared.kept_owner.KeptOwner.{KeptOwner}
@@ -11,17 +11,20 @@ use Rattle.object_records.specs.declared.links.Links.{Links}
 use Rattle.object_records.specs.declared.record.ObjectRecord.{ObjectRecord}
 use Rattle.object_records.specs.Links.{AreLinked, has_strays_in}
 use Rattle.object_records.specs.Passed.{ArePassed}
-use Rattle.object_records.specs.Queues.{queues_seen}
+use Rattle.object_records.specs.Queues.{padded, queues_seen}
 
 -- all records, the oldest first, and how many further ones can be held with no further memory
 pub record TableState : Type 0 where
   pub records : List ObjectRecord
   pub spare : ℕ
 
--- the index: under each object's pair the place of its record, counted from this number on
-abbrev pub entries_from : ℕ → List ObjectRecord → List (MapEntry (List ℕ))
-entries_from k [] = []
-entries_from k (r ∷ rs) = record { ty = r.object.ty; id = r.object.number; values = k ∷ [] } ∷ entries_from (suc k) rs
+-- the pair of a record's object
+abbrev pub pair_kept : ObjectRecord → Pair
+pair_kept r = pair r.object.ty r.object.number
+
+-- the index: the pairs of the objects, in order of birth
+abbrev pub pairs_kept : List ObjectRecord → List Pair
+pairs_kept rs = map pair_kept rs
 
 -- how many records must stand before what has this owner
 abbrev pub before_owned : KeptOwner → ℕ
@@ -35,11 +38,12 @@ AreOwnersBefore k [] = Unit {0}
 AreOwnersBefore k (r ∷ rs) = (before_owned r.owner ≤ k) × AreOwnersBefore (suc k) rs
 
 -- the index, the links, those between queues, what is passed over and the note of unborn owners fit the records, and their owners stand before them
-pub record IsTable (records : List ObjectRecord) (entries : List (MapEntry (List ℕ))) (links queues : List Links) (passed : List ℕ) (strays : Bool) : Type 0 where
-  pub indexed : entries ≡ entries_from 0 records
+pub record IsTable (records : List ObjectRecord) (pairs : List Pair) (links queues : List Links) (passed : List ℕ) (strays : Bool) : Type 0 where
+  pub indexed : pairs ≡ pairs_kept records
   pub owners : AreOwnersBefore 0 records
   pub linked : AreLinked records links
-  pub queued : AreLinked (queues_seen records) queues
+  pub queued : AreLinked (queues_seen records) (padded (length records) queues)
+  pub short : length queues ≤ length records
   pub passing : ArePassed records passed
   pub stray : strays ≡ has_strays_in records
 

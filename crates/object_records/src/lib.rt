@@ -10,6 +10,7 @@ mod links;
 mod living;
 mod look_ups;
 mod passed;
+mod queue_links;
 mod queues;
 mod reading;
 mod record;

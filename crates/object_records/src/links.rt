@@ -8,18 +8,20 @@ use crate::kept_owner::KeptOwner;
 use crate::record::ObjectRecord;
 use command_tables::ObjectType;
 
-/// What is kept at an object of those that it owns, and the way on to the others of its own owner.
+/// What is kept at an object of those that it owns, and the way on to the others of its own owner, in 12 bytes.
 #[derive(Clone, Copy)]
 pub struct Links {
     /// One more than the place of the latest record that has this one as its owner; 0 where there is none.
-    pub last_owned: usize,
+    pub last_owned: u32,
     /// One more than the place of the record before this one that has the same owner; 0 where there is none.
-    pub previous: usize,
+    pub previous: u32,
     /// How many created objects live and have this one as their owner.
-    pub children: usize,
+    pub children: u32,
 }
 
-fn one_if(is_child: bool) -> usize
+const _: () = prove!(size_of::<Links>() == 12);
+
+fn one_if(is_child: bool) -> u32
     ensures { result ≡ (if is_child then 1 else 0) }
 {
     if is_child { 1 } else { 0 }
@@ -45,9 +47,10 @@ pub fn queue_owner(kept: ObjectRecord) -> KeptOwner
 }
 
 // The owner of a further record links to it, and counts it where it is a child. Tells to which record it linked before.
-fn link_owner(links: &mut Vec<Links>, owner: KeptOwner, link: usize, is_child: bool) -> usize
+fn link_owner(links: &mut Vec<Links>, owner: KeptOwner, link: u32, is_child: bool) -> u32
     requires within { before_owned owner ≤ length links.old.items }
     requires few { AreFew links.old.items }
+    requires limit { length links.old.items < 4294967295 }
     ensures links { links.new.items ≡ linked links.old.items owner link is_child }
     ensures count { length links.new.items ≡ length links.old.items }
     ensures room { vec_capacity links.new ≡ vec_capacity links.old }
@@ -72,12 +75,13 @@ fn link_owner(links: &mut Vec<Links>, owner: KeptOwner, link: usize, is_child: b
 pub fn add_links(links: &mut Vec<Links>, owner: KeptOwner, is_child: bool)
     requires within { before_owned owner ≤ length links.old.items }
     requires few { AreFew links.old.items }
+    requires limit { length links.old.items < 4294967295 }
     requires room { length links.old.items < vec_capacity links.old }
     ensures links { links.new.items ≡ with_linked links.old.items owner is_child }
     ensures count { length links.new.items ≡ length links.old.items + 1 }
     ensures room { vec_capacity links.old ≤ vec_capacity links.new }
 {
-    let link = links.len() + 1;
+    let link = links.len() as u32 + 1;
     let previous = link_owner(links, owner, link, is_child);
     links
         .push(Links {

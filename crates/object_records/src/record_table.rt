@@ -7,10 +7,11 @@ ghost use Rattle.object_records.specs.Table.{LivesAt, AreOnce, AreOwnersBefore, 
 
 use crate::kept_owner::has_stray;
 use crate::links::{Links, add_links, may_be_child, queue_owner, unlink};
-use crate::passed::reopen;
+use crate::passed::{note, noted_at, reopen, widen_for};
+use crate::queue_links::{add_queue_links, queue_links, reserve_queues};
 use crate::record::ObjectRecord;
 use command_tables::NoMemory;
-use handle_map::HandleMap;
+use handle_map::HandleSet;
 use object_model::Object;
 use std::alloc::Global;
 use std::marker::Model;
@@ -19,14 +20,16 @@ use std::marker::Model;
 #[derive(Drop)]
 pub struct RecordTable {
     records: Vec<ObjectRecord>,
-    // The place of each record, by its object's pair. Handles of other origin come between dense ids, so that a record need not stand at
-    // the place of its id; the map has hints for that. Where ids are sparse, many chains keep the way to an entry short.
-    index: HandleMap<4096>,
+    // The pairs of the objects: each stands at the place of its record. Handles of other origin come between dense ids, so that a record
+    // need not stand at the place of its id; the set has hints for that. Where ids are sparse, many chains keep the way to a pair short.
+    index: HandleSet<4096>,
     links: Vec<Links>,
-    // The links between the queues of each owner alone, since a device may have owned much else. They count no children.
+    // The links between the queues of each owner alone, since a device may have owned much else. They count no children. Behind the latest
+    // queue there are none.
     queues: Vec<Links>,
-    // At each record, before which place what it owns neither lives nor owns anything.
-    passed: Vec<usize>,
+    // At each owner, before which place what it owns neither lives nor owns anything. Behind the latest owner there are no notes, and where
+    // memory was wanting.
+    passed: Vec<u32>,
     // Whether a record has an owner that wasn't born.
     has_strays: bool,
 }
@@ -37,9 +40,9 @@ impl Model for RecordTable {
 
     ghost Value = { TableState };
 
-    ghost view = { λ t. record { records = t.records.items; spare = min (min (min (vec_capacity t.records - length t.records.items) (vec_capacity t.links - length t.links.items)) (min (vec_capacity t.queues - length t.queues.items) (vec_capacity t.passed - length t.passed.items))) (min t.index.spare t.index.room) } };
+    ghost view = { λ t. record { records = t.records.items; spare = min (min (vec_capacity t.records - length t.records.items) (vec_capacity t.links - length t.links.items)) (min (min (vec_capacity t.queues) 4294967295 - length t.records.items) t.index.spare) } };
 
-    ghost invariant = { λ t. IsTable t.records.items t.index.entries t.links.items t.queues.items t.passed.items t.has_strays };
+    ghost invariant = { λ t. IsTable t.records.items t.index.pairs t.links.items t.queues.items t.passed.items t.has_strays };
 }
 
 impl RecordTable {
@@ -48,7 +51,7 @@ impl RecordTable {
     {
         RecordTable {
             records: Vec::new(alloc),
-            index: HandleMap::new(alloc),
+            index: HandleSet::new(alloc),
             links: Vec::new(alloc),
             queues: Vec::new(alloc),
             passed: Vec::new(alloc),
@@ -63,17 +66,13 @@ impl RecordTable {
     }
 
     /// The place of an object's record.
-    #[tactic(auto, using(crate::proofs::Tables::found_place, crate::proofs::Tables::no_place, crate::proofs::Tables::once_indexed))]
+    #[tactic(auto, using(crate::proofs::Tables::place_kept, crate::proofs::Tables::once_indexed))]
     pub fn place_of(&self, object: Object) -> Option<usize>
         ensures place { result ≡ place_in self.now.records object }
         ensures owners { AreOwnersBefore 0 self.now.records }
         ensures once { AreOnce (objects_kept self.now.records) }
     {
-        let _count = self.index.len();
-        match self.index.get(object.ty, object.number) {
-            None => None,
-            Some(places) => Some(places[0] as usize),
-        }
+        self.index.place(object.ty, object.number)
     }
 
     /// The record at a place.
@@ -115,13 +114,12 @@ impl RecordTable {
         }
         self.records.reserve(n)?;
         self.links.reserve(n)?;
-        self.queues.reserve(n)?;
-        self.passed.reserve(n)?;
-        self.index.reserve(n, 1)
+        reserve_queues(&mut self.queues, self.records.len(), n)?;
+        self.index.reserve(n)
     }
 
     /// Adds the record of an object that has none.
-    #[tactic(auto, using(crate::proofs::Tables::added_last, crate::proofs::Tables::owners_last))]
+    #[tactic(auto, using(crate::proofs::Tables::new_pair, crate::proofs::Tables::owners_last))]
     pub fn push(&mut self, added: ObjectRecord)
         requires new { place_in self.old.records added.object ≡ None }
         requires room { 1 ≤ self.old.spare }
@@ -129,14 +127,14 @@ impl RecordTable {
         ensures records { self.new.records ≡ self.old.records ++ added ∷ [] }
         ensures spare { self.old.spare ≤ self.new.spare + 1 }
     {
-        let place = self.records.len() as u64;
+        let count = self.records.len();
         self.index
-            .insert(added.object.ty, added.object.number, &[place])
+            .add(added.object.ty, added.object.number)
             .unwrap();
         add_links(&mut self.links, added.owner, may_be_child(added));
-        add_links(&mut self.queues, queue_owner(added), false);
+        add_queue_links(&mut self.queues, count, queue_owner(added));
         reopen(&mut self.passed, self.records.as_slice(), added.owner);
-        self.passed.push(0).unwrap();
+        widen_for(&mut self.passed, added.owner);
         self.has_strays = has_stray(self.has_strays, added.owner);
         self.records.push(added).unwrap();
     }
@@ -154,7 +152,7 @@ impl RecordTable {
         requires { place < length self.now.records }
         ensures { result ≡ child_count self.now.records place }
     {
-        self.links[place].children
+        self.links[place].children as usize
     }
 
     /// One more than the place of the latest record whose owner stands at a place; 0 where there is none.
@@ -166,7 +164,7 @@ impl RecordTable {
         ensures once { AreOnce (objects_kept self.now.records) }
     {
         let _count = self.index.len();
-        self.links[place].last_owned
+        self.links[place].last_owned as usize
     }
 
     /// One more than the place of the record before one at a place that has the same owner; 0 where there is none.
@@ -175,7 +173,7 @@ impl RecordTable {
         requires { place < length self.now.records }
         ensures { IsPrevious self.now.records place result }
     {
-        self.links[place].previous
+        self.links[place].previous as usize
     }
 
     /// One more than the place of the latest queue whose owner stands at a place; 0 where there is none.
@@ -184,7 +182,7 @@ impl RecordTable {
         requires { place < length self.now.records }
         ensures { result ≡ last_link (queues_seen self.now.records) place }
     {
-        self.queues[place].last_owned
+        queue_links(self.queues.as_slice(), place).last_owned as usize
     }
 
     /// One more than the place of the queue before one at a place that has the same owner; 0 where there is none.
@@ -193,7 +191,7 @@ impl RecordTable {
         requires { place < length self.now.records }
         ensures { IsPrevious (queues_seen self.now.records) place result }
     {
-        self.queues[place].previous
+        queue_links(self.queues.as_slice(), place).previous as usize
     }
 
     /// The object of the record at a place lives no longer.
@@ -214,16 +212,17 @@ impl RecordTable {
         requires { place < length self.now.records }
         ensures { IsPassed self.now.records place result }
     {
-        self.passed[place]
+        noted_at(self.passed.as_slice(), place)
     }
 
     /// Before a place nothing that the object of the record at another owns lives, or owns anything itself.
+    #[tactic(auto, using(crate::proofs::Passing::noted_passed))]
     pub fn pass_over(&mut self, place: usize, before: usize)
         requires place { place < length self.old.records }
         requires passed { IsPassed self.old.records place before }
         ensures records { self.new.records ≡ self.old.records }
         ensures spare { self.new.spare ≡ self.old.spare }
     {
-        self.passed[place] = before;
+        note(&mut self.passed, place, before);
     }
 }

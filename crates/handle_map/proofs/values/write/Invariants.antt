@@ -1,5 +1,5 @@
 use Rattle.std.proofs.Common.{◌≡◌, ◌+◌, length, drop, vec_capacity}
-use Rattle.handle_map.specs.Chains.{written}
+use Rattle.handle_map.specs.Spans.{written}
 use Rattle.handle_map.proofs.values.write.Given as goal
 
 abbrev pub invariant-loop-k : goal.invariant-loop-k

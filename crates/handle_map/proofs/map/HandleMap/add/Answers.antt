@@ -1,80 +1,40 @@
-use Rattle.std.proofs.Common.{◌≡◌, ◌<◌, ◌+◌, ◌++◌, [], ◌∷◌, false, get_or, set, length, ap, sym, subst, arith, refl, ◌∙◌, length-append}
-use Rattle.handle_map.specs.declared.bounds.Bounds.{Bounds}
-use Rattle.handle_map.specs.declared.entry.Entry.{Entry}
-use Rattle.handle_map.specs.Chains.{chain_of, chains_made}
-use Rattle.handle_map.specs.Pairs.{MapState, has_pair}
-use Rattle.handle_map.proofs.Bounding.{bounded_more, bounded_same}
-use Rattle.handle_map.proofs.Adding.{Adds, added_entries, added_table, kept_table, made_all, read_at}
+use Rattle.std.proofs.Common.{◌≡◌, ◌++◌, [], ◌∷◌, false, length, ap, sym, subst, arith, ◌∙◌, refl}
+use Rattle.handle_map.specs.declared.span.Span.{Span}
+use Rattle.handle_map.specs.Pairs.{MapState, has_pair, pair}
+use Rattle.handle_map.proofs.Spreading.{Appends, more_entries, more_spread, shown_pair}
 use Rattle.handle_map.proofs.map.HandleMap.add.Goals as goal
 
-pub invariant_of-self-in_err-reserve : goal.invariant_of-self-in_err-reserve
-invariant_of-self-in_err-reserve g c = (
-  kept_table g.row.S c.self.inside.entries.items c.reserve.new.self.items c.self.inside.values.items c.self.inside.values.items c.self.inside.firsts.items c.make_chains.new.firsts.items c.self.inside.bounds.greatest c.self.invariant.0
-      c.in_err-reserve.ensures.items refl c.in_ok-make_chains.ensures.ok,
-  bounded_same c.self.inside.entries.items c.reserve.new.self.items c.self.inside.bounds c.in_err-reserve.ensures.items c.self.invariant.1,
-)
-
-pub invariant_of-self-in_err-reserve-2 : goal.invariant_of-self-in_err-reserve-2
-invariant_of-self-in_err-reserve-2 g c = (
-  kept_table g.row.S c.self.inside.entries.items c.reserve.new.self.items c.self.inside.values.items c.reserve-2.new.self.items c.self.inside.firsts.items c.make_chains.new.firsts.items c.self.inside.bounds.greatest c.self.invariant.0
-      c.in_ok-reserve.ensures.items c.in_err-reserve-2.ensures.items c.in_ok-make_chains.ensures.ok,
-  bounded_same c.self.inside.entries.items c.reserve.new.self.items c.self.inside.bounds c.in_ok-reserve.ensures.items c.self.invariant.1,
+pub add-requires : goal.add-requires
+add-requires g c = (
+  omega arith,
+  sym (shown_pair c.self.inside.values.items c.self.inside.set.pairs c.self.inside.spans.items c.args.ty c.args.id c.self.invariant.all)
+      ∙ subst (λ (m : MapState). has_pair m.entries c.args.ty c.args.id ≡ false) (sym c.self.view_is) c.requires,
 )
 
 pub invariant_of-self-2 : goal.invariant_of-self-2
 invariant_of-self-2 g c =
-    let e : Entry = record { ty = c.args.ty; id = c.args.id; next = c.index-next.result.now; start = c.len-start.result; len = length c.args.values.now; room = length c.args.values.now } in
-    let entries_are : c.push.new.self.items ≡ c.self.inside.entries.items ++ e ∷ [] = (rw c.unwrap-2.ensures at c.push.ensures.items) ∙ ap (λ xs. xs ++ e ∷ []) c.in_ok-reserve.ensures.items in
-    let chain_is : c.chain_of-chain.result ≡ chain_of g.row.S c.args.ty c.args.id = c.chain_of-chain.ensures.value in
-    let chain : chain_of g.row.S c.args.ty c.args.id < g.row.S = subst (λ n. n < g.row.S) chain_is c.chain_of-chain.ensures.within in
-    let made : c.make_chains.new.firsts.items ≡ chains_made g.row.S c.self.inside.firsts.items = c.in_ok-make_chains.ensures.ok in
-    let all : length (chains_made g.row.S c.self.inside.firsts.items) ≡ g.row.S = made_all g.row.S c.self.inside.entries.items c.self.inside.firsts.items c.self.invariant.0.first in
-    let count : c.len.result ≡ length c.self.inside.entries.items + 1 = omega (arith, c.len.ensures, ap length entries_are, length-append c.self.inside.entries.items (e ∷ [])) in
-    let within : c.chain_of-chain.result < length c.make_chains.new.firsts.items = omega (arith, c.chain_of-chain.ensures.within, ap length made, all) in
-    let next : c.index-next.result.now ≡ get_or (chains_made g.row.S c.self.inside.firsts.items) (chain_of g.row.S c.args.ty c.args.id) 0
-    = read_at c.make_chains.new.firsts.items c.chain_of-chain.result c.index-next.result.now within c.index-next.ensures ∙ (ap (λ fs. get_or fs c.chain_of-chain.result 0) made ∙ ap (λ n. get_or (chains_made g.row.S c.self.inside.firsts.items) n 0) chain_is) in
-    let links_are : set c.make_chains.new.firsts.items c.chain_of-chain.result c.len.result ≡ set (chains_made g.row.S c.self.inside.firsts.items) (chain_of g.row.S c.args.ty c.args.id) (length c.self.inside.entries.items + 1)
-    = ap (λ fs. set fs c.chain_of-chain.result c.len.result) made ∙ (ap (λ n. set (chains_made g.row.S c.self.inside.firsts.items) n c.len.result) chain_is ∙ ap (set (chains_made g.row.S c.self.inside.firsts.items) (chain_of g.row.S c.args.ty c.args.id)) count) in
-    let adds : Adds g.row.S c.self.inside.entries.items c.push.new.self.items c.self.inside.values.items c.extend_from_slice.new.self.items c.self.inside.firsts.items (set c.make_chains.new.firsts.items c.chain_of-chain.result c.len.result) c.args.values.now c.self.inside.bounds.greatest c.bounds_with-self-inside.result.greatest e
+    let s : Span = record { start = c.len-start.result; len = length c.args.values.now; room = length c.args.values.now } in
+    let is : Appends c.self.inside.set.pairs c.add.new.self.pairs c.self.inside.spans.items c.push.new.self.items c.self.inside.values.items c.extend_from_slice.new.self.items c.args.values.now (pair c.args.ty c.args.id) s
     = record {
-      entries_are = entries_are;
+      pairs_are = c.in_ok-add.ensures.ok;
+      spans_are = (rw c.unwrap-2.ensures at c.push.ensures.items) ∙ ap (λ xs. xs ++ s ∷ []) c.in_ok-reserve.ensures.items;
       values_are = (rw c.unwrap.ensures at c.extend_from_slice.ensures.items) ∙ ap (λ xs. xs ++ c.args.values.now) c.in_ok-reserve-2.ensures.items;
-      links_are = links_are;
-      most_is = ap (λ (b : Bounds). b.greatest) c.bounds_with-self-inside.ensures;
-      next = next;
-      chain = chain;
-      start = omega (arith, c.len-start.ensures, ap length c.in_ok-reserve-2.ensures.items);
-      len = refl;
-      room = refl;
-    } in (
-      added_table g.row.S c.self.inside.entries.items c.push.new.self.items c.self.inside.values.items c.extend_from_slice.new.self.items c.self.inside.firsts.items (set c.make_chains.new.firsts.items c.chain_of-chain.result c.len.result) c.args.values.now c.self.inside.bounds.greatest c.bounds_with-self-inside.result.greatest e c.self.invariant.0 adds (subst (λ (m : MapState). has_pair m.entries c.args.ty c.args.id ≡ false) (sym c.self.view_is) c.requires),
-      bounded_more c.self.inside.entries.items c.push.new.self.items e c.self.inside.bounds c.bounds_with-self-inside.result entries_are c.bounds_with-self-inside.ensures c.self.invariant.1,
-    )
-
-pub returns-clause-ok : goal.returns-clause-ok
-returns-clause-ok g c =
-    let e : Entry = record { ty = c.args.ty; id = c.args.id; next = c.index-next.result.now; start = c.len-start.result; len = length c.args.values.now; room = length c.args.values.now } in
-    let entries_are : c.push.new.self.items ≡ c.self.inside.entries.items ++ e ∷ [] = (rw c.unwrap-2.ensures at c.push.ensures.items) ∙ ap (λ xs. xs ++ e ∷ []) c.in_ok-reserve.ensures.items in
-    let chain_is : c.chain_of-chain.result ≡ chain_of g.row.S c.args.ty c.args.id = c.chain_of-chain.ensures.value in
-    let chain : chain_of g.row.S c.args.ty c.args.id < g.row.S = subst (λ n. n < g.row.S) chain_is c.chain_of-chain.ensures.within in
-    let made : c.make_chains.new.firsts.items ≡ chains_made g.row.S c.self.inside.firsts.items = c.in_ok-make_chains.ensures.ok in
-    let all : length (chains_made g.row.S c.self.inside.firsts.items) ≡ g.row.S = made_all g.row.S c.self.inside.entries.items c.self.inside.firsts.items c.self.invariant.0.first in
-    let count : c.len.result ≡ length c.self.inside.entries.items + 1 = omega (arith, c.len.ensures, ap length entries_are, length-append c.self.inside.entries.items (e ∷ [])) in
-    let within : c.chain_of-chain.result < length c.make_chains.new.firsts.items = omega (arith, c.chain_of-chain.ensures.within, ap length made, all) in
-    let next : c.index-next.result.now ≡ get_or (chains_made g.row.S c.self.inside.firsts.items) (chain_of g.row.S c.args.ty c.args.id) 0
-    = read_at c.make_chains.new.firsts.items c.chain_of-chain.result c.index-next.result.now within c.index-next.ensures ∙ (ap (λ fs. get_or fs c.chain_of-chain.result 0) made ∙ ap (λ n. get_or (chains_made g.row.S c.self.inside.firsts.items) n 0) chain_is) in
-    let links_are : set c.make_chains.new.firsts.items c.chain_of-chain.result c.len.result ≡ set (chains_made g.row.S c.self.inside.firsts.items) (chain_of g.row.S c.args.ty c.args.id) (length c.self.inside.entries.items + 1)
-    = ap (λ fs. set fs c.chain_of-chain.result c.len.result) made ∙ (ap (λ n. set (chains_made g.row.S c.self.inside.firsts.items) n c.len.result) chain_is ∙ ap (set (chains_made g.row.S c.self.inside.firsts.items) (chain_of g.row.S c.args.ty c.args.id)) count) in
-    let adds : Adds g.row.S c.self.inside.entries.items c.push.new.self.items c.self.inside.values.items c.extend_from_slice.new.self.items c.self.inside.firsts.items (set c.make_chains.new.firsts.items c.chain_of-chain.result c.len.result) c.args.values.now c.self.inside.bounds.greatest c.bounds_with-self-inside.result.greatest e
-    = record {
-      entries_are = entries_are;
-      values_are = (rw c.unwrap.ensures at c.extend_from_slice.ensures.items) ∙ ap (λ xs. xs ++ c.args.values.now) c.in_ok-reserve-2.ensures.items;
-      links_are = links_are;
-      most_is = ap (λ (b : Bounds). b.greatest) c.bounds_with-self-inside.ensures;
-      next = next;
-      chain = chain;
       start = omega (arith, c.len-start.ensures, ap length c.in_ok-reserve-2.ensures.items);
       len = refl;
       room = refl;
     } in
-    rw (← c.self.view_is) (added_entries g.row.S c.self.inside.entries.items c.push.new.self.items c.self.inside.values.items c.extend_from_slice.new.self.items c.self.inside.firsts.items (set c.make_chains.new.firsts.items c.chain_of-chain.result c.len.result) c.args.values.now c.self.inside.bounds.greatest c.bounds_with-self-inside.result.greatest e c.self.invariant.0 adds)
+    more_spread c.self.inside.set.pairs c.add.new.self.pairs c.self.inside.spans.items c.push.new.self.items c.self.inside.values.items c.extend_from_slice.new.self.items c.args.values.now (pair c.args.ty c.args.id) s c.self.invariant is
+
+pub returns-clause-ok : goal.returns-clause-ok
+returns-clause-ok g c =
+    let s : Span = record { start = c.len-start.result; len = length c.args.values.now; room = length c.args.values.now } in
+    let is : Appends c.self.inside.set.pairs c.add.new.self.pairs c.self.inside.spans.items c.push.new.self.items c.self.inside.values.items c.extend_from_slice.new.self.items c.args.values.now (pair c.args.ty c.args.id) s
+    = record {
+      pairs_are = c.in_ok-add.ensures.ok;
+      spans_are = (rw c.unwrap-2.ensures at c.push.ensures.items) ∙ ap (λ xs. xs ++ s ∷ []) c.in_ok-reserve.ensures.items;
+      values_are = (rw c.unwrap.ensures at c.extend_from_slice.ensures.items) ∙ ap (λ xs. xs ++ c.args.values.now) c.in_ok-reserve-2.ensures.items;
+      start = omega (arith, c.len-start.ensures, ap length c.in_ok-reserve-2.ensures.items);
+      len = refl;
+      room = refl;
+    } in
+    rw (← c.self.view_is) (more_entries c.self.inside.set.pairs c.add.new.self.pairs c.self.inside.spans.items c.push.new.self.items c.self.inside.values.items c.extend_from_slice.new.self.items c.args.values.now (pair c.args.ty c.args.id) s c.self.invariant is)

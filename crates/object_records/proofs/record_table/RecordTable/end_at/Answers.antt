@@ -28,5 +28,5 @@ pub invariant_of-self : goal.invariant_of-self
 invariant_of-self c =
     let rs = c.self.inside.records.items in
     let lives : LivesAt rs c.args.place = subst (λ (s : TableState). LivesAt s.records c.args.place) (sym c.self.view_is) c.requires in
-    ended_table rs c.self.inside.index.entries c.self.inside.links.items c.unlink.new.links.items c.self.inside.queues.items c.self.inside.passed.items c.self.inside.has_strays c.args.place c.index-kept.result.now c.index_mut.result.now c.self.invariant lives
+    ended_table rs c.self.inside.index.pairs c.self.inside.links.items c.unlink.new.links.items c.self.inside.queues.items c.self.inside.passed.items c.self.inside.has_strays c.args.place c.index-kept.result.now c.index_mut.result.now c.self.invariant lives
     c.index-kept.ensures c.index_mut.ensures.value c.unlink.ensures.links
