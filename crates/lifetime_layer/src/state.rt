@@ -119,12 +119,13 @@ impl LifeState {
     }
 
     /// Takes in the results of a call, by the call as it stood above the part: each that isn't 0 and wasn't born is born and lives.
-    /// Takes no memory where there is room for so many births.
+    /// Takes no memory where there is room for so many births. After `NoMemory` the part is as before.
     pub fn leave(&mut self, call: &LayerCall, results: &[u64]) -> Result<(), NoMemory>
         requires shape { HasParams call.now }
         requires once { AreNewOnce self.old.kept.births (made_of call.now results.now) }
         ensures kept { OnOk result (self.new.kept ≡ life_leave self.old.kept call.now.cmd (arguments_of call.now) (made_of call.now results.now)) }
         ensures place { self.new.place ≡ self.old.place }
+        ensures err { OnErr result (self.new.kept ≡ self.old.kept) }
         ensures succeeds { length results.now ≤ self.old.spare → IsOk result }
         ensures spare { self.old.spare ≤ self.new.spare + length results.now }
         ensures stands { OnOk result ((h : History) (number thread : ℕ) → LifeMirrors h self.old.kept →

@@ -22,7 +22,7 @@ pub struct Placed<V: Drop> {
 #[derive(Drop)]
 pub struct PlacedTable<V: Drop> {
     pub entries: Vec<Placed<V>>,
-    pub places: ObjectMap<usize>,
+    pub places: ObjectMap<u32>,
 }
 
 #[tactic(auto, unfolding(command_tables::specs::Tests::same_type))]
@@ -36,13 +36,14 @@ fn is_at<V: Drop>(entries: &[Placed<V>], at: usize, object: Object) -> bool
 }
 
 // The entry that was moved to a place, if there is one, is found there.
-fn note_moved<V: Drop>(entries: &[Placed<V>], places: &mut ObjectMap<usize>, at: usize)
-    requires { (p : Placed V) → slice_get entries.now at ≡ Some p → is_some (kept places.old p.object) ≡ true }
+fn note_moved<V: Drop>(entries: &[Placed<V>], places: &mut ObjectMap<u32>, at: usize)
+    requires few { at < 2 ^ 32 }
+    requires there { (p : Placed V) → slice_get entries.now at ≡ Some p → is_some (kept places.old p.object) ≡ true }
     ensures moved { (p : Placed V) → slice_get entries.now at ≡ Some p → (o : Object) → kept places.new o ≡ (if same p.object o then Some at else kept places.old o) }
     ensures none { length entries.now ≤ at → (o : Object) → kept places.new o ≡ kept places.old o }
 {
     if let Some(moved) = entries.get(at) {
-        places.set(moved.object, at);
+        places.set(moved.object, at as u32);
     }
 }
 
@@ -62,9 +63,10 @@ impl<V: Drop> PlacedTable<V> {
         requires { ArePlaced self.now }
         ensures entry { option_and_then (slice_get self.now.entries.items) result ≡ entry_of self.now.entries.items object }
         ensures within { IfSome result (λ at. at < length self.now.entries.items) }
+        ensures few { IfSome result (λ at. at < 2 ^ 32) }
     {
         match self.places.get(object) {
-            Some(at) if is_at(&self.entries, at, object) => Some(at),
+            Some(at) if is_at(&self.entries, at as usize, object) => Some(at as usize),
             _ => None,
         }
     }
@@ -80,7 +82,7 @@ impl<V: Drop> PlacedTable<V> {
         }
     }
 
-    /// Adds the value of an object that has none.
+    /// Adds the value of an object that has none. `AllocError` comes too where there are 2^32 entries.
     pub fn push(&mut self, object: Object, value: V) -> Result<(), AllocError>
         requires placed { ArePlaced self.old }
         requires new { entry_of self.old.entries.items object ≡ None }
@@ -88,7 +90,10 @@ impl<V: Drop> PlacedTable<V> {
         ensures err { OnErr result (self.new.entries.items ≡ self.old.entries.items) }
         ensures placed { ArePlaced self.new }
     {
-        self.places.put(object, self.entries.as_slice().len())?;
+        let Ok(at) = u32::try_from(self.entries.as_slice().len()) else {
+            return Err(AllocError);
+        };
+        self.places.put(object, at)?;
         self.entries.push(Placed { object, value })?;
         Ok(())
     }

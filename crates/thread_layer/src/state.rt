@@ -253,12 +253,13 @@ impl UseState {
     }
 
     /// The results of a thread's open call come: the call is open no longer, and each result that isn't 0 and wasn't born is born and
-    /// lives. After `NoMemory`, which comes only where there was no room for so many births, the call is closed and no result is born.
+    /// lives. After `NoMemory`, which comes only where there was no room for so many births, the part is as before.
     pub fn leave(&mut self, thread: u32, call: &LayerCall, results: &[u64]) -> Result<(), NoMemory>
         requires shape { HasParams call.now }
         requires once { AreNewOnce self.old.kept.births (made_of call.now results.now) }
         ensures kept { OnOk result (self.new.kept ≡ use_leave self.old.kept thread call.now.cmd (arguments_of call.now) (made_of call.now results.now)) }
         ensures place { self.new.place ≡ self.old.place }
+        ensures err { OnErr result (self.new.kept ≡ self.old.kept) }
         ensures succeeds { length results.now ≤ self.old.spare → IsOk result }
         ensures spare { self.old.spare ≤ self.new.spare + length results.now }
         ensures stands { OnOk result ((h : History) (number : ℕ) → UseMirrors h self.old.kept → UseMirrors (Returns (call_read number thread call.now) (made_of call.now results.now) ∷ h) self.new.kept) }
@@ -273,10 +274,12 @@ impl UseState {
         requires once { AreNewOnce self.old.kept.births (made_of call.now results.now) }
         ensures kept { OnOk result (self.new.kept ≡ use_leave self.old.kept thread call.now.cmd (arguments_of call.now) (made_of call.now results.now)) }
         ensures place { self.new.place ≡ self.old.place }
+        ensures err { OnErr result (self.new.kept ≡ self.old.kept) }
         ensures succeeds { length results.now ≤ self.old.spare → IsOk result }
         ensures spare { self.old.spare ≤ self.new.spare + length results.now }
     {
+        self.records.bear(call, results)?;
         close(&mut self.open_calls, thread, &mut self.spare);
-        self.records.bear(call, results)
+        Ok(())
     }
 }

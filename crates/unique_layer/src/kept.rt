@@ -64,6 +64,7 @@ impl KeptIds {
         ensures ids { self.new.ids ≡ self.old.ids }
         ensures ok { OnOk result (n ≤ self.new.spare) }
         ensures spare { self.old.spare ≤ self.new.spare }
+        ensures succeeds { 1 ≤ n → n ≤ self.old.spare → IsOk result }
     {
         self.entries.reserve(n)?;
         self.latest.reserve(n, 1)

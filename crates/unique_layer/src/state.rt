@@ -68,7 +68,11 @@ impl UniqueState {
         ensures ids { self.new.ids ≡ self.old.ids }
         ensures ok { OnOk result (births ≤ self.new.spare) }
         ensures spare { self.old.spare ≤ self.new.spare }
+        ensures succeeds { births ≤ self.old.spare → IsOk result }
     {
+        if births == 0 {
+            return Ok(());
+        }
         if u64::MAX - self.greatest < births as u64 {
             return Err(NoMemory);
         }
@@ -145,6 +149,7 @@ impl UniqueState {
     fn put_known(&mut self, ty: ObjectType, id: u64, value: u64) -> Result<(), NoMemory>
         requires { id ≤ greatest_id self.old.ids.entries }
         ensures ids { OnOk result (record { id = id; ids = self.new.ids } ≡ known self.old.ids ty id value) }
+        ensures err { OnErr result (self.new.ids ≡ self.old.ids) }
         ensures succeeds { 1 ≤ self.old.spare → IsOk result }
         ensures spare { self.old.spare ≤ self.new.spare + 1 }
     {
@@ -160,14 +165,18 @@ impl UniqueState {
         value: u64,
     ) -> Result<u64, NoMemory>
         ensures ids { IfOk result (λ id. record { id = id; ids = self.new.ids } ≡ new_id self.old.ids (key_asked key) ty value) }
+        ensures err { OnErr result (self.new.ids ≡ self.old.ids) }
         ensures succeeds { 1 ≤ self.old.spare → IsOk result }
         ensures spare { self.old.spare ≤ self.new.spare + 1 }
     {
         let id = self.greatest.checked_add(1).ok_or(NoMemory)?;
+        if key.is_some() {
+            self.kept.reserve(1)?;
+        }
         self.ids.insert(ty, id, &[value])?;
         self.greatest = id;
         if let Some(key) = key {
-            self.kept.add(key, id)?;
+            self.kept.add(key, id).unwrap();
         }
         Ok(id)
     }
@@ -180,6 +189,7 @@ impl UniqueState {
         value: u64,
     ) -> Result<u64, NoMemory>
         ensures ids { IfOk result (λ id. record { id = id; ids = self.new.ids } ≡ issue self.old.ids (key_asked key) ty value) }
+        ensures err { OnErr result (self.new.ids ≡ self.old.ids) }
         ensures succeeds { 1 ≤ self.old.spare → IsOk result }
         ensures spare { self.old.spare ≤ self.new.spare + 1 }
     {
@@ -200,7 +210,10 @@ impl UniqueState {
         ty: ObjectType,
         results: &mut [u64],
     ) -> Result<(), NoMemory>
+        requires room { 1 < length results.old → length results.old ≤ self.old.spare }
         ensures ids { OnOk result (record { results = results.new; ids = self.new.ids } ≡ issue_all self.old.ids (key_asked key) ty 0 (map there results.old)) }
+        ensures err { OnErr result (self.new.ids ≡ self.old.ids) }
+        ensures same { OnErr result (results.new ≡ results.old) }
         ensures succeeds { length results.old ≤ self.old.spare → IsOk result }
         ensures spare { self.old.spare ≤ self.new.spare + length results.old }
     {
@@ -215,15 +228,21 @@ impl UniqueState {
     /// Results on their way up, by the call as it stood above: each that isn't 0 gets an id where the part issues ids for its
     /// type. A created one gets a new id, one above the greatest; a retrieved one the kept id of its owner, type and place, else
     /// a new one. The handle below that id is the new one. After `NoMemory`, which comes only where there was no room for so many
-    /// births, the part and the results are for dropping.
+    /// births, the part and the results are as before.
     pub fn leave(&mut self, upper: &LayerCall, results: &mut [u64]) -> Result<(), NoMemory>
         ensures ids { OnOk result (record { results = results.new; ids = self.new.ids } ≡ unique_leave self.old.ids (call_content upper.now) results.old) }
+        ensures err { OnErr result (self.new.ids ≡ self.old.ids) }
+        ensures same { OnErr result (results.new ≡ results.old) }
         ensures succeeds { length results.old ≤ self.old.spare → IsOk result }
         ensures spare { self.old.spare ≤ self.new.spare + length results.old }
     {
         let row = row(upper.cmd);
         match row.effect.type_made() {
             Some(ty) if wraps(ty) => {
+                // One result alone leaves all as before where there is no memory.
+                if results.len() > 1 {
+                    self.reserve(results.len())?;
+                }
                 let key = key_of(row.params, &upper.args, row.effect);
                 self.issue_all(key, ty, results)
             }
