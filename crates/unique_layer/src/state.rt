@@ -1,5 +1,5 @@
 //! A unique part: its ids with the handles below them.
-ghost use Rattle.std.specs.Prelude.{◌≡◌, ◌<◌, ◌≤◌, ◌+◌, map, length, unwrap_or, slice_set, IfOk, IfSome, IsOk, OnOk};
+ghost use Rattle.std.specs.Prelude.{◌≡◌, ◌<◌, ◌≤◌, ◌+◌, map, length, unwrap_or, slice_set, IfOk, IfSome, IsOk, OnErr, OnOk};
 ghost use Rattle.command_tables.specs.Handles.{list_at};
 ghost use Rattle.command_tables.specs.Table.{seen_param};
 ghost use Rattle.command_tables.specs.Calls.{call_content};
