@@ -1,9 +1,9 @@
 -- Kept ids are at most the greatest id that was issued.
-use Rattle.std.proofs.Common.{◌≡◌, ℕ, ◌≤◌, ◌+◌, min, Bool, true, false, cond, Option, Some, None, List, [], ◌∷◌, ◌++◌, arith}
+use Rattle.std.proofs.Common.{ℕ, ◌≤◌, ◌+◌, min, Bool, true, false, cond, Some, List, [], ◌∷◌, ◌++◌, arith}
 use Rattle.std.specs.Prelude.{IfSome}
 use Rattle.std.specs.List.{find}
 use Rattle.std.specs.Option.{option_map}
-use Rattle.layer_model.specs.Ids.{Key, KeptId, has_key, kept_for, kept_id}
+use Rattle.layer_model.specs.Ids.{Key, KeptId, has_key, kept_id}
 use Rattle.unique_layer.specs.Shown.{AreUpTo}
 
 -- of a greater number too

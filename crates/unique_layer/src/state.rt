@@ -225,6 +225,25 @@ impl UniqueState {
         Ok(())
     }
 
+    // The same, and all stays as before where there is no memory, as it does at one result alone.
+    fn issue_all_or_none(
+        &mut self,
+        key: Option<RetrievedKey>,
+        ty: ObjectType,
+        results: &mut [u64],
+    ) -> Result<(), NoMemory>
+        ensures ids { OnOk result (record { results = results.new; ids = self.new.ids } ≡ issue_all self.old.ids (key_asked key) ty 0 (map there results.old)) }
+        ensures err { OnErr result (self.new.ids ≡ self.old.ids) }
+        ensures same { OnErr result (results.new ≡ results.old) }
+        ensures succeeds { length results.old ≤ self.old.spare → IsOk result }
+        ensures spare { self.old.spare ≤ self.new.spare + length results.old }
+    {
+        if results.len() > 1 {
+            self.reserve(results.len())?;
+        }
+        self.issue_all(key, ty, results)
+    }
+
     /// Results on their way up, by the call as it stood above: each that isn't 0 gets an id where the part issues ids for its
     /// type. A created one gets a new id, one above the greatest; a retrieved one the kept id of its owner, type and place, else
     /// a new one. The handle below that id is the new one. After `NoMemory`, which comes only where there was no room for so many
@@ -239,12 +258,8 @@ impl UniqueState {
         let row = row(upper.cmd);
         match row.effect.type_made() {
             Some(ty) if wraps(ty) => {
-                // One result alone leaves all as before where there is no memory.
-                if results.len() > 1 {
-                    self.reserve(results.len())?;
-                }
                 let key = key_of(row.params, &upper.args, row.effect);
-                self.issue_all(key, ty, results)
+                self.issue_all_or_none(key, ty, results)
             }
             _ => Ok(()),
         }

@@ -8,5 +8,5 @@ use Rattle.unique_layer.proofs.state.UniqueState.leave.Goals as goal
 pub returns-in-Some-clause-ids : goal.returns-in-Some-clause-ids
 returns-in-Some-clause-ids c =
     let by = leave_by c.args.self.now.ids c.args.upper.now c.args.results.now c.in-Some.ty c.row-row.result.now (key_asked c.key_of-key.result) c.row-row.ensures (sym c.in-Some.ensures) (sym c.wraps.ensures ∙ c.if-wraps.true) c.key_of-key.ensures in
-    let P : IssuedAll ℕ → Type 0 = λ all. OnOk c.issue_all.result (record { results = c.issue_all.new.results; ids = c.issue_all.new.self.ids } ≡ all) in
-    subst P by c.issue_all.ensures.ids
+    let P : IssuedAll ℕ → Type 0 = λ all. OnOk c.issue_all_or_none.result (record { results = c.issue_all_or_none.new.results; ids = c.issue_all_or_none.new.self.ids } ≡ all) in
+    subst P by c.issue_all_or_none.ensures.ids
