@@ -1,5 +1,5 @@
 // Values of objects in one list without gaps.
-ghost use Rattle.std.specs.Prelude.{◌≡◌, ◌++◌, ◌∷◌, ◌<◌, ◌≤◌, ◌^◌, [], None, Some, OnOk, OnErr, IfSome, if◌then◌else◌, false, true, is_some, length, slice_get, option_and_then};
+ghost use Rattle.std.specs.Prelude.{◌≡◌, ◌++◌, ◌∷◌, ◌<◌, ◌≤◌, ◌^◌, [], None, Some, OnOk, OnErr, IfOk, IfSome, if◌then◌else◌, false, true, is_some, length, slice_get, option_and_then};
 ghost use Rattle.std.specs.Option.{option_copied, option_map_or};
 ghost use Rattle.object_model.specs.declared.Object.{Object};
 ghost use Rattle.object_model.specs.Objects.{same};
@@ -47,6 +47,13 @@ fn note_moved<V: Drop>(entries: &[Placed<V>], places: &mut ObjectMap<u32>, at: u
     }
 }
 
+// The place of the next entry. Places have 32 bits.
+fn next_place<V: Drop>(entries: &[Placed<V>]) -> Result<u32, AllocError>
+    ensures { IfOk result (λ at. at ≡ length entries.now) }
+{
+    u32::try_from(entries.len()).ok().ok_or(AllocError)
+}
+
 impl<V: Drop> PlacedTable<V> {
     pub fn new(alloc: Global) -> PlacedTable<V>
         ensures empty { result.entries.items ≡ [] }
@@ -90,9 +97,7 @@ impl<V: Drop> PlacedTable<V> {
         ensures err { OnErr result (self.new.entries.items ≡ self.old.entries.items) }
         ensures placed { ArePlaced self.new }
     {
-        let Ok(at) = u32::try_from(self.entries.as_slice().len()) else {
-            return Err(AllocError);
-        };
+        let at = next_place(&self.entries)?;
         self.places.put(object, at)?;
         self.entries.push(Placed { object, value })?;
         Ok(())

@@ -1,4 +1,4 @@
-use Rattle.std.proofs.Common.{List, length, ap, sym, subst}
+use Rattle.std.proofs.Common.{List, length, ap, sym, subst, ◌∙◌}
 use Rattle.session_tables.specs.declared.placed_table.Placed.{Placed}
 use Rattle.session_tables.specs.Filing.{kept}
 use Rattle.session_tables.specs.Placed.{AreTheirPlaces}
@@ -8,10 +8,10 @@ use Rattle.session_tables.proofs.placed_table.PlacedTable.push.Goals as goal
 pub returns-in_err-push-clause-placed : goal.returns-in_err-push-clause-placed
 returns-in_err-push-clause-placed g c =
     subst (λ (es : List (Placed g.row.V.Denot)). AreTheirPlaces (kept c.put.new.self) es) (sym c.in_err-push.ensures.items)
-    (placed_still (kept c.args.self.now.places) c.args.self.now.entries.items c.requires.placed (kept c.put.new.self) c.args.object (length c.as_slice.result.now) c.requires.new c.in_ok-put.ensures.ok)
+    (placed_still (kept c.args.self.now.places) c.args.self.now.entries.items c.requires.placed (kept c.put.new.self) c.args.object c.in_ok-at.at c.requires.new c.in_ok-put.ensures.ok)
 
 pub returns-clause-placed : goal.returns-clause-placed
 returns-clause-placed g c =
     subst (λ (es : List (Placed g.row.V.Denot)). AreTheirPlaces (kept c.put.new.self) es) (sym c.in_ok-push.ensures.items)
-    (placed_more (kept c.args.self.now.places) c.args.self.now.entries.items c.requires.placed (kept c.put.new.self) (record { object = c.args.object; value = c.args.value }) (length c.as_slice.result.now) c.requires.new
-    (ap length c.as_slice.ensures.value) c.in_ok-put.ensures.ok)
+    (placed_more (kept c.args.self.now.places) c.args.self.now.entries.items c.requires.placed (kept c.put.new.self) (record { object = c.args.object; value = c.args.value }) c.in_ok-at.at c.requires.new
+    (c.in_ok-at.ensures ∙ ap length c.deref.ensures.value) c.in_ok-put.ensures.ok)
