@@ -11,3 +11,4 @@ pub mod Told
 pub mod Drivers
 pub mod Staying
 pub mod Known
+pub mod Room

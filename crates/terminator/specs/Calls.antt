@@ -1,5 +1,5 @@
 -- What the terminator keeps, as contracts see it; the calls that it tells, and what it makes of their replies. Source: this project.
-use Rattle.std.specs.Prelude.{ℕ, Bool, true, not, ◌||◌, ◌==◌, Option, Some, None, List, [], map}
+use Rattle.std.specs.Prelude.{ℕ, Bool, true, not, ◌||◌, ◌==◌, Option, Some, None, List, map}
 use Rattle.std.specs.List.{zip}
 use Rattle.command_tables.specs.Calls.{CallContent, DriverCallContent, ReplyContent}
 use Rattle.command_tables.specs.Effects.{type_made}
@@ -9,20 +9,20 @@ use Rattle.command_tables.specs.declared.types.ObjectType.TheVariants as ty
 use Rattle.object_model.specs.declared.Object.{Object}
 use Rattle.object_model.specs.declared.Routed.{Routed}
 use Rattle.object_model.specs.Values.{Answered, Value}
-use Rattle.layer_model.specs.Ids.{IdMap, IssuedAll, no_ids}
+use Rattle.layer_model.specs.Ids.{IdMap, IssuedAll}
 use Rattle.layer_model.specs.Routes.{drivers_at, has_route, routes_then}
 use Rattle.layer_model.specs.Terminator.{terminator_leave, told_call}
 use Rattle.model_driver.specs.Driver.{FitsAsked, FitsRow}
 
--- the ids with each driver's values, the driver behind each id that has one of its own, and how many drivers there are
+-- the ids with each driver's values, the driver behind each id that has one of its own, and how many drivers there are; and how many
+-- further ids, how many further values in all, and how many further bytes of payloads can be held with no further memory
 pub record TerminatorState : Type 0 where
   pub ids : IdMap (List Value)
   pub routes : List Routed
   pub drivers : ℕ
-
--- nothing was issued yet
-abbrev pub nothing_issued : ℕ → TerminatorState
-nothing_issued drivers = record { ids = no_ids; routes = []; drivers = drivers }
+  pub spare : ℕ
+  pub values : ℕ
+  pub bytes : ℕ
 
 -- the drivers that a call goes to
 abbrev pub drivers_for : TerminatorState → CallContent → List ℕ

@@ -1,5 +1,5 @@
 //! What the drivers of a call answered.
-ghost use Rattle.std.specs.Prelude.{◌≡◌, ◌++◌, ◌∷◌, [], false, map, length, slice_get, unwrap_or, IfOk, OnOk};
+ghost use Rattle.std.specs.Prelude.{◌≡◌, ◌≤◌, ◌<◌, ◌+◌, ◌^◌, ◌++◌, ◌∷◌, [], false, map, length, slice_get, unwrap_or, vec_capacity, IfOk, IsOk, OnOk};
 ghost use Rattle.command_tables.specs.Tests.{same_command};
 ghost use Rattle.command_tables.specs.declared.types.CommandId.TheVariants as command;
 ghost use Rattle.layer_model.specs.Terminator.{plain_handle, values_from};
@@ -42,7 +42,10 @@ pub fn enumerates_devices(cmd: CommandId) -> bool
 
 // A driver's value, behind those of others.
 fn push_value(values: &mut Vec<DriverValue>, driver: u32, value: u64) -> Result<(), NoMemory>
-    ensures { OnOk result (map value_of values.new.items ≡ map value_of values.old.items ++ record { driver = driver; value = value } ∷ []) }
+    ensures added { OnOk result (map value_of values.new.items ≡ map value_of values.old.items ++ record { driver = driver; value = value } ∷ []) }
+    ensures count { OnOk result (length values.new.items ≡ length values.old.items + 1) }
+    ensures succeeds { length values.old.items < vec_capacity values.old → IsOk result }
+    ensures room { vec_capacity values.old ≤ vec_capacity values.new }
 {
     values.push(DriverValue { driver, value })?;
     Ok(())
@@ -57,7 +60,10 @@ fn add_value(
     place: usize,
     values: &mut Vec<DriverValue>,
 ) -> Result<(), NoMemory>
-    ensures { OnOk result (map value_of values.new.items ≡ map value_of values.old.items ++ values_answered cmd (record { driver = driver; handles = handles.now } ∷ []) place) }
+    ensures added { OnOk result (map value_of values.new.items ≡ map value_of values.old.items ++ values_answered cmd (record { driver = driver; handles = handles.now } ∷ []) place) }
+    ensures count { OnOk result (length values.new.items ≤ length values.old.items + 1) }
+    ensures succeeds { length values.old.items < vec_capacity values.old → IsOk result }
+    ensures room { vec_capacity values.old ≤ vec_capacity values.new }
 {
     if !enumerates_devices(cmd) {
         push_value(values, driver, handle_at(handles, place))?;
@@ -71,7 +77,10 @@ impl Answers<'_> {
     /// The values of the result in a place, one for each driver that answered it. What stood in `values` before is gone.
     pub fn gather(self, place: usize, values: &mut Vec<DriverValue>) -> Result<(), NoMemory>
         requires { length self.replies.now ≡ length (drivers_named self.receivers) }
-        ensures { OnOk result (map value_of values.new.items ≡ values_answered self.entry.cmd (answers_in self.entry) place) }
+        ensures values { OnOk result (map value_of values.new.items ≡ values_answered self.entry.cmd (answers_in self.entry) place) }
+        ensures count { OnOk result (length values.new.items ≤ length (drivers_named self.entry.receivers)) }
+        ensures succeeds { length (drivers_named self.entry.receivers) ≤ vec_capacity values.old → IsOk result }
+        ensures room { vec_capacity values.old ≤ vec_capacity values.new }
     {
         values.clear();
         for k in 0..self.receivers.count() {
@@ -83,7 +92,8 @@ impl Answers<'_> {
 
     /// The driver behind the result in a place.
     pub fn driver_behind(self, place: usize) -> Result<u32, NoMemory>
-        ensures { IfOk result (λ driver. driver ≡ driver_behind self.entry.cmd (drivers_named self.entry.receivers) place) }
+        ensures driver { IfOk result (λ driver. driver ≡ driver_behind self.entry.cmd (drivers_named self.entry.receivers) place) }
+        ensures succeeds { place < 2 ^ 32 → IsOk result }
     {
         if enumerates_devices(self.cmd) {
             u32::try_from(place).ok().ok_or(NoMemory)

@@ -1,5 +1,5 @@
 //! The ids that were issued, with those of retrieved objects by their keys.
-ghost use Rattle.std.specs.Prelude.{◌≡◌, ◌≤◌, ◌+◌, [], true, length, map, unwrap_or, IfOk, IfSome, IsOk, OnOk};
+ghost use Rattle.std.specs.Prelude.{◌≡◌, ◌≤◌, ◌+◌, [], true, length, map, unwrap_or, IfOk, IfSome, IsOk, OnErr, OnOk};
 ghost use Rattle.command_tables.specs.declared.types.ObjectType.{ObjectType};
 ghost use Rattle.handle_map.specs.Pairs.{has_pair, values_of};
 ghost use Rattle.layer_model.specs.Ids.{issue, kept_for, new_id, no_ids};
@@ -58,6 +58,13 @@ impl IssuedIds {
         })
     }
 
+    /// For how many further bytes of payloads there is room. Takes no memory.
+    pub fn bytes_left(&self) -> usize
+        ensures { result ≡ self.now.bytes }
+    {
+        self.kept.bytes_left()
+    }
+
     /// Makes room for so many further ids, with so many values and so many bytes of payloads in all. After `NoMemory` the ids are as
     /// before, and no room is lost.
     pub fn reserve(&mut self, ids: usize, values: usize, bytes: usize) -> Result<(), NoMemory>
@@ -69,6 +76,7 @@ impl IssuedIds {
         ensures spare { self.old.spare ≤ self.new.spare }
         ensures room { self.old.room ≤ self.new.room }
         ensures bytes { self.old.bytes ≤ self.new.bytes }
+        ensures succeeds { ids ≤ self.old.spare → values ≤ self.old.room → bytes ≤ self.old.bytes → IsOk result }
     {
         self.table.reserve(ids, values)?;
         self.kept.reserve(ids, bytes)
@@ -99,7 +107,7 @@ impl IssuedIds {
         }
     }
 
-    // A new id, kept by its key where the call retrieves.
+    // A new id, kept by its key where the call retrieves. After `NoMemory` all is as before.
     #[tactic(auto, using(crate::proofs::Known::issued_more, crate::proofs::Known::issued_stay))]
     fn issue_new(
         &mut self,
@@ -116,15 +124,21 @@ impl IssuedIds {
         ensures room { self.old.room ≤ self.new.room + length values.now }
         ensures bytes { self.old.bytes ≤ self.new.bytes + bytes_of (key_asked key.entry) }
         ensures routes { IfOk result (λ id. self.new.routes ≡ add_route self.old.routes (record { ty = ty; number = id }) driver) }
+        ensures err { OnErr result (self.new.ids ≡ self.old.ids) }
+        ensures err_routes { OnErr result (self.new.routes ≡ self.old.routes) }
     {
+        if let Some(key) = key {
+            self.kept.reserve(1, key.payload.len())?;
+        }
         let id = self.table.add(ty, driver, values)?;
         if let Some(key) = key {
-            self.kept.add(key, id)?;
+            self.kept.add(key, id).unwrap();
         }
         Ok(id)
     }
 
-    /// The kept id of a key, else a new one, with these values; a new one has this driver behind it.
+    /// The kept id of a key, else a new one, with these values; a new one has this driver behind it. After `NoMemory`, which
+    /// comes only where there was no room, all is as before.
     #[tactic(auto, using(crate::proofs::Known::issued_stay))]
     pub fn issue(
         &mut self,
@@ -141,6 +155,8 @@ impl IssuedIds {
         ensures room { self.old.room ≤ self.new.room + length values.now }
         ensures bytes { self.old.bytes ≤ self.new.bytes + bytes_of (key_asked key.entry) }
         ensures routes { IfOk result (λ id. self.new.routes ≡ add_route self.old.routes (record { ty = ty; number = id }) driver) }
+        ensures err { OnErr result (self.new.ids ≡ self.old.ids) }
+        ensures err_routes { OnErr result (self.new.routes ≡ self.old.routes) }
     {
         match self.kept_for(key) {
             None => self.issue_new(key, ty, driver, values),

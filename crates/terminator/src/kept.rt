@@ -63,6 +63,13 @@ impl KeptIds {
         })
     }
 
+    /// For how many further bytes of payloads there is room. Takes no memory.
+    pub fn bytes_left(&self) -> usize
+        ensures { result ≡ self.now.bytes }
+    {
+        self.bytes.capacity() - self.bytes.len()
+    }
+
     /// Makes room for so many further ids with so many bytes of payloads. After `NoMemory` the ids are as before, and no room is lost.
     pub fn reserve(&mut self, n: usize, bytes: usize) -> Result<(), NoMemory>
         ensures ids { self.new.ids ≡ self.old.ids }
@@ -70,9 +77,14 @@ impl KeptIds {
         ensures ok_bytes { OnOk result (bytes ≤ self.new.bytes) }
         ensures spare { self.old.spare ≤ self.new.spare }
         ensures bytes { self.old.bytes ≤ self.new.bytes }
+        ensures succeeds { n ≤ self.old.spare → bytes ≤ self.old.bytes → IsOk result }
     {
-        self.entries.reserve(n)?;
         self.bytes.reserve(bytes)?;
+        // The links take memory for none, too.
+        if n == 0 {
+            return Ok(());
+        }
+        self.entries.reserve(n)?;
         self.latest.reserve(n, 1)
     }
 

@@ -2,7 +2,7 @@
 ghost use Rattle.std.specs.Prelude.{◌≡◌};
 ghost use Rattle.object_model.specs.Objects.{are_same};
 ghost use Rattle.layer_model.specs.Ids.{at_key};
-ghost use Rattle.terminator.specs.Shown.{key_asked};
+ghost use Rattle.terminator.specs.Shown.{bytes_of, key_asked};
 
 use command_tables::ObjectType;
 use object_model::Object;
@@ -24,6 +24,16 @@ pub fn key_at<'a>(key: Option<RetrievedKey<'a>>, place: usize) -> Option<Retriev
     match key {
         None => None,
         Some(key) => Some(RetrievedKey { place, ..key }),
+    }
+}
+
+/// How many bytes of payload are kept with a result, where the call retrieves.
+pub fn payload_len(key: Option<RetrievedKey<'_>>) -> usize
+    ensures { result ≡ bytes_of (key_asked key.entry) }
+{
+    match key {
+        None => 0,
+        Some(key) => key.payload.len(),
     }
 }
 

@@ -122,6 +122,7 @@ impl IdTable {
         ensures ok_room { OnOk result (values ≤ self.new.room) }
         ensures spare { self.old.spare ≤ self.new.spare }
         ensures room { self.old.room ≤ self.new.room }
+        ensures succeeds { ids ≤ self.old.spare → values ≤ self.old.room → IsOk result }
     {
         self.entries.reserve(ids)?;
         self.values.reserve(values)?;

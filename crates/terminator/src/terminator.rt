@@ -1,19 +1,20 @@
 //! The terminator: its ids with the drivers' values, what it tells the drivers, and what becomes of their replies.
-ghost use Rattle.std.specs.Prelude.{◌≡◌, ◌≤◌, ◌∷◌, [], map, length, IfOk, OnOk};
+ghost use Rattle.std.specs.Prelude.{◌≡◌, ◌≤◌, ◌<◌, ◌+◌, ◌*◌, ◌^◌, ◌∷◌, [], map, length, max, IfOk, IsOk, OnErr, OnOk};
 ghost use Rattle.command_tables.specs.Calls.{HasRoomFor, call_content};
-ghost use Rattle.layer_model.specs.Ids.{at_key, issue, issue_all};
+ghost use Rattle.layer_model.specs.Ids.{at_key, issue, issue_all, no_ids};
 ghost use Rattle.layer_model.specs.Routes.{add_route, route_all};
 ghost use Rattle.object_model.specs.Routes.{driver_behind};
 ghost use Rattle.object_model.specs.Values.{values_answered};
 ghost use Rattle.layer_model.specs.Terminator.{told_call, values_from};
 ghost use Rattle.model_driver.specs.Driver.{call_shown, reply_shown};
-ghost use Rattle.terminator.specs.Calls.{born_where, drivers_for, left_by, nothing_issued, routes_left, targets_of};
-ghost use Rattle.terminator.specs.Shown.{IsKeyOf, answers_in, drivers_named, key_asked};
+ghost use Rattle.terminator.specs.Calls.{born_where, drivers_for, left_by, routes_left, targets_of};
+ghost use Rattle.terminator.specs.Shown.{IsKeyOf, answers_in, bytes_of, drivers_named, key_asked};
+ghost use Rattle.terminator.specs.Room.{HasRoom, HasRoomForResults, bytes_with};
 
 use crate::answers::Answers;
 use crate::bare::issued_type;
 use crate::issued::IssuedIds;
-use crate::key::{RetrievedKey, key_at};
+use crate::key::{RetrievedKey, key_at, payload_len};
 use crate::reading::{first_object, key_of};
 use crate::receivers::Receivers;
 use crate::telling::tell;
@@ -35,11 +36,12 @@ pub struct Terminator {
 }
 
 impl Model for Terminator {
+    ghost use Rattle.std.specs.Prelude.{min, vec_capacity};
     ghost use Rattle.terminator.specs.Calls.{TerminatorState};
 
     ghost Value = { TerminatorState };
 
-    ghost view = { λ t. record { ids = t.issued.ids; routes = t.issued.routes; drivers = t.drivers } };
+    ghost view = { λ t. record { ids = t.issued.ids; routes = t.issued.routes; drivers = t.drivers; spare = t.issued.spare; values = min t.issued.room (vec_capacity t.values); bytes = t.issued.bytes } };
 }
 
 // As many calls as there are drivers to tell.
@@ -58,7 +60,9 @@ fn make_calls(alloc: Global, count: usize, calls: &mut Vec<DriverCall>) -> Resul
 impl Terminator {
     /// A terminator above so many drivers that has issued nothing.
     pub fn new(alloc: Global, drivers: u32) -> Terminator
-        ensures { result ≡ nothing_issued drivers }
+        ensures ids { result.ids ≡ no_ids }
+        ensures routes { result.routes ≡ [] }
+        ensures drivers { result.drivers ≡ drivers }
     {
         Terminator {
             alloc,
@@ -80,6 +84,74 @@ impl Terminator {
             issued: self.issued.copy()?,
             values: Vec::new(self.alloc),
         })
+    }
+
+    // Makes room for so many further ids, with so many values and so many bytes of payloads in all.
+    fn make_room(&mut self, births: usize, values: usize, bytes: usize) -> Result<(), NoMemory>
+        ensures ids { self.new.ids ≡ self.old.ids }
+        ensures routes { self.new.routes ≡ self.old.routes }
+        ensures drivers { self.new.drivers ≡ self.old.drivers }
+        ensures ok_births { OnOk result (births ≤ self.new.spare) }
+        ensures ok_values { OnOk result (values ≤ self.new.values) }
+        ensures ok_bytes { OnOk result (bytes ≤ self.new.bytes) }
+        ensures succeeds { births ≤ self.old.spare → values ≤ self.old.values → bytes ≤ self.old.bytes → IsOk result }
+        ensures spare { self.old.spare ≤ self.new.spare }
+        ensures values { self.old.values ≤ self.new.values }
+        ensures bytes { self.old.bytes ≤ self.new.bytes }
+    {
+        self.issued.reserve(births, values, bytes)?;
+        self.values.clear();
+        self.values.reserve(values)?;
+        Ok(())
+    }
+
+    /// Makes room for the births of so many further objects, each with a value of each driver, and for so many bytes of the payloads by
+    /// which retrieved ones are kept. Takes no memory where there is room. After `NoMemory` what was issued is as before, and no room is
+    /// lost.
+    pub fn reserve(&mut self, births: usize, bytes: usize) -> Result<(), NoMemory>
+        ensures ids { self.new.ids ≡ self.old.ids }
+        ensures routes { self.new.routes ≡ self.old.routes }
+        ensures drivers { self.new.drivers ≡ self.old.drivers }
+        ensures ok_births { OnOk result (births ≤ self.new.spare) }
+        ensures ok_values { OnOk result (births * max 1 self.old.drivers ≤ self.new.values) }
+        ensures ok_bytes { OnOk result (bytes ≤ self.new.bytes) }
+        ensures succeeds { births ≤ self.old.spare → births * max 1 self.old.drivers ≤ self.old.values → bytes ≤ self.old.bytes → IsOk result }
+        ensures spare { self.old.spare ≤ self.new.spare }
+        ensures values { self.old.values ≤ self.new.values }
+        ensures bytes { self.old.bytes ≤ self.new.bytes }
+    {
+        // There is room for no more than can be counted.
+        let _most = self.values.capacity();
+        let Some(values) = births.checked_mul(self.drivers.max(1) as usize) else {
+            return Err(NoMemory);
+        };
+        self.make_room(births, values, bytes)
+    }
+
+    // Makes room for so many results of a call to so many drivers, each kept with so many bytes of payload.
+    fn reserve_for(&mut self, births: usize, drivers: u32, payload: usize) -> Result<(), NoMemory>
+        ensures ids { self.new.ids ≡ self.old.ids }
+        ensures routes { self.new.routes ≡ self.old.routes }
+        ensures drivers { self.new.drivers ≡ self.old.drivers }
+        ensures ok { OnOk result (HasRoom self.new births drivers payload) }
+        ensures succeeds { HasRoom self.old births drivers payload → IsOk result }
+        ensures spare { self.old.spare ≤ self.new.spare }
+        ensures values { self.old.values ≤ self.new.values }
+        ensures bytes { self.old.bytes ≤ self.new.bytes }
+    {
+        // There is room for no more than can be counted.
+        let _most = self.values.capacity();
+        let _most_bytes = self.issued.bytes_left();
+        if births > u32::MAX as usize {
+            return Err(NoMemory);
+        }
+        let Some(values) = births.checked_mul(drivers as usize) else {
+            return Err(NoMemory);
+        };
+        let Some(bytes) = births.checked_mul(payload) else {
+            return Err(NoMemory);
+        };
+        self.make_room(births, values, bytes)
     }
 
     /// How many drivers there are. Takes no memory.
@@ -141,8 +213,8 @@ impl Terminator {
         tell(&self.issued, call, driver, out).unwrap();
     }
 
-    // The id of one result that is born, with the values that the drivers answered for it.
-    #[tactic(auto, using(crate::proofs::Leaving::key_type_at))]
+    // The id of one result that is born, with the values that the drivers answered for it. After `NoMemory` all is as before.
+    #[tactic(auto, using(crate::proofs::Leaving::key_type_at, crate::proofs::Room::bytes_at))]
     fn issue_one(
         &mut self,
         key: Option<RetrievedKey<'_>>,
@@ -156,6 +228,12 @@ impl Terminator {
         ensures positive { IfOk result (λ id. 1 ≤ id) }
         ensures routes { IfOk result (λ id. self.new.routes ≡ add_route self.old.routes (record { ty = ty; number = id }) (driver_behind answers.entry.cmd (drivers_named answers.entry.receivers) place)) }
         ensures drivers { self.new.drivers ≡ self.old.drivers }
+        ensures err { OnErr result (self.new.ids ≡ self.old.ids) }
+        ensures err_routes { OnErr result (self.new.routes ≡ self.old.routes) }
+        ensures succeeds { 1 ≤ self.old.spare → length (drivers_named answers.entry.receivers) ≤ self.old.values → bytes_of (key_asked key.entry) ≤ self.old.bytes → place < 2 ^ 32 → IsOk result }
+        ensures spare { self.old.spare ≤ self.new.spare + 1 }
+        ensures values { self.old.values ≤ self.new.values + length (drivers_named answers.entry.receivers) }
+        ensures bytes { self.old.bytes ≤ self.new.bytes + bytes_of (key_asked key.entry) }
     {
         answers.gather(place, &mut self.values)?;
         let driver = answers.driver_behind(place)?;
@@ -164,7 +242,37 @@ impl Terminator {
     }
 
     // The results of a call of which each that is born gets an id; 0 stays.
-    #[tactic(auto, using(crate::proofs::Issuing::lost_left, crate::proofs::Issuing::issued_left))]
+    #[tactic(auto, using(crate::proofs::Issuing::lost_left, crate::proofs::Issuing::issued_left, crate::proofs::Room::one_more))]
+    fn issue_each(
+        &mut self,
+        key: Option<RetrievedKey<'_>>,
+        ty: ObjectType,
+        answers: Answers<'_>,
+        results: &mut [u64],
+    ) -> Result<(), NoMemory>
+        requires key { IsKeyOf ty (key_asked key) }
+        requires count { length answers.replies.now ≡ length (drivers_named answers.receivers) }
+        requires room { 1 < length results.old → HasRoom self.old (length results.old) (length (drivers_named answers.receivers)) (bytes_of (key_asked key)) }
+        ensures ids { OnOk result (record { results = results.new; ids = self.new.ids } ≡ issue_all self.old.ids (key_asked key.entry) ty 0 (values_from answers.entry.cmd (answers_in answers.entry) 0 (born_where results.old))) }
+        ensures routes { OnOk result (self.new.routes ≡ route_all self.old.routes answers.entry.cmd (drivers_named answers.entry.receivers) ty 0 results.new) }
+        ensures drivers { self.new.drivers ≡ self.old.drivers }
+        ensures err { OnErr result (self.new.ids ≡ self.old.ids) }
+        ensures err_routes { OnErr result (self.new.routes ≡ self.old.routes) }
+        ensures same { OnErr result (results.new ≡ results.old) }
+        ensures succeeds { HasRoom self.old (length results.old) (length (drivers_named answers.entry.receivers)) (bytes_of (key_asked key.entry)) → IsOk result }
+        ensures spare { self.old.spare ≤ self.new.spare + length results.old }
+        ensures values { self.old.values ≤ self.new.values + length results.old * length (drivers_named answers.entry.receivers) }
+        ensures bytes { self.old.bytes ≤ self.new.bytes + length results.old * bytes_of (key_asked key.entry) }
+    {
+        for place in 0..results.len() {
+            if results[place] != 0 {
+                results[place] = self.issue_one(key, ty, answers, place)?;
+            }
+        }
+        Ok(())
+    }
+
+    // The same, with room made for them first.
     fn issue_all(
         &mut self,
         key: Option<RetrievedKey<'_>>,
@@ -177,20 +285,26 @@ impl Terminator {
         ensures ids { OnOk result (record { results = results.new; ids = self.new.ids } ≡ issue_all self.old.ids (key_asked key.entry) ty 0 (values_from answers.entry.cmd (answers_in answers.entry) 0 (born_where results.old))) }
         ensures routes { OnOk result (self.new.routes ≡ route_all self.old.routes answers.entry.cmd (drivers_named answers.entry.receivers) ty 0 results.new) }
         ensures drivers { self.new.drivers ≡ self.old.drivers }
+        ensures err { OnErr result (self.new.ids ≡ self.old.ids) }
+        ensures err_routes { OnErr result (self.new.routes ≡ self.old.routes) }
+        ensures same { OnErr result (results.new ≡ results.old) }
+        ensures succeeds { HasRoom self.old (length results.old) (length (drivers_named answers.entry.receivers)) (bytes_of (key_asked key.entry)) → IsOk result }
+        ensures spare { self.old.spare ≤ self.new.spare + length results.old }
+        ensures values { self.old.values ≤ self.new.values + length results.old * length (drivers_named answers.entry.receivers) }
+        ensures bytes { self.old.bytes ≤ self.new.bytes + length results.old * bytes_of (key_asked key.entry) }
     {
-        for place in 0..results.len() {
-            if results[place] != 0 {
-                results[place] = self.issue_one(key, ty, answers, place)?;
-            }
+        // One result alone leaves all as before where there is no memory.
+        if results.len() > 1 {
+            self.reserve_for(results.len(), answers.receivers.count(), payload_len(key))?;
         }
-        Ok(())
+        self.issue_each(key, ty, answers, results)
     }
 
     /// Replies on their way up, by the call as it stood above, one for each of its drivers in order. A result that is flagged,
     /// by anything but 0, is born: it gets its id where the terminator issues ids for its type, else the first driver's handle;
     /// 0 stays. A created object gets a new id, one above the greatest, a retrieved one the kept id of its owner, type, place
-    /// and a queue's payload, else a new one; its values are those answered now. After `NoMemory` the terminator and the results
-    /// are for dropping.
+    /// and a queue's payload, else a new one; its values are those answered now. After `NoMemory`, which comes only where there was
+    /// no room, the terminator and the results are as before.
     #[tactic(auto, using(crate::proofs::Leaving::key_type_read, crate::proofs::Leaving::not_devices))]
     pub fn leave(
         &mut self,
@@ -202,6 +316,13 @@ impl Terminator {
         ensures ids { OnOk result (record { results = results.new; ids = self.new.ids } ≡ left_by self.old (call_content call.now) (map reply_shown replies.now) results.old) }
         ensures routes { OnOk result (self.new.routes ≡ routes_left self.old (call_content call.now) results.new) }
         ensures drivers { self.new.drivers ≡ self.old.drivers }
+        ensures err { OnErr result (self.new.ids ≡ self.old.ids) }
+        ensures err_routes { OnErr result (self.new.routes ≡ self.old.routes) }
+        ensures same { OnErr result (results.new ≡ results.old) }
+        ensures succeeds { HasRoomForResults self.old (call_content call.now) results.old → IsOk result }
+        ensures spare { self.old.spare ≤ self.new.spare + length results.old }
+        ensures values { self.old.values ≤ self.new.values + length results.old * length (drivers_for self.old (call_content call.now)) }
+        ensures bytes { self.old.bytes ≤ self.new.bytes + length results.old * bytes_with (call_content call.now) }
     {
         let answers = Answers {
             cmd: call.cmd,

@@ -550,6 +550,7 @@ fn no_driver() -> [Step; 2] {
 
 fn play_on(rt: &impl Abort, alloc: Global, drivers: u32, steps: &[Step]) -> Result<(), Fail> {
     let mut part = Terminator::new(alloc, drivers);
+    part.reserve(4, 16).ok().ok_or("memory")?;
     let mut out = Vec::new(alloc);
     play_all(rt, alloc, &mut part, &mut out, steps)
 }
@@ -558,4 +559,35 @@ fn play_on(rt: &impl Abort, alloc: Global, drivers: u32, steps: &[Step]) -> Resu
 fn there_may_be_any_number_of_drivers(rt: HostRuntime) -> Result<(), Fail> {
     play_on(&rt, rt.alloc(), 0, &no_driver())?;
     play_on(&rt, rt.alloc(), 3, &three_drivers())
+}
+
+// A copy goes on from what was issued as the original does.
+#[test]
+fn a_copy_tells_what_the_original_tells(rt: HostRuntime) -> Result<(), Fail> {
+    let alloc = rt.alloc();
+    let mut part = Terminator::new(alloc, 2);
+    let mut out = Vec::new(alloc);
+    play_all(&rt, alloc, &mut part, &mut out, &begin())?;
+    play_all(&rt, alloc, &mut part, &mut out, &devices())?;
+    play_one(&rt, alloc, &mut part, &mut out, &queue(&[&[4]], b"0 0"))?;
+    let mut copy = part.copy().ok().ok_or("memory")?;
+    let steps = [
+        queue(&[&[4]], b"0 0"),
+        to_one(
+            CommandId::QueueWaitIdle,
+            &[&[6]],
+            &[Told {
+                driver: 1,
+                asked: 0,
+                args: &[&[91]],
+            }],
+        ),
+        Step {
+            replies: &[&[92]],
+            above: &[7],
+            ..queue(&[&[4]], b"0 1")
+        },
+    ];
+    play_all(&rt, alloc, &mut copy, &mut out, &steps)?;
+    play_all(&rt, alloc, &mut part, &mut out, &steps)
 }
