@@ -55,13 +55,17 @@ pub record Read : Type 0 where
   pub handed : List Handed
   pub terminator : TerminatorState
 
+-- the end of the chain without its room, of which the definitions say nothing
+abbrev pub roomless : TerminatorState → TerminatorState
+roomless t = record { ids = t.ids; routes = t.routes; drivers = t.drivers; spare = 0; values = 0; bytes = 0 }
+
 -- what the program keeps of them
 abbrev pub read_of : Kept → Read
-read_of x = record { calls = x.calls; names = x.names; births = x.objects; states = x.states; handed = x.handed; terminator = x.terminator }
+read_of x = record { calls = x.calls; names = x.names; births = x.objects; states = x.states; handed = x.handed; terminator = roomless x.terminator }
 
 -- what the definitions keep of them
 abbrev pub read_in : Setup → SessionKept → Read
-read_in s k = record { calls = k.calls; names = k.names; births = k.births; states = k.chain.states; handed = k.chain.handed; terminator = record { ids = k.chain.terminator; routes = k.chain.routes; drivers = s.drivers } }
+read_in s k = record { calls = k.calls; names = k.names; births = k.births; states = k.chain.states; handed = k.chain.handed; terminator = record { ids = k.chain.terminator; routes = k.chain.routes; drivers = s.drivers; spare = 0; values = 0; bytes = 0 } }
 
 pub read_same : (s : Setup) (x : Kept) (k : SessionKept) → Shows s x k → read_of x ≡ read_in s k
 read_same s x k sh = λ i. record {
@@ -70,8 +74,11 @@ read_same s x k sh = λ i. record {
   births = sh.births i;
   states = sh.states i;
   handed = sh.handed i;
-  terminator = record { ids = sh.ids i; routes = sh.routes i; drivers = sh.drivers i };
+  terminator = record { ids = sh.ids i; routes = sh.routes i; drivers = sh.drivers i; spare = 0; values = 0; bytes = 0 };
 }
+
+sent_roomless : (t : TerminatorState) (judged sent : OpenCall) (log0 log1 : Log) → IsSentTo t judged sent log0 log1 → IsSentTo (roomless t) judged sent log0 log1
+sent_roomless t judged sent log0 log1 p = record { opened = p.opened; asked = p.asked; held = p.held; bottom = p.bottom; refusal = p.refusal; chain = p.chain }
 
 -- what the steps of a begin came to, by these values
 pub record Steps (v : Read) (e : BeginEvent) (number : ℕ) (refusal : Option Code) (judged : OpenCall) (verdict : Verdict) (after : List PartState) : Type 0 where
@@ -121,7 +128,7 @@ module _ (s : Setup) (k : SessionKept) (e : BeginEvent) (number : ℕ) (refusal 
   o = opened_first (k.calls + 1) k.names e refusal
 
   abbrev t : TerminatorState
-  t = record { ids = k.chain.terminator; routes = k.chain.routes; drivers = s.drivers }
+  t = record { ids = k.chain.terminator; routes = k.chain.routes; drivers = s.drivers; spare = 0; values = 0; bytes = 0 }
 
   abbrev failing : Bool
   failing = is_failing (loader_kept k e)
@@ -260,7 +267,7 @@ pub begins_so : (s : Setup) (x : Kept) (e : BeginEvent) (number : ℕ) (refusal 
 begins_so s x e number refusal judged sent verdict after new log0 log1 lines0 lines1 p k sh =
     let st : Steps (read_in s k) e number refusal judged verdict after =
     subst (λ v. Steps v e number refusal judged verdict after) (read_same s x k sh) (record { counted = p.counted; judges = p.judges }) in
-    let went : IsSentTo (read_in s k).terminator judged sent log0 log1 = subst (λ v. IsSentTo v.terminator judged sent log0 log1) (read_same s x k sh) p.sends in
+    let went : IsSentTo (read_in s k).terminator judged sent log0 log1 = subst (λ v. IsSentTo v.terminator judged sent log0 log1) (read_same s x k sh) (sent_roomless x.terminator judged sent log0 log1 p.sends) in
     let opened : opened_of sent ≡ (begun_kept s k e).opened = opened_is s k e number refusal judged verdict after p.refused st sent log0 log1 went in
     let found : reports_of verdict.findings.items ≡ (findings_kept s k e).reports = reports_is s k e number refusal judged verdict after p.refused st in
     let states : after ≡ (after_begin k.chain (loader_kept k e) (begun_kept s k e).opened).states = states_is s k e number refusal judged verdict after p.refused st in
