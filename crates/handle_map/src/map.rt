@@ -56,8 +56,24 @@ impl<const S: usize> HandleMap<S> {
         })
     }
 
-    /// Makes room for so many further entries with at most so many values each. After `NoMemory` the list is as before, and
-    /// no room is lost.
+    /// Makes room for so many further entries of any ids with at most so many values each: what finds one faster may still take memory.
+    /// After `NoMemory` the list is as before, and no room is lost.
+    pub fn make_room(&mut self, n: usize, values: usize) -> Result<(), NoMemory>
+        ensures entries { self.new.entries ≡ self.old.entries }
+        ensures ok { OnOk result (HasSpare self.new n values) }
+        ensures spare { self.old.spare ≤ self.new.spare }
+        ensures room { self.old.room ≤ self.new.room }
+        ensures succeeds { 1 ≤ self.old.spare → HasSpare self.old n values → IsOk result }
+    {
+        self.set.make_room(n)?;
+        let Some(most) = n.checked_mul(values) else {
+            return Err(NoMemory);
+        };
+        self.spans.reserve(n)?;
+        Ok(self.values.reserve(most)?)
+    }
+
+    /// The same for entries whose ids follow the greatest, after which so many take no memory at all.
     pub fn reserve(&mut self, n: usize, values: usize) -> Result<(), NoMemory>
         ensures entries { self.new.entries ≡ self.old.entries }
         ensures ok { OnOk result (HasSpare self.new n values) }
@@ -65,12 +81,8 @@ impl<const S: usize> HandleMap<S> {
         ensures room { self.old.room ≤ self.new.room }
         ensures succeeds { 1 ≤ self.old.spare → HasSpare self.old n values → IsOk result }
     {
-        self.set.reserve(n)?;
-        let Some(most) = n.checked_mul(values) else {
-            return Err(NoMemory);
-        };
-        self.spans.reserve(n)?;
-        Ok(self.values.reserve(most)?)
+        self.make_room(n, values)?;
+        self.set.reserve(n)
     }
 
     // Gives the entry at a place other values.

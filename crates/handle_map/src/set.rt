@@ -80,16 +80,26 @@ impl<const S: usize> HandleSet<S> {
         })
     }
 
-    /// Makes room for so many further pairs. After `NoMemory`, which comes too where these would be too many, the pairs are as before, and
-    /// no room is lost.
-    pub fn reserve(&mut self, n: usize) -> Result<(), NoMemory>
+    /// Makes room for so many further pairs of any ids: what finds one faster may still take memory. After `NoMemory`, which comes too
+    /// where these would be too many, the pairs are as before, and no room is lost.
+    pub fn make_room(&mut self, n: usize) -> Result<(), NoMemory>
         ensures pairs { self.new.pairs ≡ self.old.pairs }
         ensures ok { OnOk result (n ≤ self.new.spare) }
         ensures spare { self.old.spare ≤ self.new.spare }
         ensures succeeds { 1 ≤ self.old.spare → n ≤ self.old.spare → IsOk result }
     {
         make_chains::<S>(&mut self.firsts)?;
-        make_room(&mut self.entries, n)?;
+        make_room(&mut self.entries, n)
+    }
+
+    /// The same for pairs whose ids follow the greatest, after which so many take no memory at all.
+    pub fn reserve(&mut self, n: usize) -> Result<(), NoMemory>
+        ensures pairs { self.new.pairs ≡ self.old.pairs }
+        ensures ok { OnOk result (n ≤ self.new.spare) }
+        ensures spare { self.old.spare ≤ self.new.spare }
+        ensures succeeds { 1 ≤ self.old.spare → n ≤ self.old.spare → IsOk result }
+    {
+        self.make_room(n)?;
         self.hints
             .reserve(n, self.entries.len(), self.bounds.greatest);
         Ok(())

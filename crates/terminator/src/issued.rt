@@ -65,9 +65,9 @@ impl IssuedIds {
         self.kept.bytes_left()
     }
 
-    /// Makes room for so many further ids, with so many values and so many bytes of payloads in all. After `NoMemory` the ids are as
-    /// before, and no room is lost.
-    pub fn reserve(&mut self, ids: usize, values: usize, bytes: usize) -> Result<(), NoMemory>
+    /// Makes room for so many further ids of any owners, with so many values and so many bytes of payloads in all: what finds one faster may
+    /// still take memory. After `NoMemory` the ids are as before, and no room is lost.
+    pub fn make_room(&mut self, ids: usize, values: usize, bytes: usize) -> Result<(), NoMemory>
         ensures ids { self.new.ids ≡ self.old.ids }
         ensures routes { self.new.routes ≡ self.old.routes }
         ensures ok_spare { OnOk result (ids ≤ self.new.spare) }
@@ -79,6 +79,22 @@ impl IssuedIds {
         ensures succeeds { ids ≤ self.old.spare → values ≤ self.old.room → bytes ≤ self.old.bytes → IsOk result }
     {
         self.table.reserve(ids, values)?;
+        self.kept.make_room(ids, bytes)
+    }
+
+    /// The same for owners whose ids follow the greatest, after which so many take no memory at all.
+    pub fn reserve(&mut self, ids: usize, values: usize, bytes: usize) -> Result<(), NoMemory>
+        ensures ids { self.new.ids ≡ self.old.ids }
+        ensures routes { self.new.routes ≡ self.old.routes }
+        ensures ok_spare { OnOk result (ids ≤ self.new.spare) }
+        ensures ok_room { OnOk result (values ≤ self.new.room) }
+        ensures ok_bytes { OnOk result (bytes ≤ self.new.bytes) }
+        ensures spare { self.old.spare ≤ self.new.spare }
+        ensures room { self.old.room ≤ self.new.room }
+        ensures bytes { self.old.bytes ≤ self.new.bytes }
+        ensures succeeds { ids ≤ self.old.spare → values ≤ self.old.room → bytes ≤ self.old.bytes → IsOk result }
+    {
+        self.make_room(ids, values, bytes)?;
         self.kept.reserve(ids, bytes)
     }
 
@@ -128,7 +144,7 @@ impl IssuedIds {
         ensures err_routes { OnErr result (self.new.routes ≡ self.old.routes) }
     {
         if let Some(key) = key {
-            self.kept.reserve(1, key.payload.len())?;
+            self.kept.make_room(1, key.payload.len())?;
         }
         let id = self.table.add(ty, driver, values)?;
         if let Some(key) = key {

@@ -70,8 +70,9 @@ impl KeptIds {
         self.bytes.capacity() - self.bytes.len()
     }
 
-    /// Makes room for so many further ids with so many bytes of payloads. After `NoMemory` the ids are as before, and no room is lost.
-    pub fn reserve(&mut self, n: usize, bytes: usize) -> Result<(), NoMemory>
+    /// Makes room for so many further ids of any owners with so many bytes of payloads: what finds one faster may still take memory. After
+    /// `NoMemory` the ids are as before, and no room is lost.
+    pub fn make_room(&mut self, n: usize, bytes: usize) -> Result<(), NoMemory>
         ensures ids { self.new.ids ≡ self.old.ids }
         ensures ok_spare { OnOk result (n ≤ self.new.spare) }
         ensures ok_bytes { OnOk result (bytes ≤ self.new.bytes) }
@@ -85,6 +86,22 @@ impl KeptIds {
             return Ok(());
         }
         self.entries.reserve(n)?;
+        self.latest.make_room(n, 1)
+    }
+
+    /// The same for owners whose ids follow the greatest, after which so many take no memory at all.
+    pub fn reserve(&mut self, n: usize, bytes: usize) -> Result<(), NoMemory>
+        ensures ids { self.new.ids ≡ self.old.ids }
+        ensures ok_spare { OnOk result (n ≤ self.new.spare) }
+        ensures ok_bytes { OnOk result (bytes ≤ self.new.bytes) }
+        ensures spare { self.old.spare ≤ self.new.spare }
+        ensures bytes { self.old.bytes ≤ self.new.bytes }
+        ensures succeeds { n ≤ self.old.spare → bytes ≤ self.old.bytes → IsOk result }
+    {
+        self.make_room(n, bytes)?;
+        if n == 0 {
+            return Ok(());
+        }
         self.latest.reserve(n, 1)
     }
 

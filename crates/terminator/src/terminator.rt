@@ -86,7 +86,7 @@ impl Terminator {
         })
     }
 
-    // Makes room for so many further ids, with so many values and so many bytes of payloads in all.
+    // Makes room for so many further ids of any owners, with so many values and so many bytes of payloads in all.
     fn make_room(&mut self, births: usize, values: usize, bytes: usize) -> Result<(), NoMemory>
         ensures ids { self.new.ids ≡ self.old.ids }
         ensures routes { self.new.routes ≡ self.old.routes }
@@ -99,7 +99,7 @@ impl Terminator {
         ensures values { self.old.values ≤ self.new.values }
         ensures bytes { self.old.bytes ≤ self.new.bytes }
     {
-        self.issued.reserve(births, values, bytes)?;
+        self.issued.make_room(births, values, bytes)?;
         self.values.clear();
         self.values.reserve(values)?;
         Ok(())
@@ -125,7 +125,8 @@ impl Terminator {
         let Some(values) = births.checked_mul(self.drivers.max(1) as usize) else {
             return Err(NoMemory);
         };
-        self.make_room(births, values, bytes)
+        self.make_room(births, values, bytes)?;
+        self.issued.reserve(births, values, bytes)
     }
 
     // Makes room for so many results of a call to so many drivers, each kept with so many bytes of payload.

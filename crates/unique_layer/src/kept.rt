@@ -59,14 +59,26 @@ impl KeptIds {
         })
     }
 
-    /// Makes room for so many further ids. After `NoMemory` the ids are as before, and no room is lost.
-    pub fn reserve(&mut self, n: usize) -> Result<(), NoMemory>
+    /// Makes room for so many further ids of any owners: what finds one faster may still take memory. After `NoMemory` the ids are as
+    /// before, and no room is lost.
+    pub fn make_room(&mut self, n: usize) -> Result<(), NoMemory>
         ensures ids { self.new.ids ≡ self.old.ids }
         ensures ok { OnOk result (n ≤ self.new.spare) }
         ensures spare { self.old.spare ≤ self.new.spare }
         ensures succeeds { 1 ≤ n → n ≤ self.old.spare → IsOk result }
     {
         self.entries.reserve(n)?;
+        self.latest.make_room(n, 1)
+    }
+
+    /// The same for owners whose ids follow the greatest, after which so many take no memory at all.
+    pub fn reserve(&mut self, n: usize) -> Result<(), NoMemory>
+        ensures ids { self.new.ids ≡ self.old.ids }
+        ensures ok { OnOk result (n ≤ self.new.spare) }
+        ensures spare { self.old.spare ≤ self.new.spare }
+        ensures succeeds { 1 ≤ n → n ≤ self.old.spare → IsOk result }
+    {
+        self.make_room(n)?;
         self.latest.reserve(n, 1)
     }
 

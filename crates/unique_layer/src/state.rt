@@ -73,11 +73,22 @@ impl UniqueState {
         if births == 0 {
             return Ok(());
         }
+        self.make_room(births)?;
+        self.kept.reserve(births)
+    }
+
+    // The same, whatever the ids of their owners.
+    fn make_room(&mut self, births: usize) -> Result<(), NoMemory>
+        ensures ids { self.new.ids ≡ self.old.ids }
+        ensures ok { OnOk result (births ≤ self.new.spare) }
+        ensures spare { self.old.spare ≤ self.new.spare }
+        ensures succeeds { 1 ≤ births → births ≤ self.old.spare → IsOk result }
+    {
         if u64::MAX - self.greatest < births as u64 {
             return Err(NoMemory);
         }
         self.ids.reserve(births, 1)?;
-        self.kept.reserve(births)
+        self.kept.make_room(births)
     }
 
     // The handle below an id, and 0 below an unknown one.
@@ -171,7 +182,7 @@ impl UniqueState {
     {
         let id = self.greatest.checked_add(1).ok_or(NoMemory)?;
         if key.is_some() {
-            self.kept.reserve(1)?;
+            self.kept.make_room(1)?;
         }
         self.ids.insert(ty, id, &[value])?;
         self.greatest = id;
@@ -239,7 +250,7 @@ impl UniqueState {
         ensures spare { self.old.spare ≤ self.new.spare + length results.old }
     {
         if results.len() > 1 {
-            self.reserve(results.len())?;
+            self.make_room(results.len())?;
         }
         self.issue_all(key, ty, results)
     }
