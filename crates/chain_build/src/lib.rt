@@ -6,31 +6,17 @@
 mod answers;
 mod builder;
 mod by_name;
-#[cfg(test)]
-mod chain_tests;
 mod chains;
 mod copies;
-#[cfg(test)]
-mod expand_tests;
 mod expanded;
 mod expanding;
 mod expansions;
 mod listed;
 mod override_layer;
-#[cfg(test)]
-mod override_tests;
-#[cfg(test)]
-mod part_tests;
 mod parts;
 mod pieces;
 mod setup;
-#[cfg(test)]
-mod size_tests;
-#[cfg(test)]
-mod switch_tests;
 mod switches;
-#[cfg(test)]
-mod test_setups;
 
 pub use answers::{Chain, ChainAnswer, ChainError, ChainNote};
 pub use chains::build;

@@ -10,8 +10,6 @@ mod effects;
 mod lookup;
 mod memory;
 mod table;
-#[cfg(test)]
-mod tests;
 mod types;
 
 pub use args::HandleArgs;

@@ -92,7 +92,8 @@ impl Held {
         self.count = 0;
     }
 
-    pub(crate) fn command(&self) -> CommandId
+    /// The command of the call that is held.
+    pub fn command(&self) -> CommandId
         ensures { result ≡ self.now.cmd }
     {
         self.cmd

@@ -11,12 +11,6 @@ mod laws;
 mod part;
 mod states;
 mod table;
-#[cfg(test)]
-mod tests;
-#[cfg(test)]
-mod walk_machine;
-#[cfg(test)]
-mod walk_tests;
 mod walks;
 
 pub use entry::Entry;

@@ -7,8 +7,6 @@ mod entries;
 mod filters;
 mod glob;
 mod memory;
-#[cfg(test)]
-mod tests;
 mod variables;
 
 pub use entries::{split_layer_names, split_paths};

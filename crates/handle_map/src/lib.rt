@@ -10,8 +10,6 @@ mod hints;
 mod map;
 mod set;
 mod span;
-#[cfg(test)]
-mod tests;
 mod values;
 
 pub use map::HandleMap;

@@ -11,15 +11,11 @@ mod folder_list;
 mod found;
 mod gathered;
 mod kinds;
-#[cfg(test)]
-mod layer_tests;
 mod layers;
 mod path_list;
 mod paths;
 mod places;
 mod rows;
-#[cfg(test)]
-mod tests;
 
 pub use drivers::find_drivers;
 pub use errors::SearchError;

@@ -5,14 +5,8 @@
 
 mod checks;
 mod finding;
-#[cfg(test)]
-mod marks;
 mod rules;
 mod state;
-#[cfg(test)]
-mod stories;
-#[cfg(test)]
-mod tests;
 mod verdict;
 
 pub use finding::Finding;

@@ -11,10 +11,6 @@ mod files;
 mod keys;
 mod layer_manifest;
 mod rows;
-#[cfg(test)]
-mod size_tests;
-#[cfg(test)]
-mod tests;
 mod texts;
 mod values;
 

@@ -11,8 +11,6 @@ mod laws;
 mod model_driver;
 mod recording_driver;
 mod shape;
-#[cfg(test)]
-mod tests;
 
 pub use adverse_driver::AdverseDriver;
 pub use driver::{Driver, DriverCall, DriverReply, Policy};

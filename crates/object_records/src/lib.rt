@@ -16,8 +16,6 @@ mod reading;
 mod record;
 mod record_table;
 mod records;
-#[cfg(test)]
-mod tests;
 
 pub use reading::{argument_at, count_parameters, count_places, first_argument, object_of};
 pub use records::ObjectRecords;

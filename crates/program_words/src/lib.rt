@@ -6,8 +6,6 @@
 mod check;
 mod laws;
 mod read;
-#[cfg(test)]
-mod tests;
 
 pub use laws::a_number_is_its_spelling;
 pub use read::{ChainWords, GenWords, Request, RunWords, SoakWords, WordsError, read_words};

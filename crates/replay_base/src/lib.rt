@@ -13,15 +13,9 @@ mod memory_sink;
 mod memory_source;
 mod memory_tree;
 mod reader;
-#[cfg(test)]
-mod reader_tests;
 mod sink;
 mod source;
-#[cfg(test)]
-mod tests;
 mod tree;
-#[cfg(test)]
-mod tree_tests;
 
 pub use adapters::{ReadSource, WriteSink};
 pub use faults::{Failed, NoMemory};

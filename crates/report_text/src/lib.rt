@@ -4,14 +4,8 @@
 //! Leaves to others what the manifests and the chain are (`layer_search`, `chain_build`), and where the text goes.
 #![tactic(auto)]
 
-#[cfg(test)]
-mod chain_tests;
 mod chains;
 mod libraries;
-#[cfg(test)]
-mod line_tests;
-#[cfg(test)]
-mod note_tests;
 mod notes;
 mod put;
 mod reports;

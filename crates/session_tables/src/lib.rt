@@ -15,8 +15,6 @@ mod owners;
 mod placed_table;
 mod retrieved_map;
 mod retrieved_table;
-#[cfg(test)]
-mod tests;
 mod value_table;
 
 pub use birth_table::BirthTable;

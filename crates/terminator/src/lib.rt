@@ -16,8 +16,6 @@ mod receivers;
 mod table;
 mod telling;
 mod terminator;
-#[cfg(test)]
-mod tests;
 mod value;
 mod values;
 

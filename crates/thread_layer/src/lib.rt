@@ -5,15 +5,9 @@
 
 mod conflicts;
 mod gathering;
-#[cfg(test)]
-mod marks;
 mod object_use;
 mod open_call;
 mod state;
-#[cfg(test)]
-mod stories;
-#[cfg(test)]
-mod tests;
 mod uses;
 
 pub use state::UseState;

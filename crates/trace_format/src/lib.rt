@@ -11,8 +11,6 @@ mod parse;
 mod print;
 mod samples;
 mod state;
-#[cfg(test)]
-mod tests;
 mod thread;
 
 pub use event::{Event, Name, TraceArg};

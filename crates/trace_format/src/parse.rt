@@ -7,10 +7,6 @@ mod names;
 mod printable;
 mod results;
 mod room;
-#[cfg(test)]
-mod room_tests;
-#[cfg(test)]
-mod tests;
 mod words;
 
 pub use error::ParseError;

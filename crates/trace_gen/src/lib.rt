@@ -8,8 +8,6 @@ mod error;
 mod laws;
 mod rows;
 mod source;
-#[cfg(test)]
-mod tests;
 mod text;
 mod turns;
 mod writing;

@@ -9,8 +9,6 @@ mod kept;
 mod key;
 mod reading;
 mod state;
-#[cfg(test)]
-mod tests;
 mod value;
 mod wrapped;
 

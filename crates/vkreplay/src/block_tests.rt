@@ -1,8 +1,8 @@
 // Pieces that are gathered into blocks of eight bytes.
 ghost use Rattle.std.specs.Prelude.{[]};
 
-use crate::blocks::BlockSink;
 use replay_base::{MemSink, Sink, put_all};
+use replay_tool::BlockSink;
 use std::alloc::Global;
 use std::process::Abort;
 use std::test::Fail;

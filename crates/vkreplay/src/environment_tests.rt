@@ -1,6 +1,6 @@
 // Which variables an environment comes to.
-use crate::environment::variables_of;
 use env_filters::EnvList;
+use replay_tool::variables_of;
 use std::alloc::{AllocError, Global};
 use std::env::{Env, FillError};
 use std::process::Abort;

@@ -1,13 +1,13 @@
 // Runs over a source and a sink that move one byte a call and fail at one of their calls.
 ghost use Rattle.std.specs.Prelude.{None};
 
-use crate::blocks::BlockSink;
 use crate::chain_tests::{DRIVER, tree_of};
 use crate::tests::{TWICE, TWICE_TEXT, finished_of, sink, words_of};
 use env_filters::EnvList;
 use model_driver::{Driver, ModelDriver, RecordingDriver};
 use replay_base::{Failed, MemSink, MemSource, MemTree, Sink, Source};
 use replay_core::Status;
+use replay_tool::BlockSink;
 use std::alloc::{AllocError, Global};
 use std::process::Abort;
 use std::test::Fail;

@@ -1,57 +1,45 @@
 //! `vkreplay chain` shows which layers and drivers the manifests on this machine come to, and `vkreplay run` replays a recorded Vulkan
 //! trace from standard input through such a chain to model drivers. `vkreplay gen` writes a generated trace, and `vkreplay soak` replays it.
-//! Its public call `replay_main` has the promises; `main` hands it the process's words, variables and streams.
-//! What a trace means, how it is replayed and how a chain is built is left to the crates below.
+//! `main` hands the process's words, variables and streams to `replay_tool`, whose call `replay_main` has the promises. The tests are
+//! of whole runs through that call.
 #![tactic(auto)]
 
 ghost use Rattle.std.specs.Prelude.{◌≡◌, []};
 
 #[cfg(test)]
 mod block_tests;
-mod blocks;
 #[cfg(test)]
 mod case_tests;
-mod chain;
 #[cfg(test)]
 mod chain_tests;
 #[cfg(test)]
 mod cut_tests;
-mod environment;
 #[cfg(test)]
 mod environment_tests;
 #[cfg(test)]
 mod fault_tests;
-mod finish;
 #[cfg(test)]
 mod fuzz_tests;
-mod laws;
-mod process;
 #[cfg(test)]
 mod refusal_tests;
 #[cfg(test)]
 mod row_table;
 #[cfg(test)]
 mod row_tests;
-mod run;
-mod say;
 #[cfg(test)]
 mod size_tests;
-mod soak;
 #[cfg(test)]
 mod soak_tests;
 #[cfg(test)]
 mod tests;
-mod top;
 
-use blocks::BlockSink;
 use dispatch_chain::Kit;
-use environment::variables_of;
 use lifetime_layer::LifeState;
 use model_driver::ModelDriver;
-use process::{Invocation, exit_status};
 use program_words::WordsError;
 use replay_base::{FsTree, ReadSource, WriteSink};
 use replay_core::Session;
+use replay_tool::{BlockSink, Invocation, exit_status, variables_of};
 use std::alloc::Global;
 use std::env;
 use std::io::ErrorKind;

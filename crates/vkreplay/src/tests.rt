@@ -1,7 +1,5 @@
 // Whole runs over memory: what each prints, says and asks the driver.
 use crate::chain_tests::{DRIVER, Pairs, VALIDATION, tree_of, variables};
-use crate::finish::Finished;
-use crate::top::replay_main;
 use command_tables::CommandId;
 use dispatch_chain::Kit;
 use env_filters::EnvList;
@@ -9,6 +7,7 @@ use lifetime_layer::LifeState;
 use model_driver::{AdverseDriver, Driver, DriverCall, DriverReply, ModelDriver, RecordingDriver};
 use replay_base::{MemSink, MemSource, MemTree, NoMemory, Sink, Source, Tree};
 use replay_core::{Session, Status};
+use replay_tool::{Finished, replay_main};
 use std::alloc::{AllocError, Global};
 use std::process::Abort;
 use std::test::Fail;

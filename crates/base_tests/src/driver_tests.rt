@@ -1,0 +1,292 @@
+//! What the drivers answer, call by call.
+use command_tables::{Code, CommandId, HandleArgs, LayerCall, NoMemory};
+use model_driver::{
+    AdverseDriver, Driver, DriverCall, DriverReply, ModelDriver, Policy, RecordingDriver,
+};
+use std::alloc::{AllocError, Global};
+use std::process::Abort;
+use std::test::Fail;
+
+// A call of a driver, and the handles that it must be answered.
+#[derive(Clone, Copy)]
+struct Step {
+    driver: u32,
+    cmd: CommandId,
+    args: &'static [&'static [u64]],
+    asked: u32,
+    code: Option<Code>,
+    gives: &'static [u64],
+}
+
+const fn create(driver: u32, gives: &'static [u64]) -> Step {
+    Step {
+        driver,
+        cmd: CommandId::CreateBuffer,
+        args: &[&[9]],
+        asked: 1,
+        code: Some(Code::Success),
+        gives,
+    }
+}
+
+const fn destroy(driver: u32, args: &'static [&'static [u64]]) -> Step {
+    Step {
+        driver,
+        cmd: CommandId::DestroyBuffer,
+        args,
+        asked: 0,
+        code: None,
+        gives: &[],
+    }
+}
+
+// One parameter more.
+fn add(args: &mut HandleArgs<6>, handles: &[u64]) -> Result<(), Fail> {
+    if args.len() >= 6 {
+        return Err(Fail::from("too many parameters"));
+    }
+    args.push_param(handles)?;
+    Ok(())
+}
+
+fn call_of(alloc: Global, step: &Step) -> Result<DriverCall, Fail> {
+    let mut args = HandleArgs::new(alloc);
+    for handles in step.args {
+        add(&mut args, handles)?;
+    }
+    Ok(DriverCall {
+        driver: step.driver,
+        body: LayerCall {
+            cmd: step.cmd,
+            args,
+            asked: step.asked,
+            code: step.code,
+            payload: Vec::new(alloc),
+        },
+    })
+}
+
+fn is_that_answer(reply: &DriverReply, step: &Step) -> bool {
+    reply.code == step.code && reply.handles.as_slice() == step.gives
+}
+
+fn is_that_call(call: &DriverCall, step: &Step) -> bool {
+    call.driver == step.driver
+        && call.body.cmd == step.cmd
+        && call.body.asked == step.asked
+        && call.body.args.len() == step.args.len()
+}
+
+fn tell<D: Driver>(driver: &mut D, call: &DriverCall, reply: &mut DriverReply) -> Result<(), Fail> {
+    if !call.has_shape() {
+        return Err(Fail::from("no such call"));
+    }
+    driver.call(call, reply)?;
+    Ok(())
+}
+
+fn tell_step<D: Driver>(
+    alloc: Global,
+    driver: &mut D,
+    step: &Step,
+    reply: &mut DriverReply,
+) -> Result<(), Fail> {
+    let call = call_of(alloc, step)?;
+    tell(driver, &call, reply)
+}
+
+fn play<D: Driver>(
+    rt: &impl Abort,
+    alloc: Global,
+    driver: &mut D,
+    steps: &[Step],
+) -> Result<(), Fail> {
+    let mut reply = reply_with(alloc, 8)?;
+    for step in steps {
+        tell_step(alloc, driver, step, &mut reply)?;
+        assert!(rt; is_that_answer(&reply, step), "{:?}", reply.handles);
+    }
+    Ok(())
+}
+
+#[test]
+fn a_value_that_came_back_is_given_again(rt: HostRuntime) -> Result<(), Fail> {
+    let alloc = rt.alloc();
+    let allocate = Step {
+        cmd: CommandId::AllocateCommandBuffers,
+        args: &[&[9], &[5]],
+        asked: 3,
+        gives: &[3, 4, 5],
+        ..create(0, &[])
+    };
+    let free = Step {
+        cmd: CommandId::FreeCommandBuffers,
+        args: &[&[9], &[5], &[0, 4, 77, 3, 4, 0]],
+        ..destroy(0, &[])
+    };
+    let fails = Step {
+        code: Some(Code::ErrorOutOfDeviceMemory),
+        ..create(0, &[])
+    };
+    let steps = [
+        create(0, &[1]),
+        create(0, &[2]),
+        destroy(0, &[&[9], &[1]]),
+        create(0, &[1]),
+        create(1, &[1]),
+        allocate,
+        free,
+        destroy(1, &[&[9], &[2]]),
+        fails,
+        Step {
+            gives: &[3, 4, 6],
+            ..allocate
+        },
+        destroy(0, &[&[9], &[8]]),
+        destroy(0, &[&[9], &[0]]),
+        create(1, &[2]),
+        create(0, &[7]),
+    ];
+    let mut driver = ModelDriver::new(alloc);
+    driver.prepare(Policy::Reuse);
+    play(&rt, alloc, &mut driver, &steps)
+}
+
+// What was given by one policy is out under the next.
+#[test]
+fn values_by_each_policy(rt: HostRuntime) -> Result<(), Fail> {
+    let alloc = rt.alloc();
+    let mut driver = ModelDriver::new(alloc);
+    let fresh = [
+        create(0, &[1]),
+        create(1, &[1]),
+        destroy(0, &[&[9], &[1]]),
+        create(0, &[2]),
+        create(1, &[2]),
+    ];
+    play(&rt, alloc, &mut driver, &fresh)?;
+    driver.prepare(Policy::Share);
+    let share = [
+        create(2, &[1]),
+        create(2, &[1]),
+        destroy(2, &[&[9], &[1]]),
+        create(2, &[1]),
+        create(1, &[1]),
+    ];
+    play(&rt, alloc, &mut driver, &share)?;
+    driver.prepare(Policy::Reuse);
+    let reuse = [
+        create(0, &[1]),
+        create(0, &[3]),
+        create(1, &[3]),
+        create(2, &[2]),
+    ];
+    play(&rt, alloc, &mut driver, &reuse)?;
+    driver.prepare(Policy::Fresh);
+    play(&rt, alloc, &mut driver, &[create(0, &[4]), create(2, &[3])])
+}
+
+// Makes of an empty call the one for the most handles that a call can ask for.
+fn ask_for_most(call: &mut DriverCall) -> Result<(), Fail> {
+    call.body.cmd = CommandId::AllocateCommandBuffers;
+    call.body.asked = 1024;
+    add(&mut call.body.args, &[9])?;
+    add(&mut call.body.args, &[5])
+}
+
+// Makes of it the one that frees these.
+fn free(call: &mut DriverCall, freed: &[u64]) -> Result<(), Fail> {
+    call.body.cmd = CommandId::FreeCommandBuffers;
+    call.body.asked = 0;
+    add(&mut call.body.args, freed)
+}
+
+fn has_most(reply: &DriverReply) -> bool {
+    reply.handles.len() == 1024
+        && reply.handles.first() == Some(&1)
+        && reply.handles.last() == Some(&1024)
+}
+
+fn each_second(alloc: Global, handles: &[u64]) -> Result<Vec<u64>, AllocError> {
+    handles
+        .iter()
+        .copied()
+        .filter(|v| v % 2 == 0)
+        .collect(alloc)
+}
+
+fn are_given(
+    rt: &impl Abort,
+    alloc: Global,
+    driver: &mut ModelDriver,
+    values: &[u64],
+) -> Result<(), Fail> {
+    for value in values {
+        play_one(rt, alloc, driver, *value)?;
+    }
+    Ok(())
+}
+
+// Of the most handles that one call can ask for, each second one is freed and given again.
+#[test]
+fn many_values(rt: HostRuntime) -> Result<(), Fail> {
+    let alloc = rt.alloc();
+    let mut driver = ModelDriver::new(alloc);
+    driver.prepare(Policy::Reuse);
+    let mut call = call_with(alloc, 1026)?;
+    ask_for_most(&mut call)?;
+    let mut reply = reply_with(alloc, 1024)?;
+    tell(&mut driver, &call, &mut reply)?;
+    assert!(rt; has_most(&reply));
+    let freed = each_second(alloc, &reply.handles)?;
+    free(&mut call, &freed)?;
+    tell(&mut driver, &call, &mut reply)?;
+    are_given(&rt, alloc, &mut driver, &freed)?;
+    play_one(&rt, alloc, &mut driver, 1025)
+}
+
+fn call_with(alloc: Global, handles: usize) -> Result<DriverCall, NoMemory> {
+    DriverCall::with_room(alloc, handles, 0)
+}
+
+fn reply_with(alloc: Global, handles: usize) -> Result<DriverReply, NoMemory> {
+    DriverReply::with_room(alloc, handles)
+}
+
+fn play_one<D: Driver>(
+    rt: &impl Abort,
+    alloc: Global,
+    driver: &mut D,
+    value: u64,
+) -> Result<(), Fail> {
+    let mut reply = reply_with(alloc, 0)?;
+    tell_step(alloc, driver, &create(0, &[]), &mut reply)?;
+    assert_eq!(rt; reply.handles.as_slice(), [value].as_slice());
+    Ok(())
+}
+
+#[test]
+fn what_is_recorded(rt: HostRuntime) -> Result<(), Fail> {
+    let alloc = rt.alloc();
+    let adverse = AdverseDriver::new(vec![in alloc; 7, 7, u64::MAX]?);
+    let mut driver = RecordingDriver::new(alloc, adverse);
+    driver.prepare(Policy::Share);
+    let steps = [
+        create(3, &[7]),
+        destroy(1, &[&[9], &[7]]),
+        create(0, &[7]),
+        create(0, &[u64::MAX]),
+        create(0, &[1]),
+    ];
+    play(&rt, alloc, &mut driver, &steps)?;
+    are_recorded(&rt, driver.log(), &steps);
+    Ok(())
+}
+
+fn are_recorded(rt: &impl Abort, log: &[(DriverCall, DriverReply)], steps: &[Step]) {
+    assert_eq!(rt; log.len(), steps.len());
+    for ((call, reply), step) in log.iter().zip(steps) {
+        assert!(rt; is_that_call(call, step));
+        assert!(rt; is_that_answer(reply, step));
+    }
+}

@@ -1,0 +1,258 @@
+// What no clause says: that calls succeed with ample memory, and what the file system answers. The expected answers are
+// written by hand.
+use replay_base::{FsTree, MemTree, NoMemory, Tree, TreeError, TreeRead};
+use std::alloc::{Allocator, Global};
+use std::fs::{self, Metadata, OpenOptions};
+use std::io::{self, ErrorKind, Read};
+use std::rt::Files;
+use std::test::Fail;
+use std::{env, process};
+
+// The names in a folder, sorted, each with a space behind it. What was in the list before is gone.
+fn listed<T: Tree>(alloc: Global, tree: &mut T, folder: &str) -> Result<String, TreeError> {
+    let mut names = Vec::new(alloc);
+    names.push(String::from_str(alloc, "old")?)?;
+    tree.list(folder, &mut names)?;
+    names.sort()?;
+    let mut text = String::new(alloc);
+    for name in &names {
+        text.push_str(name)?;
+        text.push(' ')?;
+    }
+    Ok(text)
+}
+
+// What a read answers, and how many bytes it gives: those that were there before are gone.
+fn taken<T: Tree>(
+    alloc: Global,
+    tree: &mut T,
+    path: &str,
+    max: usize,
+) -> Result<(TreeRead, usize), TreeError> {
+    let mut bytes = Vec::from_slice(alloc, b"old")?;
+    let answer = tree.read(path, max, &mut bytes)?;
+    Ok((answer, bytes.len()))
+}
+
+fn planted(alloc: Global) -> Result<MemTree, NoMemory> {
+    let mut tree = MemTree::new(alloc);
+    tree.put("/d/b.json", b"bb")?;
+    tree.put("/d/a.json", b"a")?;
+    tree.put("/d/sub/c.json", b"c")?;
+    tree.put("/d/", b"no name")?;
+    tree.put("/dd/e.json", b"e")?;
+    tree.put("/d/b.json", b"bbb")?;
+    Ok(tree)
+}
+
+#[test]
+fn a_tree_in_memory_lists_and_reads(rt: HostRuntime) -> Result<(), Fail> {
+    let alloc = rt.alloc();
+    let mut tree = planted(alloc).ok().ok_or("memory")?;
+    for (folder, names) in [
+        ("/d", "a.json b.json "),
+        ("/d/sub", "c.json "),
+        ("/d/", ""),
+        ("", ""),
+        ("/none", ""),
+    ] {
+        let found = listed(alloc, &mut tree, folder)?;
+        assert_eq!(rt; found.as_str(), names, "in {folder}");
+    }
+    let mut bytes = Vec::new(alloc);
+    assert_eq!(rt; tree.read("/d/b.json", 3, &mut bytes), Ok(TreeRead::Data));
+    assert_eq!(rt; bytes.as_slice(), b"bbb".as_slice());
+    assert_eq!(rt;
+        taken(alloc, &mut tree, "/d/b.json", 2),
+        Ok((TreeRead::TooLarge, 0))
+    );
+    assert_eq!(rt;
+        taken(alloc, &mut tree, "/d/c.json", 9),
+        Ok((TreeRead::Absent, 0))
+    );
+    Ok(())
+}
+
+#[test]
+fn calls_with_a_listed_number_fail(rt: HostRuntime) -> Result<(), Fail> {
+    let alloc = rt.alloc();
+    let mut tree = planted(alloc).ok().ok_or("memory")?;
+    assert_eq!(rt; tree.fail_at(2), Ok(()));
+    assert_eq!(rt; tree.fail_at(4), Ok(()));
+    assert_eq!(rt; listed(alloc, &mut tree, "/dd").is_ok(), true);
+    assert_eq!(rt;
+        taken(alloc, &mut tree, "/dd/e.json", 1),
+        Err(TreeError::Failed)
+    );
+    assert_eq!(rt;
+        taken(alloc, &mut tree, "/dd/e.json", 1),
+        Ok((TreeRead::Data, 1))
+    );
+    assert_eq!(rt;
+        listed(alloc, &mut tree, "/dd").err(),
+        Some(TreeError::Failed)
+    );
+    Ok(())
+}
+
+// Makes `a.json` of five bytes, `b.txt` of none, and a folder named `x.json`.
+fn plant(rt: &HostRuntime, folder: &str) -> io::Result<()> {
+    let alloc = rt.alloc();
+    fs::create_dir(rt, folder)?;
+    fs::write(rt, format!(in alloc; "{folder}/a.json")?, "12345")?;
+    fs::write(rt, format!(in alloc; "{folder}/b.txt")?, "")?;
+    fs::create_dir(rt, format!(in alloc; "{folder}/x.json")?)
+}
+
+#[test]
+fn the_file_system_is_a_tree(rt: HostRuntime) -> Result<(), Fail> {
+    let alloc = rt.alloc();
+    let temp = env::temp_dir(&rt)?;
+    let id = process::id(rt.process());
+    let folder = format!(in alloc; "{}/vkreplay_tree_{id}", temp.as_path().as_str())?;
+    plant(&rt, folder.as_str())?;
+    let mut tree = FsTree::new(&rt);
+    let names = listed(alloc, &mut tree, folder.as_str())?;
+    assert_eq!(rt; names.as_str(), "a.json b.txt x.json ");
+    for (name, max, wanted) in [
+        ("a.json", 5, Ok((TreeRead::Data, 5))),
+        ("a.json", 4, Ok((TreeRead::TooLarge, 0))),
+        ("b.txt", 0, Ok((TreeRead::Data, 0))),
+        ("none.json", 9, Ok((TreeRead::Absent, 0))),
+        ("none/a.json", 9, Ok((TreeRead::Absent, 0))),
+        ("a.json/a.json", 9, Ok((TreeRead::Absent, 0))),
+        ("x.json", 9, Err(TreeError::Failed)),
+    ] {
+        let path = format!(in alloc; "{folder}/{name}")?;
+        assert_eq!(rt;
+            taken(alloc, &mut tree, path.as_str(), max),
+            wanted,
+            "at {name}"
+        );
+    }
+    for name in ["none", "a.json", "a.json/b", "x.json"] {
+        let path = format!(in alloc; "{folder}/{name}")?;
+        let names = listed(alloc, &mut tree, path.as_str())?;
+        assert_eq!(rt; names.as_str(), "", "in {name}");
+    }
+    fs::remove_dir_all(&rt, folder.as_str())?;
+    Ok(())
+}
+
+// Names as a folder's reader gives them, each ended by NUL. The second is no text.
+static NAMES: [u8; 21] = *b"a.json\0\xff.json\0b.json\0";
+
+// Gives these names, and then the end, or an error.
+#[derive(Drop)]
+struct Names {
+    at: usize,
+    fails: bool,
+}
+
+impl Read for Names {
+    fn read(&mut self, buf: &mut [u8]) -> io::Result<usize> {
+        let left = NAMES.get(self.at..).unwrap_or(&[]);
+        if left.is_empty() && self.fails {
+            return Err(io::Error::from(ErrorKind::Other));
+        }
+        let count = left.len().min(buf.len());
+        buf[..count].copy_from_slice(&left[..count]);
+        self.at = NAMES.len() - left.len() + count;
+        Ok(count)
+    }
+}
+
+// A runtime whose folders have these names, but for `denied`, and of whose files none may be opened.
+#[derive(Clone, Drop)]
+struct Guarded {
+    rt: HostRuntime,
+    fails: bool,
+}
+
+fn refused<T>() -> io::Result<T> {
+    Err(io::Error::from(ErrorKind::PermissionDenied))
+}
+
+impl Alloc for Guarded {
+    type A = Global;
+
+    fn alloc(&self) -> Global {
+        self.rt.alloc()
+    }
+}
+
+impl Files for Guarded {
+    type File = fs::File;
+
+    type Dir = Names;
+
+    fn open_file(&self, _how: &OpenOptions, _path: &str) -> io::Result<fs::File> {
+        refused()
+    }
+
+    fn open_dir(&self, path: &str) -> io::Result<Names> {
+        if path == "denied/" {
+            return refused();
+        }
+        Ok(Names {
+            at: 0,
+            fails: self.fails,
+        })
+    }
+
+    fn metadata(&self, _path: &str) -> io::Result<Metadata> {
+        refused()
+    }
+
+    fn symlink_metadata(&self, _path: &str) -> io::Result<Metadata> {
+        refused()
+    }
+
+    fn copy(&self, _from: &str, _to: &str) -> io::Result<u64> {
+        refused()
+    }
+
+    fn rename(&self, _from: &str, _to: &str) -> io::Result<()> {
+        refused()
+    }
+
+    fn remove_file(&self, _path: &str) -> io::Result<()> {
+        refused()
+    }
+
+    fn create_dir(&self, _path: &str) -> io::Result<()> {
+        refused()
+    }
+
+    fn remove_dir(&self, _path: &str) -> io::Result<()> {
+        refused()
+    }
+
+    fn remove_dir_all<B: Allocator>(&self, _alloc: B, _path: &str) -> io::Result<()> {
+        refused()
+    }
+}
+
+#[test]
+fn a_name_that_is_no_text_is_left_out(rt: HostRuntime) -> Result<(), Fail> {
+    let alloc = rt.alloc();
+    let guarded = Guarded { rt, fails: false };
+    let mut tree = FsTree::new(&guarded);
+    let names = listed(alloc, &mut tree, "d")?;
+    assert_eq!(rt; names.as_str(), "a.json b.json ");
+    assert_eq!(rt;
+        listed(alloc, &mut tree, "denied").err(),
+        Some(TreeError::Failed)
+    );
+    assert_eq!(rt;
+        taken(alloc, &mut tree, "d/a.json", 9),
+        Err(TreeError::Failed)
+    );
+    let guarded = Guarded { rt, fails: true };
+    let mut tree = FsTree::new(&guarded);
+    assert_eq!(rt;
+        listed(alloc, &mut tree, "d").err(),
+        Some(TreeError::Failed)
+    );
+    Ok(())
+}

@@ -1,0 +1,187 @@
+//! Each mark of the command table that the rules parameter and parent read, in one table: with a call at which it fails and one at
+//! which it doesn't.
+use crate::lifetime_tests::{finding, is_found, make, with_devices};
+use command_tables::{CommandId, Rule};
+use lifetime_layer::{Finding, LifeState};
+use std::alloc::Global;
+use std::process::Abort;
+use std::test::Fail;
+
+// A call that comes back with one result; 0 for none.
+#[derive(Clone, Copy)]
+struct Made(CommandId, &'static [&'static [u64]], u64);
+
+// A call, and what is found at it.
+#[derive(Clone, Copy)]
+struct Judged(
+    CommandId,
+    &'static [&'static [u64]],
+    &'static [(u8, u32, Rule)],
+);
+
+// What the devices 3 and 4 have. Of each pool of the first device there are two.
+const WORLD: &[Made] = &[
+    Made(CommandId::CreateBuffer, &[&[3]], 10),
+    Made(CommandId::CreateBuffer, &[&[4]], 20),
+    Made(CommandId::CreateFence, &[&[3]], 11),
+    Made(CommandId::CreateFence, &[&[4]], 21),
+    Made(CommandId::CreateFence, &[&[3]], 31),
+    Made(CommandId::DestroyFence, &[&[3], &[31]], 0),
+    Made(CommandId::CreateCommandPool, &[&[3]], 12),
+    Made(CommandId::CreateCommandPool, &[&[4]], 22),
+    Made(CommandId::CreateCommandPool, &[&[3]], 32),
+    Made(CommandId::AllocateCommandBuffers, &[&[3], &[12]], 13),
+    Made(CommandId::AllocateCommandBuffers, &[&[4], &[22]], 23),
+    Made(CommandId::AllocateCommandBuffers, &[&[3], &[32]], 33),
+    Made(CommandId::CreateImage, &[&[3]], 14),
+    Made(CommandId::AllocateMemory, &[&[3]], 15),
+    Made(CommandId::GetDeviceQueue, &[&[3]], 16),
+    Made(CommandId::CreateDescriptorPool, &[&[3]], 17),
+    Made(CommandId::CreateDescriptorPool, &[&[3]], 37),
+    Made(CommandId::AllocateDescriptorSets, &[&[3], &[17], &[]], 18),
+    Made(CommandId::AllocateDescriptorSets, &[&[3], &[37], &[]], 38),
+    Made(CommandId::CreateXcbSurfaceKHR, &[&[1]], 5),
+    Made(CommandId::CreateSwapchainKHR, &[&[3], &[5], &[0]], 6),
+    Made(CommandId::GetSwapchainImagesKHR, &[&[3], &[6]], 7),
+];
+
+// Null is allowed at some parameters, in each place of a list, and there only null is.
+const OR_NULL: &[Judged] = &[
+    Judged(
+        CommandId::ResetEvent,
+        &[&[3], &[0]],
+        &[(1, 0, Rule::Parameter)],
+    ),
+    Judged(CommandId::DestroyBuffer, &[&[3], &[0]], &[]),
+    Judged(
+        CommandId::QueueSubmit,
+        &[&[16], &[0], &[], &[], &[0]],
+        &[(1, 0, Rule::Parameter)],
+    ),
+    Judged(CommandId::QueueSubmit, &[&[16], &[], &[], &[], &[0]], &[]),
+    Judged(CommandId::CmdBindVertexBuffers, &[&[13], &[0, 10, 0]], &[]),
+    Judged(
+        CommandId::QueueSubmit,
+        &[&[16], &[], &[], &[], &[31]],
+        &[(4, 0, Rule::Parameter)],
+    ),
+    Judged(
+        CommandId::GetPhysicalDeviceSurfaceSupportKHR,
+        &[&[2], &[0]],
+        &[(1, 0, Rule::Parameter)],
+    ),
+    Judged(
+        CommandId::GetPhysicalDeviceSurfaceFormatsKHR,
+        &[&[2], &[0]],
+        &[],
+    ),
+];
+
+// An object has the device of the first argument: that is one itself, or has one among its owners.
+const SAME_DEVICE: &[Judged] = &[
+    Judged(
+        CommandId::DestroyBuffer,
+        &[&[4], &[10]],
+        &[(1, 0, Rule::Parent)],
+    ),
+    Judged(CommandId::GetBufferMemoryRequirements, &[&[3], &[10]], &[]),
+    Judged(
+        CommandId::CmdBindIndexBuffer,
+        &[&[23], &[10]],
+        &[(1, 0, Rule::Parent)],
+    ),
+    Judged(CommandId::CmdBindIndexBuffer, &[&[13], &[10]], &[]),
+    Judged(
+        CommandId::CmdBindVertexBuffers,
+        &[&[13], &[10, 20, 0, 20]],
+        &[(1, 1, Rule::Parent), (1, 3, Rule::Parent)],
+    ),
+    Judged(
+        CommandId::QueueSubmit,
+        &[&[16], &[], &[13, 23], &[], &[21]],
+        &[(2, 1, Rule::Parent), (4, 0, Rule::Parent)],
+    ),
+    Judged(
+        CommandId::QueueSubmit,
+        &[&[16], &[], &[13, 33], &[], &[11]],
+        &[],
+    ),
+    Judged(CommandId::CreateImageView, &[&[3], &[7]], &[]),
+    Judged(CommandId::CreateSwapchainKHR, &[&[4], &[5], &[6]], &[]),
+];
+
+// An object is owned by the object of another parameter, and not by what that owns.
+const OWNED_BY: &[Judged] = &[
+    Judged(
+        CommandId::FreeCommandBuffers,
+        &[&[3], &[12], &[13, 33]],
+        &[(2, 1, Rule::Parent)],
+    ),
+    Judged(
+        CommandId::FreeDescriptorSets,
+        &[&[3], &[37], &[18]],
+        &[(2, 0, Rule::Parent)],
+    ),
+    Judged(
+        CommandId::DestroyImage,
+        &[&[3], &[7]],
+        &[(1, 0, Rule::Parent)],
+    ),
+    Judged(
+        CommandId::BindImageMemory,
+        &[&[3], &[7], &[15]],
+        &[(1, 0, Rule::Parent)],
+    ),
+    Judged(CommandId::BindImageMemory, &[&[3], &[14], &[15]], &[]),
+    Judged(CommandId::FreeCommandBuffers, &[&[3], &[12], &[0, 13]], &[]),
+    Judged(CommandId::FreeDescriptorSets, &[&[3], &[37], &[38]], &[]),
+    Judged(CommandId::DestroyImage, &[&[3], &[14]], &[]),
+];
+
+fn make_all(alloc: Global, state: &mut LifeState, calls: &[Made]) -> Result<(), Fail> {
+    for call in calls {
+        if call.1.len() > 6 {
+            return Err("too many parameters".into());
+        }
+        make(alloc, state, call.0, call.1, call.2)?;
+    }
+    Ok(())
+}
+
+fn findings_of(alloc: Global, given: &[(u8, u32, Rule)]) -> Result<Vec<Finding>, Fail> {
+    let mut findings = Vec::new(alloc);
+    for (param, index, rule) in given {
+        findings.push(finding(*param, *index, *rule, 0))?;
+    }
+    Ok(findings)
+}
+
+fn judge(alloc: Global, state: &mut LifeState, call: &Judged) -> Result<bool, Fail> {
+    if call.1.len() > 6 {
+        return Err("too many parameters".into());
+    }
+    let findings = findings_of(alloc, call.2)?;
+    is_found(alloc, state, call.0, call.1, &findings)
+}
+
+fn judge_all(
+    rt: &impl Abort,
+    alloc: Global,
+    state: &mut LifeState,
+    calls: &[Judged],
+) -> Result<(), Fail> {
+    for i in 0..calls.len() {
+        assert!(rt; judge(alloc, state, &calls[i])?, "at {i}");
+    }
+    Ok(())
+}
+
+#[test]
+fn each_mark_of_a_parameter(rt: HostRuntime) -> Result<(), Fail> {
+    let alloc = rt.alloc();
+    let mut state = with_devices(alloc)?;
+    make_all(alloc, &mut state, WORLD)?;
+    judge_all(&rt, alloc, &mut state, OR_NULL)?;
+    judge_all(&rt, alloc, &mut state, SAME_DEVICE)?;
+    judge_all(&rt, alloc, &mut state, OWNED_BY)
+}

@@ -1,0 +1,87 @@
+// What is said on the error sink, whose failure changes nothing else.
+ghost use Rattle.std.specs.Prelude.{◌≡◌, ◌++◌, OnOk, OnErr};
+ghost use Rattle.replay_base.specs.Bytes.{grown, GrownByFront};
+ghost use Rattle.replay_base.specs.Changes.{Change, changed};
+ghost use Rattle.replay_base.specs.Faults.{HasCause};
+ghost use Rattle.replay_tool.specs.Said.{Said, fault_line, kind_text, limit_line, number_text};
+
+use itoa::Buffer;
+use replay_base::{Failed, Sink, Which, put_all};
+use trace_format::TraceFault;
+
+/// One line.
+pub fn say<L: Sink>(errs: &mut L, line: &[u8])
+    ensures { Said line.now (changed (L.held errs.old) (L.held errs.new) (L.faults errs.old) (L.faults errs.new)) }
+{
+    let _ = put_all(errs, line);
+}
+
+// One text behind another.
+#[tactic(auto, using(crate::proofs::SaidLemmas::all_of_both, crate::proofs::SaidLemmas::front_more, crate::proofs::SaidLemmas::front_behind))]
+fn put_two<L: Sink>(errs: &mut L, first: &[u8], second: &[u8]) -> Result<(), Failed>
+    ensures all { OnOk result (L.held errs.new ≡ grown (L.held errs.old) (first.now ++ second.now)) }
+    ensures front { OnErr result (GrownByFront (L.held errs.old) (L.held errs.new) (first.now ++ second.now)) }
+    ensures cause { HasCause (L.faults errs.old) (L.faults errs.new) result }
+{
+    put_all(errs, first)?;
+    put_all(errs, second)?;
+    Ok(())
+}
+
+fn put_number<L: Sink>(errs: &mut L, line: u64) -> Result<(), Failed>
+    ensures all { OnOk result (L.held errs.new ≡ grown (L.held errs.old) (number_text line)) }
+    ensures front { OnErr result (GrownByFront (L.held errs.old) (L.held errs.new) (number_text line)) }
+    ensures cause { HasCause (L.faults errs.old) (L.faults errs.new) result }
+{
+    put_two(
+        errs,
+        b"vkreplay: line ",
+        Buffer::new().format(line).as_bytes(),
+    )?;
+    Ok(())
+}
+
+fn put_kind<L: Sink>(errs: &mut L, fault: TraceFault) -> Result<(), Failed>
+    ensures all { OnOk result (L.held errs.new ≡ grown (L.held errs.old) (kind_text fault)) }
+    ensures front { OnErr result (GrownByFront (L.held errs.old) (L.held errs.new) (kind_text fault)) }
+    ensures cause { HasCause (L.faults errs.old) (L.faults errs.new) result }
+{
+    put_two(errs, b": ", fault.name().as_bytes())
+}
+
+fn put_fault<L: Sink>(errs: &mut L, line: u64, fault: TraceFault) -> Result<(), Failed>
+    ensures { Said (fault_line line fault) (changed (L.held errs.old) (L.held errs.new) (L.faults errs.old) (L.faults errs.new)) }
+{
+    put_number(errs, line)?;
+    put_kind(errs, fault)?;
+    put_all(errs, b"\n")?;
+    Ok(())
+}
+
+/// The line of a trace that stops.
+pub fn say_fault<L: Sink>(errs: &mut L, line: u64, fault: TraceFault)
+    ensures { Said (fault_line line fault) (changed (L.held errs.old) (L.held errs.new) (L.faults errs.old) (L.faults errs.new)) }
+{
+    let _ = put_fault(errs, line, fault);
+}
+
+fn limit_text(which: Which) -> &'static str
+    ensures { result.now ≡ limit_line which }
+{
+    match which {
+        Which::Manifests => "vkreplay: limit Manifests 4096\n",
+        Which::Lines => "vkreplay: limit Lines 16777216\n",
+        Which::LineBytes => "vkreplay: limit LineBytes 65536\n",
+        Which::Names => "vkreplay: limit Names 4194304\n",
+        Which::Chain => "vkreplay: limit Chain 64\n",
+        Which::Events => "vkreplay: limit Events 262144\n",
+        Which::Devices => "vkreplay: limit Devices 16\n",
+    }
+}
+
+/// The line of a limit that was reached.
+pub fn say_limit<L: Sink>(errs: &mut L, which: Which)
+    ensures { Said (limit_line which) (changed (L.held errs.old) (L.held errs.new) (L.faults errs.old) (L.faults errs.new)) }
+{
+    say(errs, limit_text(which).as_bytes())
+}

@@ -1,5 +1,0 @@
-use Rattle.vkreplay.proofs.Judging.{refused_without_driver, shown_is_judged}
-use Rattle.vkreplay.proofs.laws.what_is_shown_is_what_is_judged.Goals as goal
-
-pub returns : goal.returns
-returns c = record { shown = shown_is_judged; refused = refused_without_driver }

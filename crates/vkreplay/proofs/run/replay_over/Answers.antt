@@ -1,5 +1,0 @@
-use Rattle.vkreplay.proofs.Ending.{under_refused}
-use Rattle.vkreplay.proofs.run.replay_over.Goals as goal
-
-pub returns-in-Err-clause-ends : goal.returns-in-Err-clause-ends
-returns-in-Err-clause-ends g c = λ st errs is said. under_refused _ _ errs c.in-Err.error st c.in-Err.ensures.cut is said
