@@ -37,12 +37,15 @@ use Rattle.session_model.specs.Stands.{AreRepliesTo}
 use Rattle.chain_session.specs.declared.call.OpenCall.{OpenCall}
 use Rattle.chain_session.specs.declared.kept.Kept.{Kept}
 use Rattle.chain_session.specs.Beginning.{Begins}
-use Rattle.chain_session.specs.Judging.{IsJudged, found_at}
+use Rattle.chain_session.specs.declared.parts.SessionParts.{SessionParts}
+use Rattle.chain_session.specs.Judging.{IsJudged, Passes, found_at}
 use Rattle.chain_session.specs.Keeping.{KeepsBegun}
+use Rattle.chain_session.specs.Names.{NamesKept}
 use Rattle.chain_session.specs.Opened.{opened_of, sent_of}
 use Rattle.chain_session.specs.Opening.{opened_first}
 use Rattle.chain_session.specs.Sending.{IsSentTo, calls_due, drivers_due}
 use Rattle.chain_session.specs.Shown.{AreHeldAs, IsHeldAs, Shows, kinds_chained, refusal_at}
+use Rattle.chain_session.proofs.Ended.{past_sent}
 
 -- ---- the values that a begin reads
 
@@ -61,7 +64,7 @@ roomless t = record { ids = t.ids; routes = t.routes; drivers = t.drivers; spare
 
 -- what the program keeps of them
 abbrev pub read_of : Kept → Read
-read_of x = record { calls = x.calls; names = x.names; births = x.objects; states = x.states; handed = x.handed; terminator = roomless x.terminator }
+read_of x = record { calls = x.calls; names = x.parts.names.names; births = x.parts.names.births; states = x.parts.states; handed = x.parts.names.handed; terminator = roomless x.parts.terminator }
 
 -- what the definitions keep of them
 abbrev pub read_in : Setup → SessionKept → Read
@@ -70,11 +73,11 @@ read_in s k = record { calls = k.calls; names = k.names; births = k.births; stat
 pub read_same : (s : Setup) (x : Kept) (k : SessionKept) → Shows s x k → read_of x ≡ read_in s k
 read_same s x k sh = λ i. record {
   calls = sh.calls i;
-  names = sh.names i;
-  births = sh.births i;
-  states = sh.states i;
-  handed = sh.handed i;
-  terminator = record { ids = sh.ids i; routes = sh.routes i; drivers = sh.drivers i; spare = 0; values = 0; bytes = 0 };
+  names = sh.parts.names i;
+  births = sh.parts.births i;
+  states = sh.parts.states i;
+  handed = sh.parts.handed i;
+  terminator = record { ids = sh.parts.ids i; routes = sh.parts.routes i; drivers = sh.parts.drivers i; spare = 0; values = 0; bytes = 0 };
 }
 
 sent_roomless : (t : TerminatorState) (judged sent : OpenCall) (log0 log1 : Log) → IsSentTo t judged sent log0 log1 → IsSentTo (roomless t) judged sent log0 log1
@@ -84,11 +87,6 @@ sent_roomless t judged sent log0 log1 p = record { opened = p.opened; asked = p.
 pub record Steps (v : Read) (e : BeginEvent) (number : ℕ) (refusal : Option Code) (judged : OpenCall) (verdict : Verdict) (after : List PartState) : Type 0 where
   pub counted : number ≡ v.calls + 1
   pub judges : IsJudged v.births v.handed v.states (opened_first number v.names e refusal) judged verdict after
-
--- a call that was opened so was judged so
-pub judged_first : (births : List Birth) (handed : List Handed) (before : List PartState) (o p : Opened) (new : OpenCall) (verdict : Verdict) (after : List PartState)
-    → o ≡ p → IsJudged births handed before o new verdict after → IsJudged births handed before p new verdict after
-judged_first births handed before o p new verdict after is j = subst (λ q. IsJudged births handed before q new verdict after) is j
 
 -- ---- what is skipped goes to no driver
 
@@ -251,55 +249,64 @@ held_more s kinds (x ∷ calls) [] c h all one = absurd all
 held_more s kinds (x ∷ calls) (g ∷ hs) c h all one = (all.0, held_more s kinds calls hs c h all.1 one)
 
 -- what the steps of a begin came to, by what the program keeps
-pub record Stepped (s : Setup) (x : Kept) (e : BeginEvent) (number : ℕ) (refusal : Option Code) (judged sent : OpenCall) (verdict : Verdict) (after : List PartState) (new : Kept) (log0 log1 : Log) (lines0 lines1 : List ℕ) : Type 0 where
+pub record Stepped (s : Setup) (x : Kept) (e : BeginEvent) (number : ℕ) (refusal : Option Code) (judged sent : OpenCall) (verdict : Verdict) (mid : SessionParts) (new : Kept) (log0 log1 : Log) (lines0 lines1 : List ℕ) : Type 0 where
   pub counted : number ≡ x.calls + 1
   pub refused : refusal ≡ refusal_at s e.cmd e.payload
-  pub judges : IsJudged x.objects x.handed x.states (opened_first number x.names e refusal) judged verdict after
+  pub judges : IsJudged x.parts.names.births x.parts.names.handed x.parts.states (opened_first number x.parts.names.names e refusal) judged verdict mid.states
+  pub passes : Passes x.parts (opened_of judged) mid
   pub keeps : judged.refusal ≡ refusal
-  pub kinds : kinds_of after ≡ kinds_of x.states
-  pub sends : IsSentTo x.terminator judged sent log0 log1
+  pub kinds : kinds_of mid.states ≡ kinds_of x.parts.states
+  pub sends : IsSentTo x.parts.terminator judged sent log0 log1
   pub chained : same_command e.cmd cmd.CreateInstance ≡ true → is_refused s e.cmd e.payload ≡ false → kinds_chained sent.chain ≡ parts_of (s.outcome e.payload)
-  pub begun : KeepsBegun x sent (length verdict.findings.items) new after
+  pub begun : KeepsBegun (record x { parts = mid }) sent (length verdict.findings.items) new
   pub wrote : lines1 ≡ lines0 ++ (chain_text s e number ++ flat_map (report_text e number) (reports_of verdict.findings.items))
 
-pub begins_so : (s : Setup) (x : Kept) (e : BeginEvent) (number : ℕ) (refusal : Option Code) (judged sent : OpenCall) (verdict : Verdict) (after : List PartState) (new : Kept) (log0 log1 : Log) (lines0 lines1 : List ℕ)
-    → Stepped s x e number refusal judged sent verdict after new log0 log1 lines0 lines1 → (k : SessionKept) → Shows s x k → Begins s k e (map reply_shown sent.replies.items) new log0 log1 lines0 lines1
-begins_so s x e number refusal judged sent verdict after new log0 log1 lines0 lines1 p k sh =
+pub begins_so : (s : Setup) (x : Kept) (e : BeginEvent) (number : ℕ) (refusal : Option Code) (judged sent : OpenCall) (verdict : Verdict) (mid : SessionParts) (new : Kept) (log0 log1 : Log) (lines0 lines1 : List ℕ)
+    → Stepped s x e number refusal judged sent verdict mid new log0 log1 lines0 lines1 → (k : SessionKept) → Shows s x k → Begins s k e (map reply_shown sent.replies.items) new log0 log1 lines0 lines1
+begins_so s x e number refusal judged sent verdict mid new log0 log1 lines0 lines1 p k sh =
+    let after : List PartState = mid.states in
     let st : Steps (read_in s k) e number refusal judged verdict after =
     subst (λ v. Steps v e number refusal judged verdict after) (read_same s x k sh) (record { counted = p.counted; judges = p.judges }) in
-    let went : IsSentTo (read_in s k).terminator judged sent log0 log1 = subst (λ v. IsSentTo v.terminator judged sent log0 log1) (read_same s x k sh) (sent_roomless x.terminator judged sent log0 log1 p.sends) in
+    let went : IsSentTo (read_in s k).terminator judged sent log0 log1 = subst (λ v. IsSentTo v.terminator judged sent log0 log1) (read_same s x k sh) (sent_roomless x.parts.terminator judged sent log0 log1 p.sends) in
     let opened : opened_of sent ≡ (begun_kept s k e).opened = opened_is s k e number refusal judged verdict after p.refused st sent log0 log1 went in
     let found : reports_of verdict.findings.items ≡ (findings_kept s k e).reports = reports_is s k e number refusal judged verdict after p.refused st in
     let states : after ≡ (after_begin k.chain (loader_kept k e) (begun_kept s k e).opened).states = states_is s k e number refusal judged verdict after p.refused st in
     let rest = rest_is s k e number refusal judged verdict after p.refused st in
-    let past : ArePast k.births (begun_kept s k e).opened new.objects =
-    subst (λ (o : Opened). ArePast k.births o new.objects) opened (subst (λ (bs : List Birth). ArePast bs (opened_of sent) new.objects) sh.births p.begun.births) in
+    let passed : ArePast x.parts.names.births (opened_of sent) mid.names.births = subst (λ (o : Opened). ArePast x.parts.names.births o mid.names.births) (sym p.sends.opened) (past_sent x.parts.names.births mid.names.births (opened_of judged) (drivers_due x.parts.terminator judged) p.passes.past) in
+    let past : ArePast k.births (begun_kept s k e).opened new.parts.names.births =
+    subst (λ (y : SessionParts). ArePast k.births (begun_kept s k e).opened y.names.births) (sym p.begun.parts)
+    (subst (λ (o : Opened). ArePast k.births o mid.names.births) opened (subst (λ (bs : List Birth). ArePast bs (opened_of sent) mid.names.births) sh.parts.births passed)) in
+    let named : new.parts.names ≡ record x.parts.names { births = mid.names.births } = ap (λ (y : SessionParts). y.names) p.begun.parts ∙ p.passes.names in
+    let stays : new.parts.states ≡ after = ap (λ (y : SessionParts). y.states) p.begun.parts in
+    let ended : new.parts.terminator ≡ x.parts.terminator = ap (λ (y : SessionParts). y.terminator) p.begun.parts ∙ p.passes.terminator in
     let own : List ReplyContent = map reply_shown sent.replies.items in
-    let kinds : kinds_of new.states ≡ kinds_of k.chain.states = ap kinds_of p.begun.stays ∙ (p.kinds ∙ ap kinds_of sh.states) in
+    let kinds : kinds_of new.parts.states ≡ kinds_of k.chain.states = ap kinds_of stays ∙ (p.kinds ∙ ap kinds_of sh.parts.states) in
     record {
-      births = new.objects;
+      births = new.parts.names.births;
       answers = answers_is s k e number refusal judged verdict after p.refused st sent log0 log1 went;
       past = past;
       shows = record {
         calls = p.begun.calls ∙ ap (λ (o : Opened). o.number) opened;
         skipped = p.begun.skipped ∙ (ap (λ n. n + cond (is_skipped (opened_of sent)) 1 0) sh.skipped ∙ ap (λ (o : Opened). k.skipped + cond (is_skipped o) 1 0) opened);
         reports = p.begun.reports ∙ (ap (λ n. n + length verdict.findings.items) sh.reports ∙ ap (λ n. k.reports + n) (sym (length-map verdict.findings.items report_of) ∙ ap (λ rs. length rs) found));
-        names = p.begun.names ∙ sh.names;
-        births = refl;
-        retrieved = p.begun.retrieved ∙ sh.retrieved;
-        sent = ap (map sent_of) p.begun.open_calls ∙ (map-append sent_of x.open_calls.items (sent ∷ []) ∙ (ap (λ cs. cs ++ sent_of sent ∷ []) sh.sent
+        parts = record {
+          names = ap (λ (n : NamesKept). n.names) named ∙ sh.parts.names;
+          births = refl;
+          retrieved = ap (λ (n : NamesKept). n.retrieved) named ∙ sh.parts.retrieved;
+          states = stays ∙ states;
+          ids = ap (λ (t : TerminatorState). t.ids) ended ∙ (sh.parts.ids ∙ sym rest.0);
+          routes = ap (λ (t : TerminatorState). t.routes) ended ∙ (sh.parts.routes ∙ sym rest.1.0);
+          handed = ap (λ (n : NamesKept). n.handed) named ∙ (sh.parts.handed ∙ sym rest.1.1);
+          drivers = ap (λ (t : TerminatorState). t.drivers) ended ∙ sh.parts.drivers;
+        };
+        sent = ap (map sent_of) p.begun.open_calls ∙ (map-append sent_of x.open_calls (sent ∷ []) ∙ (ap (λ cs. cs ++ sent_of sent ∷ []) sh.sent
             ∙ ap (λ (o : Opened). k.sent ++ record { opened = o; answers = answers_to o own } ∷ []) opened));
-        states = p.begun.stays ∙ states;
-        ids = ap (λ (t : TerminatorState). t.ids) p.begun.terminator ∙ (sh.ids ∙ sym rest.0);
-        routes = ap (λ (t : TerminatorState). t.routes) p.begun.terminator ∙ (sh.routes ∙ sym rest.1.0);
-        handed = p.begun.handed ∙ (sh.handed ∙ sym rest.1.1);
-        held = subst (λ hs. AreHeldAs s (kinds_of new.states) new.open_calls.items hs) (held_is s k e number refusal judged verdict after p.refused st)
-            (subst (λ cs. AreHeldAs s (kinds_of new.states) cs (k.chain.held ++ held s k e number refusal judged verdict after p.refused st (b s k e number refusal judged verdict after p.refused st) ∷ [])) (sym p.begun.open_calls)
-            (subst (λ qs. AreHeldAs s qs (x.open_calls.items ++ sent ∷ []) (k.chain.held ++ held s k e number refusal judged verdict after p.refused st (b s k e number refusal judged verdict after p.refused st) ∷ [])) (sym kinds)
-            (held_more s (kinds_of k.chain.states) x.open_calls.items k.chain.held sent (held s k e number refusal judged verdict after p.refused st (b s k e number refusal judged verdict after p.refused st))
-            (subst (λ ss. AreHeldAs s (kinds_of ss) x.open_calls.items k.chain.held) sh.states sh.held)
+        held = subst (λ hs. AreHeldAs s (kinds_of new.parts.states) new.open_calls hs) (held_is s k e number refusal judged verdict after p.refused st)
+            (subst (λ cs. AreHeldAs s (kinds_of new.parts.states) cs (k.chain.held ++ held s k e number refusal judged verdict after p.refused st (b s k e number refusal judged verdict after p.refused st) ∷ [])) (sym p.begun.open_calls)
+            (subst (λ qs. AreHeldAs s qs (x.open_calls ++ sent ∷ []) (k.chain.held ++ held s k e number refusal judged verdict after p.refused st (b s k e number refusal judged verdict after p.refused st) ∷ [])) (sym kinds)
+            (held_more s (kinds_of k.chain.states) x.open_calls k.chain.held sent (held s k e number refusal judged verdict after p.refused st (b s k e number refusal judged verdict after p.refused st))
+            (subst (λ ss. AreHeldAs s (kinds_of ss) x.open_calls k.chain.held) sh.parts.states sh.held)
             (held_as s k e number refusal judged verdict after p.refused st sent log0 log1 went p.chained p.keeps))));
-        drivers = ap (λ (t : TerminatorState). t.drivers) p.begun.terminator ∙ sh.drivers;
       };
       told = told_is s k e number refusal judged verdict after p.refused st sent log0 log1 went;
       wrote = p.wrote ∙ (ap (λ n. lines0 ++ (chain_text s e n ++ flat_map (report_text e n) (reports_of verdict.findings.items))) (p.counted ∙ ap (λ n. n + 1) sh.calls)

@@ -1,5 +1,5 @@
 -- The steps of a begin, put together.
-use Rattle.std.proofs.Common.{◌≡◌, ◌∙◌, ℕ, ◌+◌, Bool, true, false, cond, ◌&&◌, Option, List, [], ◌++◌, length, map, ap, sym, subst, append_assoc}
+use Rattle.std.proofs.Common.{◌≡◌, ◌∙◌, ℕ, ◌+◌, Bool, true, false, cond, ◌&&◌, Option, List, [], ◌++◌, map, ap, sym, subst, append_assoc}
 use Rattle.std.specs.Prelude.{is_some}
 use Rattle.std.specs.List.{AllByRecursion, flat_map}
 use Rattle.command_tables.specs.Calls.{DriverCallContent, call_content}
@@ -14,8 +14,7 @@ use Rattle.replay_model.specs.Setup.{Chain, Outcome, Refused, Setup, TooLong, pa
 use Rattle.replay_model.specs.Past.{Opened, is_skipped}
 use Rattle.replay_model.specs.Text.{chain_text, report_text}
 use Rattle.chain_build.specs.declared.answers.Chain.{Chain as Built}
-use Rattle.layer_model.specs.Walks.{PartState}
-use Rattle.terminator.specs.Calls.{targets_of}
+use Rattle.terminator.specs.Calls.{TerminatorState, targets_of}
 use Rattle.lifetime_layer.specs.declared.verdict.Verdict.{Verdict}
 use Rattle.lifetime_layer.specs.Reports.{reports_of}
 use Rattle.dispatch_chain.specs.Seats.{kinds_of}
@@ -26,11 +25,11 @@ use Rattle.chain_session.specs.declared.creation.Creation.{Creation}
 use Rattle.chain_session.specs.declared.kept.Kept.{Kept}
 use Rattle.chain_session.specs.Beginning.{BeginsAs, CutShort, Tells}
 use Rattle.chain_session.specs.Creation.{IsCreated, IsStart}
-use Rattle.chain_session.specs.Judging.{IsJudged}
-use Rattle.chain_session.specs.Keeping.{KeepsBegun}
+use Rattle.chain_session.specs.declared.parts.SessionParts.{SessionParts}
+use Rattle.chain_session.specs.Judging.{IsJudged, Passes}
 use Rattle.chain_session.specs.Opened.{opened_of}
 use Rattle.chain_session.specs.Opening.{opened_first}
-use Rattle.chain_session.specs.Sending.{calls_due}
+use Rattle.chain_session.specs.Sending.{IsSentTo, calls_due}
 use Rattle.chain_session.specs.Shown.{Shows, kinds_chained, refusal_at}
 use Rattle.chain_session.specs.Telling.{FrontAsked}
 use Rattle.chain_session.proofs.Assembled.{Steps, begins_so, due, read_in, read_same}
@@ -44,60 +43,46 @@ chained_from true (Refused code text) creation chain made f is not = cc
 chained_from true (TooLong layers) creation chain made f is not = absurd made
 chained_from false o creation chain made f is not = cc
 
--- what the parts keep doesn't matter to what is kept of a begun call
-keeps_again : (x : Kept) (states after : List PartState) (call : OpenCall) (n : ℕ) (new : Kept) → KeepsBegun (record x { states = states }) call n new after → KeepsBegun x call n new after
-keeps_again x states after call n new h = record {
-  calls = h.calls;
-  skipped = h.skipped;
-  reports = h.reports;
-  names = h.names;
-  births = h.births;
-  retrieved = h.retrieved;
-  handed = h.handed;
-  terminator = h.terminator;
-  stays = h.stays;
-  open_calls = h.open_calls;
-}
-
-module _ (s : Setup) (x : Kept) (e : BeginEvent) (number : ℕ) (refusal : Option Code) (judged : OpenCall) (verdict : Verdict) (after : List PartState)
+module _ (s : Setup) (x : Kept) (e : BeginEvent) (number : ℕ) (refusal : Option Code) (judged : OpenCall) (verdict : Verdict) (mid : SessionParts)
     (counted : number ≡ x.calls + 1) (refused : refusal ≡ refusal_at s e.cmd e.payload)
-    (judges : IsJudged x.objects x.handed x.states (opened_first number x.names e refusal) judged verdict after) where
-  steps_in : (k : SessionKept) → Shows s x k → Steps (read_in s k) e number refusal judged verdict after
-  steps_in k sh = subst (λ v. Steps v e number refusal judged verdict after) (read_same s x k sh) (record { counted = counted; judges = judges })
+    (judges : IsJudged x.parts.names.births x.parts.names.handed x.parts.states (opened_first number x.parts.names.names e refusal) judged verdict mid.states) where
+  steps_in : (k : SessionKept) → Shows s x k → Steps (read_in s k) e number refusal judged verdict mid.states
+  steps_in k sh = subst (λ v. Steps v e number refusal judged verdict mid.states) (read_same s x k sh) (record { counted = counted; judges = judges })
 
   -- what the drivers are told of it is what the definitions say
-  due_in : (k : SessionKept) → Shows s x k → calls_due x.terminator judged ≡ calls_told s k e
-  due_in k sh = ap (λ v. calls_due v.terminator judged) (read_same s x k sh) ∙ (due s k e number refusal judged verdict after refused (steps_in k sh)).0
+  due_in : (k : SessionKept) → Shows s x k → calls_due x.parts.terminator judged ≡ calls_told s k e
+  due_in k sh = ap (λ v. calls_due v.terminator judged) (read_same s x k sh) ∙ (due s k e number refusal judged verdict mid.states refused (steps_in k sh)).0
 
-  pub shapes_so : (k : SessionKept) → Shows s x k → AllByRecursion HasShape (calls_told s k e) → is_skipped (opened_of judged) ≡ false → AllByRecursion HasShape (targets_of x.terminator (call_content judged.bottom))
+  pub shapes_so : (k : SessionKept) → Shows s x k → AllByRecursion HasShape (calls_told s k e) → is_skipped (opened_of judged) ≡ false → AllByRecursion HasShape (targets_of x.parts.terminator (call_content judged.bottom))
   shapes_so k sh shapes sent =
-      subst (λ (cs : List DriverCallContent). AllByRecursion HasShape cs) (sym (due_in k sh) ∙ ap (λ b. cond b [] (targets_of x.terminator (call_content judged.bottom))) sent) shapes
+      subst (λ (cs : List DriverCallContent). AllByRecursion HasShape cs) (sym (due_in k sh) ∙ ap (λ b. cond b [] (targets_of x.parts.terminator (call_content judged.bottom))) sent) shapes
 
   -- so were the first so many of them
-  pub cut_so : (log0 log1 : Log) → FrontAsked (calls_due x.terminator judged) log0 log1 → CutShort s x e log0 log1
+  pub cut_so : (log0 log1 : Log) → FrontAsked (calls_due x.parts.terminator judged) log0 log1 → CutShort s x e log0 log1
   cut_so log0 log1 f = λ k sh. subst (λ (cs : List DriverCallContent). FrontAsked cs log0 log1) (due_in k sh) f
 
   pub number_so : judged.number ≡ number
   number_so = ap (λ (o : Opened). o.number) judges.opened
 
   -- the begin is the definitions'
-  pub began_so : (y new : Kept) (log0 log1 : Log) (lines0 lines1 lines2 : List ℕ) → y ≡ record x { states = after } → kinds_of after ≡ kinds_of x.states → judged.refusal ≡ refusal
+  pub began_so : (y new : Kept) (log0 log1 : Log) (lines0 lines1 lines2 : List ℕ) → y ≡ record x { parts = mid } → Passes x.parts (opened_of judged) mid → kinds_of mid.states ≡ kinds_of x.parts.states → judged.refusal ≡ refusal
       → (same_command e.cmd cmd.CreateInstance ≡ true → (same_command e.cmd cmd.CreateInstance && is_some (refusal_of (s.outcome e.payload))) ≡ false → kinds_chained judged.chain ≡ parts_of (s.outcome e.payload))
       → lines1 ≡ lines0 ++ chain_text s e number → Tells y judged e verdict new log0 log1 lines1 lines2 → BeginsAs s x e new log0 log1 lines0 lines2
-  began_so y new log0 log1 lines0 lines1 lines2 is kinds kept chained wrote tells =
+  began_so y new log0 log1 lines0 lines1 lines2 is passes kinds kept chained wrote tells =
       let again = subst (λ z. Tells z judged e verdict new log0 log1 lines1 lines2) is tells in
       record {
         own = map reply_shown again.sent.replies.items;
-        begins = λ k sh. begins_so s x e number refusal judged again.sent verdict after new log0 log1 lines0 lines2
+        begins = λ k sh. begins_so s x e number refusal judged again.sent verdict mid new log0 log1 lines0 lines2
             (record {
               counted = counted;
               refused = refused;
               judges = judges;
+              passes = passes;
               keeps = kept;
               kinds = kinds;
-              sends = again.sends;
+              sends = subst (λ (t : TerminatorState). IsSentTo t judged again.sent log0 log1) passes.terminator again.sends;
               chained = λ made allowed. ap kinds_chained again.sends.chain ∙ chained made allowed;
-              begun = keeps_again x after after again.sent (length verdict.findings.items) new again.begun;
+              begun = again.begun;
               wrote = again.wrote ∙ (ap (λ ls. ls ++ flat_map (report_text e judged.number) (reports_of verdict.findings.items)) wrote
                   ∙ (append_assoc lines0 (chain_text s e number) (flat_map (report_text e judged.number) (reports_of verdict.findings.items))
                   ∙ ap (λ n. lines0 ++ (chain_text s e number ++ flat_map (report_text e n) (reports_of verdict.findings.items))) number_so));

@@ -13,7 +13,6 @@ use Rattle.command_tables.specs.Tests.{same_command}
 use Rattle.object_model.specs.declared.PartKind.{PartKind}
 use Rattle.object_model.specs.declared.Routed.{Routed}
 use Rattle.object_model.specs.History.{Birth, births_given, born_in}
-use Rattle.object_model.specs.Objects.{is_in}
 use Rattle.object_model.specs.Values.{Answered, Value}
 use Rattle.model_driver.specs.Driver.{reply_shown}
 use Rattle.model_driver.specs.declared.driver.DriverReply.{DriverReply}
@@ -149,7 +148,7 @@ refusal_so (Some v) code false e = cc
 
 -- ---- a return
 
-module _ (s : Setup) (x : Kept) (k : SessionKept) (thread : ℕ) (p : OpenCall) (h : Held) (shows : Shows s x k) (opens : Some p ≡ find (λ (c : OpenCall). is_of thread (opened_of c)) x.open_calls.items) (held : held_of_thread k thread ≡ Some h)
+module _ (s : Setup) (x : Kept) (k : SessionKept) (thread : ℕ) (p : OpenCall) (h : Held) (shows : Shows s x k) (opens : Some p ≡ find (λ (c : OpenCall). is_of thread (opened_of c)) x.open_calls) (held : held_of_thread k thread ≡ Some h)
     (returns : Returns s k (sent_of p) h) where
   abbrev o : Opened
   o = opened_of p
@@ -163,24 +162,24 @@ module _ (s : Setup) (x : Kept) (k : SessionKept) (thread : ℕ) (p : OpenCall) 
   abbrev flags : List Bool
   flags = born_flags (made_kept s k (opened_of p)) (lost_kept s k (opened_of p))
 
-  is : IsHeldAs s (kinds_of x.states) p h
-  is = held_found s (kinds_of x.states) thread x.open_calls.items k.chain.held p h shows.held opens held
+  is : IsHeldAs s (kinds_of x.parts.states) p h
+  is = held_found s (kinds_of x.parts.states) thread x.open_calls k.chain.held p h shows.held opens held
 
   own : (h.thread == p.thread) ≡ true
   own = eq-eqb h.thread p.thread is.thread
 
-  pub made_so : made_by x.terminator.drivers x.objects (born_in x.objects) x.retrieved o ≡ made
+  pub made_so : made_by x.parts.terminator.drivers x.parts.names.births (born_in x.parts.names.births) x.parts.names.retrieved o ≡ made
   made_so =
-      ap (λ n. made_by n x.objects (born_in x.objects) x.retrieved o) shows.drivers
-      ∙ (ap (λ (bs : List Birth). made_by s.drivers bs (born_in bs) x.retrieved o) shows.births ∙ ap (λ rs. made_by s.drivers k.births (born_in k.births) rs o) shows.retrieved)
+      ap (λ n. made_by n x.parts.names.births (born_in x.parts.names.births) x.parts.names.retrieved o) shows.parts.drivers
+      ∙ (ap (λ (bs : List Birth). made_by s.drivers bs (born_in bs) x.parts.names.retrieved o) shows.parts.births ∙ ap (λ rs. made_by s.drivers k.births (born_in k.births) rs o) shows.parts.retrieved)
 
   -- the chain in force then
-  states_then : is_skipped o ≡ false → states_due x.states p ≡ (in_force s k.chain o).states
+  states_then : is_skipped o ≡ false → states_due x.parts.states p ≡ (in_force s k.chain o).states
   states_then goes = go (starts_chain o) refl
     where
-      go : (u : Bool) → starts_chain o ≡ u → cond u (map (fresh_of o) (kinds_chained p.chain)) x.states ≡ (cond u (with_parts k.chain o parts) k.chain).states
+      go : (u : Bool) → starts_chain o ≡ u → cond u (map (fresh_of o) (kinds_chained p.chain)) x.parts.states ≡ (cond u (with_parts k.chain o parts) k.chain).states
       go true e = ap (map (fresh_of o)) (is.chain goes e)
-      go false e = shows.states
+      go false e = shows.parts.states
 
   forms_then : is_skipped o ≡ false → forms_due p h.forms ≡ (held_in_force s o h).forms
   forms_then goes = go (starts_chain o) refl
@@ -220,41 +219,41 @@ module _ (s : Setup) (x : Kept) (k : SessionKept) (thread : ℕ) (p : OpenCall) 
       go true = refl
       go false = refl
 
-  results_then : is_skipped o ≡ false → left_at x.terminator p made ≡ terminator_leave (in_force s k.chain o).terminator (held_in_force s o h).bottom (sent_of p).answers flags
+  results_then : is_skipped o ≡ false → left_at x.parts.terminator p made ≡ terminator_leave (in_force s k.chain o).terminator (held_in_force s o h).bottom (sent_of p).answers flags
   results_then goes =
-      ap (λ m. terminator_leave m (call_content p.bottom) (sent_of p).answers flags) (shows.ids ∙ sym ids_then)
+      ap (λ m. terminator_leave m (call_content p.bottom) (sent_of p).answers flags) (shows.parts.ids ∙ sym ids_then)
       ∙ ap (λ b. terminator_leave (in_force s k.chain o).terminator b (sent_of p).answers flags) (is.bottom goes ∙ sym bottom_then)
 
-  answered_then : is_skipped o ≡ false → HasAnswers x.terminator p
+  answered_then : is_skipped o ≡ false → HasAnswers x.parts.terminator p
   answered_then goes = record {
     cmd = ap (λ (c : CallContent). c.cmd) (is.bottom goes) ∙ returns.cmd goes;
-    drivers = ap (λ n. drivers_at n x.terminator.routes (call_content p.bottom)) shows.drivers
-        ∙ (ap (λ rs. drivers_at s.drivers rs (call_content p.bottom)) shows.routes ∙ (ap (drivers_at s.drivers k.chain.routes) (is.bottom goes) ∙ returns.steps.drivers goes));
+    drivers = ap (λ n. drivers_at n x.parts.terminator.routes (call_content p.bottom)) shows.parts.drivers
+        ∙ (ap (λ rs. drivers_at s.drivers rs (call_content p.bottom)) shows.parts.routes ∙ (ap (drivers_at s.drivers k.chain.routes) (is.bottom goes) ∙ returns.steps.drivers goes));
     replies = enough p.drivers.items p.replies.items returns.steps.answers.drivers;
   }
 
-  goes_up : is_skipped o ≡ false → MayGoUp x.states x.terminator p h.forms made
+  goes_up : is_skipped o ≡ false → MayGoUp x.parts.states x.parts.terminator p h.forms made
   goes_up goes = record {
     guarded = ap is_guarded (states_then goes) ∙ returns.guarded_in_force goes;
-    idle = λ starts. shows.states ∙ returns.idle goes starts;
+    idle = λ starts. shows.parts.states ∙ returns.idle goes starts;
     answers = answered_then goes;
     whole = ap (λ (fs : List CallContent). length fs) (forms_then goes) ∙ (returns.whole goes ∙ sym (ap (λ (ss : List PartState). length ss) (states_then goes)));
-    apart = subst (λ ss. ComeUpApart p.thread ss (forms_due p h.forms) (left_at x.terminator p made).results) (sym (states_then goes))
-        (subst (λ fs. ComeUpApart p.thread (in_force s k.chain o).states fs (left_at x.terminator p made).results) (sym (forms_then goes))
+    apart = subst (λ ss. ComeUpApart p.thread ss (forms_due p h.forms) (left_at x.parts.terminator p made).results) (sym (states_then goes))
+        (subst (λ fs. ComeUpApart p.thread (in_force s k.chain o).states fs (left_at x.parts.terminator p made).results) (sym (forms_then goes))
         (subst (λ (all : IssuedAll (List Value)). ComeUpApart p.thread (in_force s k.chain o).states (held_in_force s o h).forms all.results) (sym (results_then goes)) (returns.steps.sent goes)));
   }
 
-  pub may_raise : MayRaise x.states x.terminator p made
-  may_raise = record { forms = h.forms; holds = is.forms; guarded = ap is_guarded shows.states ∙ returns.guarded; goes = goes_up }
+  pub may_raise : MayRaise x.parts.states x.parts.terminator p made
+  may_raise = record { forms = h.forms; holds = is.forms; guarded = ap is_guarded shows.parts.states ∙ returns.guarded; goes = goes_up }
 
-  pub held_is : IsHeldOf p.held (kinds_of x.states) h.forms
+  pub held_is : IsHeldOf p.held (kinds_of x.parts.states) h.forms
   held_is = is.forms
 
   pub refusal_is : p.refusal ≡ refusal_at s p.cmd p.payload.items
   refusal_is = is.refusal
 
   -- what is kept of the chain, beside the open calls
-  raised_then : chain_raised (chain_at x.states x.terminator x.handed) p h.forms made ≡ record (chain_after_return s k (sent_of p) h) { held = [] }
+  raised_then : chain_raised (chain_at x.parts.states x.parts.terminator x.parts.names.handed) p h.forms made ≡ record (chain_after_return s k (sent_of p) h) { held = [] }
   raised_then = go (is_skipped o) refl
     where
       skipped_chain : List PartState → Terminator → List Routed → List Handed → ChainKept
@@ -270,40 +269,40 @@ module _ (s : Setup) (x : Kept) (k : SessionKept) (thread : ℕ) (p : OpenCall) 
       }
 
       go : (u : Bool) → is_skipped o ≡ u
-          → cond u (after_skipped (chain_at x.states x.terminator x.handed) o (held_at p h.forms) (lost_of p made)) (chain_sent (chain_at (states_due x.states p) x.terminator x.handed) p (forms_due p h.forms) made)
+          → cond u (after_skipped (chain_at x.parts.states x.parts.terminator x.parts.names.handed) o (held_at p h.forms) (lost_of p made)) (chain_sent (chain_at (states_due x.parts.states p) x.parts.terminator x.parts.names.handed) p (forms_due p h.forms) made)
           ≡ record (cond u (after_skipped k.chain o h (lost_kept s k o)) (after_reply (in_force s k.chain o) o (held_in_force s o h) (sent_of p).answers made (lost_kept s k o))) { held = [] }
       go true e =
-          ap (λ ss. skipped_chain ss x.terminator.ids x.terminator.routes x.handed) shows.states
-          ∙ (ap (λ m. skipped_chain k.chain.states m x.terminator.routes x.handed) shows.ids
-          ∙ (ap (λ rs. skipped_chain k.chain.states k.chain.terminator rs x.handed) shows.routes ∙ ap (λ hs. skipped_chain k.chain.states k.chain.terminator k.chain.routes hs) shows.handed))
+          ap (λ ss. skipped_chain ss x.parts.terminator.ids x.parts.terminator.routes x.parts.names.handed) shows.parts.states
+          ∙ (ap (λ m. skipped_chain k.chain.states m x.parts.terminator.routes x.parts.names.handed) shows.parts.ids
+          ∙ (ap (λ rs. skipped_chain k.chain.states k.chain.terminator rs x.parts.names.handed) shows.parts.routes ∙ ap (λ hs. skipped_chain k.chain.states k.chain.terminator k.chain.routes hs) shows.parts.handed))
       go false e =
           let all : IssuedAll (List Value) = terminator_leave (in_force s k.chain o).terminator (held_in_force s o h).bottom (sent_of p).answers flags in
-          ap (λ ss. sent_chain ss (left_at x.terminator p made) x.terminator.routes x.handed (forms_due p h.forms)) (states_then e)
-          ∙ (ap (λ all. sent_chain (in_force s k.chain o).states all x.terminator.routes x.handed (forms_due p h.forms)) (results_then e)
-          ∙ (ap (λ rs. sent_chain (in_force s k.chain o).states all rs x.handed (forms_due p h.forms)) (shows.routes ∙ sym routes_then_are)
-          ∙ (ap (λ hs. sent_chain (in_force s k.chain o).states all (in_force s k.chain o).routes hs (forms_due p h.forms)) (shows.handed ∙ sym handed_then)
+          ap (λ ss. sent_chain ss (left_at x.parts.terminator p made) x.parts.terminator.routes x.parts.names.handed (forms_due p h.forms)) (states_then e)
+          ∙ (ap (λ all. sent_chain (in_force s k.chain o).states all x.parts.terminator.routes x.parts.names.handed (forms_due p h.forms)) (results_then e)
+          ∙ (ap (λ rs. sent_chain (in_force s k.chain o).states all rs x.parts.names.handed (forms_due p h.forms)) (shows.parts.routes ∙ sym routes_then_are)
+          ∙ (ap (λ hs. sent_chain (in_force s k.chain o).states all (in_force s k.chain o).routes hs (forms_due p h.forms)) (shows.parts.handed ∙ sym handed_then)
           ∙ ap (λ fs. sent_chain (in_force s k.chain o).states all (in_force s k.chain o).routes (in_force s k.chain o).handed fs) (forms_then e))))
 
   -- the other calls, as the chain holds them then
-  held_then : (kinds : List PartKind) → kinds ≡ kinds_of (chain_after_return s k (sent_of p) h).states → AreHeldAs s kinds (filter (λ c. not (is_of p.thread (opened_of c))) x.open_calls.items) (chain_after_return s k (sent_of p) h).held
+  held_then : (kinds : List PartKind) → kinds ≡ kinds_of (chain_after_return s k (sent_of p) h).states → AreHeldAs s kinds (filter (λ c. not (is_of p.thread (opened_of c))) x.open_calls) (chain_after_return s k (sent_of p) h).held
   held_then kinds e = go (is_skipped o) refl e
     where
-      stay : (ks : List PartKind) → ks ≡ kinds_of k.chain.states → AreHeldAs s ks (filter (λ c. not (is_of p.thread (opened_of c))) x.open_calls.items) (other_held p.thread k.chain.held)
-      stay ks e = others_held s ks p.thread x.open_calls.items k.chain.held (subst (λ ys. AreHeldAs s ys x.open_calls.items k.chain.held) (ap kinds_of shows.states ∙ sym e) shows.held)
+      stay : (ks : List PartKind) → ks ≡ kinds_of k.chain.states → AreHeldAs s ks (filter (λ c. not (is_of p.thread (opened_of c))) x.open_calls) (other_held p.thread k.chain.held)
+      stay ks e = others_held s ks p.thread x.open_calls k.chain.held (subst (λ ys. AreHeldAs s ys x.open_calls k.chain.held) (ap kinds_of shows.parts.states ∙ sym e) shows.held)
 
-      anew : (ks : List PartKind) → k.chain.states ≡ [] → AllByRecursion HasNoForms k.chain.held → AreHeldAs s ks (filter (λ c. not (is_of p.thread (opened_of c))) x.open_calls.items) (other_held p.thread (map (with_forms o parts) k.chain.held))
+      anew : (ks : List PartKind) → k.chain.states ≡ [] → AllByRecursion HasNoForms k.chain.held → AreHeldAs s ks (filter (λ c. not (is_of p.thread (opened_of c))) x.open_calls) (other_held p.thread (map (with_forms o parts) k.chain.held))
       anew ks idle none =
-          subst (λ gs. AreHeldAs s ks (filter (λ c. not (is_of p.thread (opened_of c))) x.open_calls.items) gs) (sym (others_same o parts k.chain.held))
-          (others_held s ks p.thread x.open_calls.items k.chain.held (held_anew s ks x.open_calls.items k.chain.held none (subst (λ ys. AreHeldAs s ys x.open_calls.items k.chain.held) (ap kinds_of (shows.states ∙ idle)) shows.held)))
+          subst (λ gs. AreHeldAs s ks (filter (λ c. not (is_of p.thread (opened_of c))) x.open_calls) gs) (sym (others_same o parts k.chain.held))
+          (others_held s ks p.thread x.open_calls k.chain.held (held_anew s ks x.open_calls k.chain.held none (subst (λ ys. AreHeldAs s ys x.open_calls k.chain.held) (ap kinds_of (shows.parts.states ∙ idle)) shows.held)))
 
       sent : (v : Bool) → starts_chain o ≡ v → is_skipped o ≡ false → (ks : List PartKind) (up : Left) → ks ≡ kinds_of up.states → kinds_of up.states ≡ kinds_of (cond v (with_parts k.chain o parts) k.chain).states
-          → AreHeldAs s ks (filter (λ c. not (is_of p.thread (opened_of c))) x.open_calls.items) (other_held p.thread (cond v (with_parts k.chain o parts) k.chain).held)
+          → AreHeldAs s ks (filter (λ c. not (is_of p.thread (opened_of c))) x.open_calls) (other_held p.thread (cond v (with_parts k.chain o parts) k.chain).held)
       sent true starts goes ks up e f = anew ks (returns.idle goes starts) (returns.unheld goes starts)
       sent false starts goes ks up e f = stay ks (e ∙ f)
 
       go : (u : Bool) → is_skipped o ≡ u
           → kinds ≡ kinds_of (cond u (after_skipped k.chain o h (lost_kept s k o)) (after_reply (in_force s k.chain o) o (held_in_force s o h) (sent_of p).answers made (lost_kept s k o))).states
-          → AreHeldAs s kinds (filter (λ c. not (is_of p.thread (opened_of c))) x.open_calls.items)
+          → AreHeldAs s kinds (filter (λ c. not (is_of p.thread (opened_of c))) x.open_calls)
           (cond u (after_skipped k.chain o h (lost_kept s k o)) (after_reply (in_force s k.chain o) o (held_in_force s o h) (sent_of p).answers made (lost_kept s k o))).held
       go true skipped e = stay kinds (e ∙ left_kinds p.thread k.chain.states h.forms (map (λ _. 0) (lost_kept s k o)))
       go false goes e =
@@ -312,86 +311,88 @@ module _ (s : Setup) (x : Kept) (k : SessionKept) (thread : ℕ) (p : OpenCall) 
           e (left_kinds p.thread (in_force s k.chain o).states (held_in_force s o h).forms (terminator_leave (in_force s k.chain o).terminator (held_in_force s o h).bottom (sent_of p).answers flags).results)
 
   -- what the program keeps then
-  module _ (y : Kept) (calls : y.calls ≡ x.calls) (skipped : y.skipped ≡ x.skipped) (reports : y.reports ≡ x.reports) (names : y.names ≡ x.names ++ map named_of made)
-      (births : AreAdded x.objects (births_given x.objects (args_shown p.args.items) (row_of p.cmd).effect (objects_of made)) y.objects)
-      (retrieved : y.retrieved ≡ x.retrieved ++ retrieved_by x.objects o made) (closed : y.open_calls.items ≡ filter (λ (c : OpenCall). not (is_of thread (opened_of c))) x.open_calls.items)
-      (chain : chain_at y.states y.terminator y.handed ≡ chain_raised (chain_at x.states x.terminator x.handed) p h.forms made) (drivers : y.terminator.drivers ≡ x.terminator.drivers) where
-    chain_is : chain_at y.states y.terminator y.handed ≡ record (chain_after_return s k (sent_of p) h) { held = [] }
+  module _ (y : Kept) (calls : y.calls ≡ x.calls) (skipped : y.skipped ≡ x.skipped) (reports : y.reports ≡ x.reports) (names : y.parts.names.names ≡ x.parts.names.names ++ map named_of made)
+      (births : AreAdded x.parts.names.births (births_given x.parts.names.births (args_shown p.args.items) (row_of p.cmd).effect (objects_of made)) y.parts.names.births)
+      (retrieved : y.parts.names.retrieved ≡ x.parts.names.retrieved ++ retrieved_by x.parts.names.births o made) (closed : y.open_calls ≡ filter (λ (c : OpenCall). not (is_of thread (opened_of c))) x.open_calls)
+      (chain : chain_at y.parts.states y.parts.terminator y.parts.names.handed ≡ chain_raised (chain_at x.parts.states x.parts.terminator x.parts.names.handed) p h.forms made) (drivers : y.parts.terminator.drivers ≡ x.parts.terminator.drivers) where
+    chain_is : chain_at y.parts.states y.parts.terminator y.parts.names.handed ≡ record (chain_after_return s k (sent_of p) h) { held = [] }
     chain_is = chain ∙ raised_then
 
     thread_is : p.thread ≡ thread
-    thread_is = open_thread thread x.open_calls.items p opens
+    thread_is = open_thread thread x.open_calls p opens
 
-    pub since_then : AreAdded k.births (given_kept s k o) y.objects
-    since_then = subst (λ (bs : List Birth). AreAdded bs (births_given bs o.args (row_of o.cmd).effect (objects_of made)) y.objects) shows.births births
+    pub since_then : AreAdded k.births (given_kept s k o) y.parts.names.births
+    since_then = subst (λ (bs : List Birth). AreAdded bs (births_given bs o.args (row_of o.cmd).effect (objects_of made)) y.parts.names.births) shows.parts.births births
 
-    pub shows_then : Shows s y (kept_after_return s k (sent_of p) h y.objects)
+    pub shows_then : Shows s y (kept_after_return s k (sent_of p) h y.parts.names.births)
     shows_then = record {
       calls = calls ∙ shows.calls;
       skipped = skipped ∙ shows.skipped;
       reports = reports ∙ shows.reports;
-      names = names ∙ ap (λ ns. ns ++ map named_of made) shows.names;
-      births = refl;
-      retrieved = retrieved ∙ (ap (λ rs. rs ++ retrieved_by x.objects o made) shows.retrieved ∙ ap (λ (bs : List Birth). k.retrieved ++ retrieved_by bs o made) shows.births);
-      sent = ap (map sent_of) closed ∙ (sent_filter thread x.open_calls.items ∙ (ap (filter (λ (c : Sent). not (is_of thread c.opened))) shows.sent ∙ ap (λ n. filter (λ (c : Sent). not (is_of n c.opened)) k.sent) (sym thread_is)));
-      states = ap (λ (c : ChainKept). c.states) chain_is;
-      ids = ap (λ (c : ChainKept). c.terminator) chain_is;
-      routes = ap (λ (c : ChainKept). c.routes) chain_is;
-      handed = ap (λ (c : ChainKept). c.handed) chain_is;
-      held = subst (λ cs. AreHeldAs s (kinds_of y.states) cs (chain_after_return s k (sent_of p) h).held) (ap (λ n. filter (λ (c : OpenCall). not (is_of n (opened_of c))) x.open_calls.items) thread_is ∙ sym closed)
-          (held_then (kinds_of y.states) (ap (λ (c : ChainKept). kinds_of c.states) chain_is));
-      drivers = drivers ∙ shows.drivers;
+      parts = record {
+        names = names ∙ ap (λ ns. ns ++ map named_of made) shows.parts.names;
+        births = refl;
+        retrieved = retrieved ∙ (ap (λ rs. rs ++ retrieved_by x.parts.names.births o made) shows.parts.retrieved ∙ ap (λ (bs : List Birth). k.retrieved ++ retrieved_by bs o made) shows.parts.births);
+        states = ap (λ (c : ChainKept). c.states) chain_is;
+        ids = ap (λ (c : ChainKept). c.terminator) chain_is;
+        routes = ap (λ (c : ChainKept). c.routes) chain_is;
+        handed = ap (λ (c : ChainKept). c.handed) chain_is;
+        drivers = drivers ∙ shows.parts.drivers;
+      };
+      sent = ap (map sent_of) closed ∙ (sent_filter thread x.open_calls ∙ (ap (filter (λ (c : Sent). not (is_of thread c.opened))) shows.sent ∙ ap (λ n. filter (λ (c : Sent). not (is_of n c.opened)) k.sent) (sym thread_is)));
+      held = subst (λ cs. AreHeldAs s (kinds_of y.parts.states) cs (chain_after_return s k (sent_of p) h).held) (ap (λ n. filter (λ (c : OpenCall). not (is_of n (opened_of c))) x.open_calls) thread_is ∙ sym closed)
+          (held_then (kinds_of y.parts.states) (ap (λ (c : ChainKept). kinds_of c.states) chain_is));
     }
 
 -- ---- the whole return
 
 -- the call that is found is that of the definitions
-same_call : (s : Setup) (x : Kept) (k : SessionKept) (thread : ℕ) (p : OpenCall) (call : Sent) → Shows s x k → Some p ≡ find (λ (c : OpenCall). is_of thread (opened_of c)) x.open_calls.items → sent_of_thread k thread ≡ Some call → call ≡ sent_of p
+same_call : (s : Setup) (x : Kept) (k : SessionKept) (thread : ℕ) (p : OpenCall) (call : Sent) → Shows s x k → Some p ≡ find (λ (c : OpenCall). is_of thread (opened_of c)) x.open_calls → sent_of_thread k thread ≡ Some call → call ≡ sent_of p
 same_call s x k thread p call shows opens found =
-    let e : Some call ≡ Some (sent_of p) = sym found ∙ (ap (find (λ (c : Sent). is_of thread c.opened)) (sym shows.sent) ∙ sent_found thread x.open_calls.items p opens) in
+    let e : Some call ≡ Some (sent_of p) = sym found ∙ (ap (find (λ (c : Sent). is_of thread c.opened)) (sym shows.sent) ∙ sent_found thread x.open_calls p opens) in
     cc
 
 -- what is born at it
-born_so : (s : Setup) (x : Kept) (k : SessionKept) (thread : ℕ) (p : OpenCall) (call : Sent) (held : Held) (born : List Born) → Shows s x k → Some p ≡ find (λ (c : OpenCall). is_of thread (opened_of c)) x.open_calls.items → sent_of_thread k thread ≡ Some call
-    → held_of_thread k thread ≡ Some held → Returns s k call held → born ≡ made_by x.terminator.drivers x.objects (born_in x.objects) x.retrieved (opened_of p) → born ≡ made_kept s k (opened_of p)
+born_so : (s : Setup) (x : Kept) (k : SessionKept) (thread : ℕ) (p : OpenCall) (call : Sent) (held : Held) (born : List Born) → Shows s x k → Some p ≡ find (λ (c : OpenCall). is_of thread (opened_of c)) x.open_calls → sent_of_thread k thread ≡ Some call
+    → held_of_thread k thread ≡ Some held → Returns s k call held → born ≡ made_by x.parts.terminator.drivers x.parts.names.births (born_in x.parts.names.births) x.parts.names.retrieved (opened_of p) → born ≡ made_kept s k (opened_of p)
 born_so s x k thread p call held born shows opens found holds returns is =
     is ∙ made_so s x k thread p held shows opens holds (subst (λ (c : Sent). Returns s k c held) (same_call s x k thread p call shows opens found) returns)
 
 -- its results may come up
-pub can_raise : (x : Kept) (thread : ℕ) (p : OpenCall) (born : List Born) → CanFinish x thread → Some p ≡ find (λ (c : OpenCall). is_of thread (opened_of c)) x.open_calls.items
-    → born ≡ made_by x.terminator.drivers x.objects (born_in x.objects) x.retrieved (opened_of p) → MayRaise x.states x.terminator p born
+pub can_raise : (x : Kept) (thread : ℕ) (p : OpenCall) (born : List Born) → CanFinish x thread → Some p ≡ find (λ (c : OpenCall). is_of thread (opened_of c)) x.open_calls
+    → born ≡ made_by x.parts.terminator.drivers x.parts.names.births (born_in x.parts.names.births) x.parts.names.retrieved (opened_of p) → MayRaise x.parts.states x.parts.terminator p born
 can_raise x thread p born can opens is =
-    subst (λ ms. MayRaise x.states x.terminator p ms) (sym (born_so can.setup x can.kept thread p can.call can.held born can.shows opens can.found can.holds can.returns is))
+    subst (λ ms. MayRaise x.parts.states x.parts.terminator p ms) (sym (born_so can.setup x can.kept thread p can.call can.held born can.shows opens can.found can.holds can.returns is))
     (may_raise can.setup x can.kept thread p can.held can.shows opens can.holds (subst (λ (c : Sent). Returns can.setup can.kept c can.held) (same_call can.setup x can.kept thread p can.call can.shows opens can.found) can.returns))
 
 -- where no call is open, none returns
-pub none_finishes : (x y : Kept) (thread : ℕ) (old_lines lines : List ℕ) → None ≡ find (λ (c : OpenCall). is_of thread (opened_of c)) x.open_calls.items → Finishes x y thread old_lines lines
+pub none_finishes : (x y : Kept) (thread : ℕ) (old_lines lines : List ℕ) → None ≡ find (λ (c : OpenCall). is_of thread (opened_of c)) x.open_calls → Finishes x y thread old_lines lines
 none_finishes x y thread old_lines lines none = λ s k call held shows found holds returns.
-    let e : Some call ≡ None = sym found ∙ (ap (find (λ (c : Sent). is_of thread c.opened)) (sym shows.sent) ∙ none_sent thread x.open_calls.items none) in
+    let e : Some call ≡ None = sym found ∙ (ap (find (λ (c : Sent). is_of thread c.opened)) (sym shows.sent) ∙ none_sent thread x.open_calls none) in
     cc e
 
-pub finishes_so : (x y : Kept) (thread : ℕ) (p : OpenCall) (born : List Born) (old_lines lines : List ℕ) → Some p ≡ find (λ (c : OpenCall). is_of thread (opened_of c)) x.open_calls.items
-    → born ≡ made_by x.terminator.drivers x.objects (born_in x.objects) x.retrieved (opened_of p) → y.calls ≡ x.calls → y.skipped ≡ x.skipped → y.reports ≡ x.reports → y.names ≡ x.names ++ map named_of born
-    → AreAdded x.objects (births_given x.objects (args_shown p.args.items) (row_of p.cmd).effect (objects_of born)) y.objects
-    → y.retrieved ≡ x.retrieved ++ retrieved_by x.objects (opened_of p) born → y.open_calls.items ≡ filter (λ (c : OpenCall). not (is_of thread (opened_of c))) x.open_calls.items
-    → ((forms : List CallContent) → IsHeldOf p.held (kinds_of x.states) forms → chain_at y.states y.terminator y.handed ≡ chain_raised (chain_at x.states x.terminator x.handed) p forms born) → y.terminator.drivers ≡ x.terminator.drivers
-    → ((s : Setup) → p.refusal ≡ refusal_at s p.cmd p.payload.items → s.drivers ≡ x.terminator.drivers → lines ≡ old_lines ++ return_text s (opened_of p) (length born)) → Finishes x y thread old_lines lines
+pub finishes_so : (x y : Kept) (thread : ℕ) (p : OpenCall) (born : List Born) (old_lines lines : List ℕ) → Some p ≡ find (λ (c : OpenCall). is_of thread (opened_of c)) x.open_calls
+    → born ≡ made_by x.parts.terminator.drivers x.parts.names.births (born_in x.parts.names.births) x.parts.names.retrieved (opened_of p) → y.calls ≡ x.calls → y.skipped ≡ x.skipped → y.reports ≡ x.reports → y.parts.names.names ≡ x.parts.names.names ++ map named_of born
+    → AreAdded x.parts.names.births (births_given x.parts.names.births (args_shown p.args.items) (row_of p.cmd).effect (objects_of born)) y.parts.names.births
+    → y.parts.names.retrieved ≡ x.parts.names.retrieved ++ retrieved_by x.parts.names.births (opened_of p) born → y.open_calls ≡ filter (λ (c : OpenCall). not (is_of thread (opened_of c))) x.open_calls
+    → ((forms : List CallContent) → IsHeldOf p.held (kinds_of x.parts.states) forms → chain_at y.parts.states y.parts.terminator y.parts.names.handed ≡ chain_raised (chain_at x.parts.states x.parts.terminator x.parts.names.handed) p forms born) → y.parts.terminator.drivers ≡ x.parts.terminator.drivers
+    → ((s : Setup) → p.refusal ≡ refusal_at s p.cmd p.payload.items → s.drivers ≡ x.parts.terminator.drivers → lines ≡ old_lines ++ return_text s (opened_of p) (length born)) → Finishes x y thread old_lines lines
 finishes_so x y thread p born old_lines lines opens is calls skipped reports names births retrieved closed chain drivers line = λ s k call held shows found holds returns.
     let same : call ≡ sent_of p = same_call s x k thread p call shows opens found in
     let mine : Returns s k (sent_of p) held = subst (λ (c : Sent). Returns s k c held) same returns in
     let made : born ≡ made_kept s k (opened_of p) = born_so s x k thread p call held born shows opens found holds returns is in
     let o : Opened = opened_of p in
-    let names2 : y.names ≡ x.names ++ map named_of (made_kept s k (opened_of p)) = names ∙ ap (λ (ms : List Born). x.names ++ map named_of ms) made in
-    let births2 : AreAdded x.objects (births_given x.objects (args_shown p.args.items) (row_of p.cmd).effect (objects_of (made_kept s k (opened_of p)))) y.objects
-    = subst (λ (ms : List Born). AreAdded x.objects (births_given x.objects (args_shown p.args.items) (row_of p.cmd).effect (objects_of ms)) y.objects) made births in
-    let retrieved2 : y.retrieved ≡ x.retrieved ++ retrieved_by x.objects (opened_of p) (made_kept s k (opened_of p)) = retrieved ∙ ap (λ (ms : List Born). x.retrieved ++ retrieved_by x.objects (opened_of p) ms) made in
-    let chain2 : chain_at y.states y.terminator y.handed ≡ chain_raised (chain_at x.states x.terminator x.handed) p held.forms (made_kept s k (opened_of p))
-    = chain held.forms (held_is s x k thread p held shows opens holds mine) ∙ ap (chain_raised (chain_at x.states x.terminator x.handed) p held.forms) made in
+    let names2 : y.parts.names.names ≡ x.parts.names.names ++ map named_of (made_kept s k (opened_of p)) = names ∙ ap (λ (ms : List Born). x.parts.names.names ++ map named_of ms) made in
+    let births2 : AreAdded x.parts.names.births (births_given x.parts.names.births (args_shown p.args.items) (row_of p.cmd).effect (objects_of (made_kept s k (opened_of p)))) y.parts.names.births
+    = subst (λ (ms : List Born). AreAdded x.parts.names.births (births_given x.parts.names.births (args_shown p.args.items) (row_of p.cmd).effect (objects_of ms)) y.parts.names.births) made births in
+    let retrieved2 : y.parts.names.retrieved ≡ x.parts.names.retrieved ++ retrieved_by x.parts.names.births (opened_of p) (made_kept s k (opened_of p)) = retrieved ∙ ap (λ (ms : List Born). x.parts.names.retrieved ++ retrieved_by x.parts.names.births (opened_of p) ms) made in
+    let chain2 : chain_at y.parts.states y.parts.terminator y.parts.names.handed ≡ chain_raised (chain_at x.parts.states x.parts.terminator x.parts.names.handed) p held.forms (made_kept s k (opened_of p))
+    = chain held.forms (held_is s x k thread p held shows opens holds mine) ∙ ap (chain_raised (chain_at x.parts.states x.parts.terminator x.parts.names.handed) p held.forms) made in
     subst (λ (c : Sent). Returned s k c held y old_lines lines) (sym same) (record {
-      births = y.objects;
+      births = y.parts.names.births;
       since = since_then s x k thread p held shows opens holds mine y calls skipped reports names2 births2 retrieved2 closed chain2 drivers;
       shows = shows_then s x k thread p held shows opens holds mine y calls skipped reports names2 births2 retrieved2 closed chain2 drivers;
-      wrote = line s (refusal_is s x k thread p held shows opens holds mine) (sym shows.drivers) ∙ ap (λ (ms : List Born). old_lines ++ return_text s (opened_of p) (length ms)) made;
+      wrote = line s (refusal_is s x k thread p held shows opens holds mine) (sym shows.parts.drivers) ∙ ap (λ (ms : List Born). old_lines ++ return_text s (opened_of p) (length ms)) made;
     })
 
 -- ---- its line

@@ -1,7 +1,8 @@
 -- What is left of the births of what lives at a begin.
-use Rattle.std.proofs.Common.{◌≡◌, ◌||◌, ◌&&◌, Bool, true, false, not, List, refl, sym, ap, ◌∙◌}
+use Rattle.std.proofs.Common.{◌≡◌, ◌||◌, ◌&&◌, ℕ, Bool, true, false, not, List, refl, sym, subst, ap, ◌∙◌}
 use Rattle.command_tables.specs.Table.{row_of}
-use Rattle.object_model.specs.declared.Object.{Object}
+use Rattle.command_tables.specs.declared.types.CommandId.{CommandId}
+use Rattle.object_model.specs.declared.Argument.{Argument}
 use Rattle.object_model.specs.History.{Birth, born_in, ends_by}
 use Rattle.replay_model.specs.Past.{Opened, is_skipped}
 use Rattle.session_model.specs.Living.{ArePast}
@@ -24,3 +25,18 @@ past_skipped bs o skipped = record {
     keep : (t : Bool) → t ≡ (t && true)
     keep true = refl
     keep false = refl
+
+-- what was ended by a command's effect on such arguments
+pub ends_so : (bs after : List Birth) (cmd : CommandId) (args : List (List Argument)) (skipped : Bool) → skipped ≡ false → AreLeft bs (ends_by bs args (row_of cmd).effect) after
+    → (o : Opened) → o.cmd ≡ cmd → o.args ≡ args → is_skipped o ≡ skipped → ArePast bs o after
+ends_so bs after cmd args skipped goes left o same_cmd same_args is =
+    past_ended bs after o (is ∙ goes)
+    (subst (λ (c : CommandId). AreLeft bs (ends_by bs o.args (row_of c).effect) after) (sym same_cmd) (subst (λ (read : List (List Argument)). AreLeft bs (ends_by bs read (row_of cmd).effect) after) (sym same_args) left))
+
+-- nothing was
+pub stays_so : (bs : List Birth) (cmd : CommandId) (args : List (List Argument)) (skipped : Bool) → skipped ≡ true → (o : Opened) → o.cmd ≡ cmd → o.args ≡ args → is_skipped o ≡ skipped → ArePast bs o bs
+stays_so bs cmd args skipped stays o same_cmd same_args is = past_skipped bs o (is ∙ stays)
+
+-- to which drivers a call goes doesn't matter
+pub past_sent : (bs after : List Birth) (o : Opened) (drivers : List ℕ) → ArePast bs o after → ArePast bs (record o { drivers = drivers }) after
+past_sent bs after o drivers h = record { lives = h.lives; alike = h.alike }

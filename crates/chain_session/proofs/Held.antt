@@ -1,22 +1,20 @@
 -- How many entries are kept.
 use Rattle.std.proofs.Common.{◌≡◌, ◌∙◌, ◌+◌, ℕ, None, Some, length, ap, sym, subst, refl}
 use Rattle.std.proofs.lemmas.List.{length-map}
-use Rattle.replay_model.specs.Setup.{Setup}
-use Rattle.session_model.specs.Session.{SessionKept, nothing_kept}
+use Rattle.session_model.specs.Session.{SessionKept}
 use Rattle.session_tables.specs.Births.{AreApart}
 use Rattle.chain_session.specs.declared.kept.Kept.{Kept}
 use Rattle.chain_session.specs.Opened.{sent_of}
-use Rattle.chain_session.specs.Shown.{Shows}
 use Rattle.chain_session.specs.Standing.{Holds}
 
 -- what the program counts is what the definitions keep
-pub holds_so : (x : Kept) (held : ℕ) → held ≡ length x.names + length x.objects + length x.open_calls.items → AreApart x.objects → Holds (Some x) held
+pub holds_so : (x : Kept) (held : ℕ) → held ≡ length x.parts.names.names + length x.parts.names.births + length x.open_calls → AreApart x.parts.names.births → Holds (Some x) held
 holds_so x held is apart = λ s k shows. (
   is
-      ∙ (ap (λ n. n + length x.objects + length x.open_calls.items) (ap length shows.names)
-      ∙ (ap (λ n. length k.names + n + length x.open_calls.items) (ap length shows.births)
-      ∙ ap (λ n. length k.names + length k.births + n) (sym (length-map x.open_calls.items sent_of) ∙ ap length shows.sent))),
-  subst AreApart shows.births apart,
+      ∙ (ap (λ n. n + length x.parts.names.births + length x.open_calls) (ap length shows.parts.names)
+      ∙ (ap (λ n. length k.names + n + length x.open_calls) (ap length shows.parts.births)
+      ∙ ap (λ n. length k.names + length k.births + n) (sym (length-map x.open_calls sent_of) ∙ ap length shows.sent))),
+  subst AreApart shows.parts.births apart,
 )
 
 -- nothing before the first begin

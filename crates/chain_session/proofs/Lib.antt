@@ -25,4 +25,5 @@ pub mod Guarded
 pub mod Returning
 pub mod Within
 pub mod Ended
+pub mod CameBack
 pub mod Held

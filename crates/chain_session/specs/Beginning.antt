@@ -51,6 +51,6 @@ CutShort s old e old_log log = (k : SessionKept) → Shows s old k → FrontAske
 -- the drivers of a judged call were told, the lines of its reports stand behind those before, and it is kept
 pub record Tells (old : Kept) (judged : OpenCall) (e : BeginEvent) (verdict : Verdict) (new : Kept) (old_log log : Log) (old_lines lines : List ℕ) : Type 0 where
   pub sent : OpenCall
-  pub sends : IsSentTo old.terminator judged sent old_log log
-  pub begun : KeepsBegun old sent (length verdict.findings.items) new old.states
+  pub sends : IsSentTo old.parts.terminator judged sent old_log log
+  pub begun : KeepsBegun old sent (length verdict.findings.items) new
   pub wrote : lines ≡ old_lines ++ flat_map (report_text e judged.number) (reports_of verdict.findings.items)

@@ -1,6 +1,6 @@
 -- How a call is judged at its begin. Source: this project.
-use Rattle.std.specs.Prelude.{◌≡◌, ◌≤◌, ℕ, Bool, true, not, ◌||◌, if◌then◌else◌, Option, Some, None, List, [], ◌∷◌, length, map}
-use Rattle.command_tables.specs.Calls.{call_content}
+use Rattle.std.specs.Prelude.{◌≡◌, ◌≤◌, ℕ, Bool, true, not, ◌||◌, if◌then◌else◌, Option, Some, None, is_some, List, [], ◌∷◌, length, map}
+use Rattle.command_tables.specs.Calls.{CallContent, call_content}
 use Rattle.command_tables.specs.Table.{row_of}
 use Rattle.command_tables.specs.declared.types.Rule.TheVariants as rule
 use Rattle.model_driver.specs.Driver.{FitsRow}
@@ -15,9 +15,11 @@ use Rattle.lifetime_layer.specs.Reports.{reports_of}
 use Rattle.chain_model.specs.Chained.{form_by}
 use Rattle.chain_model.specs.Handed.{Handed, handle_in}
 use Rattle.chain_model.specs.Simulated.{base_of, found_by}
-use Rattle.dispatch_chain.specs.Holding.{IsHeldOf}
+use Rattle.dispatch_chain.specs.Holding.{HeldCalls, IsHeldOf}
 use Rattle.dispatch_chain.specs.Seats.{kinds_of}
+use Rattle.session_model.specs.Living.{ArePast}
 use Rattle.chain_session.specs.declared.call.OpenCall.{OpenCall}
+use Rattle.chain_session.specs.declared.parts.SessionParts.{SessionParts}
 use Rattle.chain_session.specs.Opened.{opened_of}
 
 -- ---- the shape of a call
@@ -68,3 +70,26 @@ pub record IsJudged (births : List Birth) (handed : List Handed) (before : List 
   pub states : after ≡ (if comes_down births o then (walk_at before handed o).states else before)
   pub bottom : comes_down births o ≡ true → call_content new.bottom ≡ (walk_at before handed o).bottom
   pub held : IsHeldOf new.held (kinds_of before) (if comes_down births o then (walk_at before handed o).forms else [])
+
+-- ---- a call comes down
+
+-- A call whose chain isn't refused was looked at: what was found and whether it is skipped for that, what the parts keep then, and the call as it stood above
+-- each part that it came to and below the last.
+pub record IsFound (births : List Birth) (handed : List Handed) (before : List PartState) (o : Opened) (call : CallContent) (held : HeldCalls) (verdict : Verdict) (after : List PartState) : Type 0 where
+  pub reports : reports_of verdict.findings.items ≡ (found_at births before handed o).reports
+  pub skip : verdict.skip ≡ is_some (found_at births before handed o).stop
+  pub stop : stopped_by verdict.skip (reports_of verdict.findings.items) ≡ (found_at births before handed o).stop
+  pub states : after ≡ (if comes_down births o then (walk_at before handed o).states else before)
+  pub bottom : comes_down births o ≡ true → call ≡ (walk_at before handed o).bottom
+  pub forms : IsHeldOf held (kinds_of before) (if comes_down births o then (walk_at before handed o).forms else [])
+
+-- of names and objects only what lives is changed, by what the call ends unless it is skipped, and the end of the chain keeps what it kept
+pub record Passes (old : SessionParts) (o : Opened) (new : SessionParts) : Type 0 where
+  pub past : ArePast old.names.births o new.names.births
+  pub names : new.names ≡ record old.names { births = new.names.births }
+  pub terminator : new.terminator ≡ old.terminator
+
+-- a call came down: it was looked at, and what it ends has ended
+pub record ComesDown (old : SessionParts) (o : Opened) (call : CallContent) (held : HeldCalls) (verdict : Verdict) (new : SessionParts) : Type 0 where
+  pub found : IsFound old.names.births old.names.handed old.states o call held verdict new.states
+  pub passes : Passes old (record o { stop = (found_at old.names.births old.states old.names.handed o).stop }) new

@@ -1,10 +1,12 @@
 pub mod Opened
 pub mod Handed
+pub mod Names
 pub mod Passed
 pub mod Opening
 pub mod Judging
 pub mod Telling
 pub mod Sending
+pub mod Parts
 pub mod Shown
 pub mod Raising
 pub mod Finishing

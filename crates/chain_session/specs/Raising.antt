@@ -1,5 +1,5 @@
 -- How the results of a call come up at its return. Source: this project.
-use Rattle.std.specs.Prelude.{◌≡◌, ◌≤◌, ℕ, Bool, true, false, if◌then◌else◌, List, [], drop, length, map}
+use Rattle.std.specs.Prelude.{◌≡◌, ◌≤◌, ℕ, Bool, true, false, ◌++◌, if◌then◌else◌, List, [], drop, length, map}
 use Rattle.command_tables.specs.Calls.{CallContent, call_content}
 use Rattle.command_tables.specs.Effects.{type_made}
 use Rattle.command_tables.specs.Table.{row_of}
@@ -7,7 +7,7 @@ use Rattle.trace_format.specs.declared.event.Name.{Name}
 use Rattle.object_model.specs.declared.Routed.{Routed}
 use Rattle.object_model.specs.Values.{Value}
 use Rattle.replay_model.specs.declared.Born.{Born}
-use Rattle.replay_model.specs.Past.{is_skipped}
+use Rattle.replay_model.specs.Past.{is_skipped, named_of, objects_of, retrieved_by}
 use Rattle.layer_model.specs.Ids.{IssuedAll}
 use Rattle.layer_model.specs.Routes.{routes_then}
 use Rattle.layer_model.specs.Terminator.{terminator_leave}
@@ -19,7 +19,12 @@ use Rattle.terminator.specs.Calls.{TerminatorState, drivers_for}
 use Rattle.dispatch_chain.specs.Holding.{HeldCalls, IsHeldOf}
 use Rattle.dispatch_chain.specs.Seats.{kinds_of}
 use Rattle.session_model.specs.Steps.{ComeUpApart}
+use Rattle.object_model.specs.History.{births_given, born_in}
+use Rattle.replay_model.specs.Births.{made_by}
+use Rattle.session_tables.specs.Lined.{AreAdded}
+use Rattle.session_tables.specs.Shown.{args_shown}
 use Rattle.chain_session.specs.declared.call.OpenCall.{OpenCall}
+use Rattle.chain_session.specs.declared.parts.SessionParts.{SessionParts}
 use Rattle.chain_session.specs.Opened.{opened_of, sent_of}
 use Rattle.chain_session.specs.Shown.{kinds_chained}
 
@@ -98,3 +103,20 @@ pub record MayRaise (states : List PartState) (t : TerminatorState) (c : OpenCal
   pub holds : IsHeldOf c.held (kinds_of states) forms
   pub guarded : is_guarded states ≡ true
   pub goes : is_skipped (opened_of c) ≡ false → MayGoUp states t c forms made
+
+-- ---- what comes back
+
+-- the results of an open call that are born, by what the parts of the session keep
+abbrev pub made_at : SessionParts → OpenCall → List Born
+made_at x p = made_by x.terminator.drivers x.names.births (born_in x.names.births) x.names.retrieved (opened_of p)
+
+-- An open call has come back: so many of its results are born, they are kept with what they stand for, and what the chain keeps is what it keeps after any
+-- call.
+pub record ComesBack (old : SessionParts) (p : OpenCall) (new : SessionParts) (count : ℕ) : Type 0 where
+  pub counted : count ≡ length (made_at old p)
+  pub names : new.names.names ≡ old.names.names ++ map named_of (made_at old p)
+  pub births : AreAdded old.names.births (births_given old.names.births (args_shown p.args.items) (row_of p.cmd).effect (objects_of (made_at old p))) new.names.births
+  pub retrieved : new.names.retrieved ≡ old.names.retrieved ++ retrieved_by old.names.births (opened_of p) (made_at old p)
+  pub chain : (forms : List CallContent) → IsHeldOf p.held (kinds_of old.states) forms
+      → chain_at new.states new.terminator new.names.handed ≡ chain_raised (chain_at old.states old.terminator old.names.handed) p forms (made_at old p)
+  pub drivers : new.terminator.drivers ≡ old.terminator.drivers

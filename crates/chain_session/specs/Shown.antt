@@ -18,6 +18,7 @@ use Rattle.session_model.specs.Session.{SessionKept}
 use Rattle.chain_session.specs.declared.call.OpenCall.{OpenCall}
 use Rattle.chain_session.specs.declared.kept.Kept.{Kept}
 use Rattle.chain_session.specs.Opened.{opened_of, sent_of}
+use Rattle.chain_session.specs.Parts.{PartsShow}
 
 -- ---- an open call
 
@@ -53,13 +54,6 @@ pub record Shows (s : Setup) (x : Kept) (k : SessionKept) : Type 0 where
   pub calls : x.calls ≡ k.calls
   pub skipped : x.skipped ≡ k.skipped
   pub reports : x.reports ≡ k.reports
-  pub names : x.names ≡ k.names
-  pub births : x.objects ≡ k.births
-  pub retrieved : x.retrieved ≡ k.retrieved
-  pub sent : map sent_of x.open_calls.items ≡ k.sent
-  pub states : x.states ≡ k.chain.states
-  pub ids : x.terminator.ids ≡ k.chain.terminator
-  pub routes : x.terminator.routes ≡ k.chain.routes
-  pub handed : x.handed ≡ k.chain.handed
-  pub held : AreHeldAs s (kinds_of x.states) x.open_calls.items k.chain.held
-  pub drivers : x.terminator.drivers ≡ s.drivers
+  pub parts : PartsShow s x.parts k
+  pub sent : map sent_of x.open_calls ≡ k.sent
+  pub held : AreHeldAs s (kinds_of x.parts.states) x.open_calls k.chain.held

@@ -1,5 +1,6 @@
 // The begin of a call.
-ghost use Rattle.std.specs.Prelude.{◌≡◌, ◌++◌, ◌+◌, ◌<◌, ◌^◌, [], List, true, false, length, map, IfErr, IfOk, OnErr, OnOk};
+ghost use Rattle.std.specs.Prelude.{◌≡◌, ◌++◌, ◌+◌, ◌<◌, ◌^◌, [], List, true, false, length, map, None, IfErr, IfOk, OnErr, OnOk};
+ghost use Rattle.std.specs.Box.{box_value};
 ghost use Rattle.std.specs.List.{AllByRecursion};
 ghost use Rattle.command_tables.specs.Calls.{call_content};
 ghost use Rattle.model_driver.specs.Driver.{HasShape};
@@ -16,7 +17,7 @@ ghost use Rattle.chain_session.specs.Beginning.{BeginsAs, CanBegin, CutShort, Te
 ghost use Rattle.command_tables.specs.Tests.{same_command};
 ghost use Rattle.command_tables.specs.declared.types.CommandId.TheVariants as CommandId;
 ghost use Rattle.chain_session.specs.Creation.{IsFault, IsStart, refusal_in};
-ghost use Rattle.chain_session.specs.Judging.{FitsCall, IsJudged};
+ghost use Rattle.chain_session.specs.Judging.{FitsCall, IsJudged, Passes};
 ghost use Rattle.chain_session.specs.Opened.{opened_of};
 ghost use Rattle.chain_session.specs.Opening.{begin_content, opened_first};
 ghost use Rattle.chain_session.specs.Sending.{calls_due};
@@ -67,7 +68,6 @@ fn start_of(creation: Creation) -> Start
 }
 
 // The call of a begin, judged.
-#[tactic(auto, using(crate::proofs::Assembled::judged_first))]
 fn open_judged(
     table: &DispatchTable,
     kept: &mut Kept,
@@ -76,26 +76,35 @@ fn open_judged(
     begin: Beginning,
     start: Start,
     verdict: &mut Verdict,
-) -> Result<OpenCall, NoMemory>
-    requires table { table.now.rows ≡ kinds_of kept.old.states }
-    requires fits { FitsCall (opened_first number kept.old.names (begin_content begin) start.refusal) }
+) -> Result<Box<OpenCall>, NoMemory>
+    requires table { table.now.rows ≡ kinds_of kept.old.parts.states }
+    requires fits { FitsCall (opened_first number kept.old.parts.names.names (begin_content begin) None) }
+    requires lined { AreLined kept.old.parts.names.births }
     requires goes { verdict.old.skip ≡ false }
     requires empty { verdict.old.findings.items ≡ [] }
-    ensures judged { IfOk result (λ c. IsJudged kept.old.objects kept.old.handed kept.old.states (opened_first number kept.old.names (begin_content begin.entry) start.refusal) c verdict.new kept.new.states) }
-    ensures refusal { IfOk result (λ c. c.refusal ≡ start.refusal) }
-    ensures chain { IfOk result (λ c. c.chain ≡ start.chain) }
-    ensures replies { IfOk result (λ c. c.replies.items ≡ []) }
-    ensures kept { kept.new ≡ record kept.old { states = kept.new.states } }
-    ensures kinds { kinds_of kept.new.states ≡ kinds_of kept.old.states }
+    ensures judged { IfOk result (λ b. IsJudged kept.old.parts.names.births kept.old.parts.names.handed kept.old.parts.states (opened_first number kept.old.parts.names.names (begin_content begin.entry) start.refusal) (box_value b) verdict.new kept.new.parts.states) }
+    ensures passes { IfOk result (λ b. Passes kept.old.parts (opened_of (box_value b)) kept.new.parts) }
+    ensures refusal { IfOk result (λ b. (box_value b).refusal ≡ start.refusal) }
+    ensures chain { IfOk result (λ b. (box_value b).chain ≡ start.chain) }
+    ensures replies { IfOk result (λ b. (box_value b).replies.items ≡ []) }
+    ensures kept { kept.new ≡ record kept.old { parts = kept.new.parts } }
+    ensures kinds { kinds_of kept.new.parts.states ≡ kinds_of kept.old.parts.states }
 {
-    let mut call = open_call(room, &kept.names, number, begin, start.refusal, start.chain)?;
+    let mut call = open_call(
+        room,
+        kept.parts.names.named(),
+        number,
+        begin,
+        start.refusal,
+        start.chain,
+    )?;
     judge(
         table,
-        &mut kept.states,
-        &kept.objects,
-        &kept.handed,
-        &mut call,
+        &mut kept.parts,
+        number,
+        begin,
         &mut room.handles,
+        &mut call,
         verdict,
     )?;
     Ok(call)
@@ -105,26 +114,25 @@ fn open_judged(
 fn tell_and_keep<D: Driver>(
     kept: &mut Kept,
     room: &mut Room,
-    call: OpenCall,
+    call: Box<OpenCall>,
     begin: Beginning,
     verdict: &Verdict,
     driver: &mut D,
     lines: &mut Vec<u8>,
 ) -> Result<(), NoMemory>
-    requires shapes { is_skipped (opened_of call) ≡ false → AllByRecursion HasShape (targets_of kept.old.terminator (call_content call.bottom)) }
-    requires drivers { call.drivers.items ≡ [] }
-    requires lined { AreLined kept.old.objects }
-    requires replies { call.replies.items ≡ [] }
-    ensures ok { OnOk result (Tells kept.old call (begin_content begin.entry) verdict.now kept.new (D.log driver.old) (D.log driver.new) lines.old.items lines.new.items) }
-    ensures err { OnErr result (FrontAsked (calls_due kept.old.terminator call) (D.log driver.old) (D.log driver.new)) }
-    ensures states { kept.new.states ≡ kept.old.states }
+    requires shapes { is_skipped (opened_of (box_value call)) ≡ false → AllByRecursion HasShape (targets_of kept.old.parts.terminator (call_content (box_value call).bottom)) }
+    requires drivers { (box_value call).drivers.items ≡ [] }
+    requires replies { (box_value call).replies.items ≡ [] }
+    ensures ok { OnOk result (Tells kept.old (box_value call) (begin_content begin.entry) verdict.now kept.new (D.log driver.old) (D.log driver.new) lines.old.items lines.new.items) }
+    ensures err { OnErr result (FrontAsked (calls_due kept.old.parts.terminator (box_value call)) (D.log driver.old) (D.log driver.new)) }
+    ensures parts { kept.new.parts ≡ kept.old.parts }
     ensures policy { D.answers_by driver.new ≡ D.answers_by driver.old }
 {
     let mut call = call;
     let number = call.number;
     send(
         room.alloc,
-        &kept.terminator,
+        &kept.parts.terminator,
         &mut call,
         &mut room.targets,
         driver,
@@ -148,7 +156,7 @@ pub(crate) fn begin_call<D: Driver>(
     driver: &mut D,
     lines: &mut Vec<u8>,
 ) -> Result<(), SessionError>
-    requires table { table.now.rows ≡ kinds_of kept.old.states }
+    requires table { table.now.rows ≡ kinds_of kept.old.parts.states }
     requires can { CanBegin (trace_setup (setup_content setup.now)) kept.old (begin_content begin) }
     requires number { number ≡ kept.old.calls + 1 }
     requires few { length (setup_content setup.now).drivers.list < 2 ^ 32 }
@@ -157,7 +165,7 @@ pub(crate) fn begin_call<D: Driver>(
     ensures fault { IfErr result (IsFault (same_command begin.entry.cmd CommandId.CreateInstance) ((trace_setup (setup_content setup.now)).outcome begin.entry.payload.now)) }
     ensures within { OnOk result (exceeds_layers (trace_setup (setup_content setup.now)) (Begin (begin_content begin.entry)) ≡ false) }
     ensures untold { OnErr result (exceeds_layers (trace_setup (setup_content setup.now)) (Begin (begin_content begin.entry)) ≡ true → D.log driver.new ≡ D.log driver.old) }
-    ensures kinds { kinds_of kept.new.states ≡ kinds_of kept.old.states }
+    ensures kinds { kinds_of kept.new.parts.states ≡ kinds_of kept.old.parts.states }
     ensures policy { D.answers_by driver.new ≡ D.answers_by driver.old }
 {
     let creation = create(room.alloc, number, begin.cmd, begin.payload, setup, lines)?;

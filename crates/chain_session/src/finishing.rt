@@ -1,5 +1,5 @@
 // The return of a thread's open call.
-ghost use Rattle.std.specs.Prelude.{◌≡◌, ◌++◌, ℕ, List, Some, OnOk, length};
+ghost use Rattle.std.specs.Prelude.{◌≡◌, ◌++◌, ℕ, List, Some, IfOk, OnOk, length};
 ghost use Rattle.model_driver.specs.Logs.{Log};
 ghost use Rattle.trace_format.specs.Content.{Return};
 ghost use Rattle.chain_model.specs.Traces.{GivesGuarded};
@@ -13,11 +13,12 @@ ghost use Rattle.replay_model.specs.Text.{return_text};
 ghost use Rattle.dispatch_chain.specs.Seats.{kinds_of};
 ghost use Rattle.chain_session.specs.Finishing.{CanFinish, Finishes};
 ghost use Rattle.chain_session.specs.Opened.{opened_of};
+ghost use Rattle.chain_session.specs.Raising.{ComesBack, MayRaise, made_at};
 ghost use Rattle.chain_session.specs.Shown.{refusal_at};
 
-use crate::call::{OpenCall, close, find_open};
-use crate::keeping::settle;
+use crate::call::OpenCall;
 use crate::kept::Kept;
+use crate::parts::SessionParts;
 use crate::raising::raise;
 use crate::reporting::{Returning, put_return};
 use crate::results::made;
@@ -49,6 +50,42 @@ fn put_line(call: &OpenCall, drivers: u32, born: usize, lines: &mut Vec<u8>) -> 
     put_return(returning(call, drivers), count, lines)
 }
 
+// The results of an open call come up, and what is born is kept. Answers how many are born.
+fn come_back(
+    table: &mut DispatchTable,
+    parts: &mut SessionParts,
+    room: &mut Room,
+    drivers: u32,
+    call: &OpenCall,
+) -> Result<usize, NoMemory>
+    requires table { table.old.rows ≡ kinds_of parts.old.states }
+    requires drivers { drivers ≡ parts.old.terminator.drivers }
+    requires may { MayRaise parts.old.states parts.old.terminator call.now (made_at parts.old call.now) }
+    ensures ok { IfOk result (ComesBack parts.old call.now parts.new) }
+    ensures table { table.new.rows ≡ kinds_of parts.new.states }
+{
+    let born = made(
+        room,
+        parts.names.objects(),
+        parts.names.retrieved(),
+        drivers,
+        call,
+    )?;
+    raise(
+        table,
+        &mut parts.states,
+        &mut parts.terminator,
+        &mut parts.names,
+        call,
+        &born,
+        room,
+    )?;
+    parts.names.settle(room.alloc, call, &born)?;
+    let count = born.len();
+    room.born.keep(born);
+    Ok(count)
+}
+
 /// The return of a thread's open call: its results come up, what is born is kept, and its line is added. A count of results that would
 /// pass 32 bits is refused as want of memory. After `NoMemory` all that is kept is for dropping alone, and anything may stand behind the
 /// lines.
@@ -60,37 +97,19 @@ pub(crate) fn finish_call(
     thread: u32,
     lines: &mut Vec<u8>,
 ) -> Result<(), NoMemory>
-    requires table { table.old.rows ≡ kinds_of kept.old.states }
-    requires drivers { drivers ≡ kept.old.terminator.drivers }
+    requires table { table.old.rows ≡ kinds_of kept.old.parts.states }
+    requires drivers { drivers ≡ kept.old.parts.terminator.drivers }
     requires can { CanFinish kept.old thread }
     ensures ok { OnOk result (Finishes kept.old kept.new thread lines.old.items lines.new.items) }
-    ensures table { table.new.rows ≡ kinds_of kept.new.states }
+    ensures table { table.new.rows ≡ kinds_of kept.new.parts.states }
     ensures calls { kept.new.calls ≡ kept.old.calls }
 {
-    match find_open(&kept.open_calls, thread) {
+    match kept.open_calls.find(thread) {
         None => Ok(()),
         Some(call) => {
-            let born = made(room, &kept.objects, &kept.retrieved, drivers, call)?;
-            raise(
-                table,
-                &mut kept.states,
-                &mut kept.terminator,
-                &mut kept.handed,
-                call,
-                &born,
-                room,
-            )?;
-            settle(
-                room.alloc,
-                call,
-                &born,
-                &mut kept.names,
-                &mut kept.objects,
-                &mut kept.retrieved,
-            )?;
-            put_line(call, drivers, born.len(), lines)?;
-            room.born.keep(born);
-            if let Some(call) = close(&mut kept.open_calls, thread) {
+            let born = come_back(table, &mut kept.parts, room, drivers, call)?;
+            put_line(call, drivers, born, lines)?;
+            if let Some(call) = kept.open_calls.close(thread) {
                 room.give_back(call);
             }
             Ok(())

@@ -1,5 +1,5 @@
 // How a call is judged at its begin.
-ghost use Rattle.std.specs.Prelude.{◌≡◌, ◌++◌, ◌∷◌, [], false, is_some, map, not, None, Some, OnOk};
+ghost use Rattle.std.specs.Prelude.{◌≡◌, ◌++◌, ◌∷◌, [], false, true, is_some, map, not, None, OnOk};
 ghost use Rattle.command_tables.specs.Calls.{call_content};
 ghost use Rattle.command_tables.specs.Table.{row_of, seen, seen_param};
 ghost use Rattle.object_model.specs.Findings.{at_place, is_failing};
@@ -10,14 +10,18 @@ ghost use Rattle.dispatch_chain.specs.Holding.{IsHeldOf};
 ghost use Rattle.dispatch_chain.specs.Seats.{kinds_of};
 ghost use Rattle.session_tables.specs.Shown.{args_shown};
 ghost use Rattle.chain_session.specs.Judging as spec;
-ghost use Rattle.chain_session.specs.Judging.{FitsCall, IsJudged, loader_report, stopped_by, walk_at};
+ghost use Rattle.session_tables.specs.Lined.{AreLined};
+ghost use Rattle.chain_session.specs.Judging.{FitsCall, IsFound, IsJudged, Passes, loader_report, stopped_by, walk_at};
 ghost use Rattle.chain_session.specs.Opened.{opened_of};
+ghost use Rattle.chain_session.specs.Opening.{begin_content, opened_first, opened_read};
 
 use crate::call::OpenCall;
 use crate::forms::{Passed, put_call};
 use crate::handed::HandedTable;
-use command_tables::{CommandId, NoMemory, Param, Rule, row};
-use dispatch_chain::{DispatchTable, LayerStates, walk_enter};
+use crate::opening::Beginning;
+use crate::parts::SessionParts;
+use command_tables::{CommandId, LayerCall, NoMemory, Param, Rule, row};
+use dispatch_chain::{DispatchTable, Held, LayerStates, walk_enter};
 use lifetime_layer::{Finding, Verdict};
 use object_model::Argument;
 use session_tables::ObjectTable;
@@ -89,56 +93,114 @@ fn stop_of(verdict: &Verdict) -> Option<u32>
     }
 }
 
-/// The loader reports a call, which stops there.
-pub(crate) fn stop_at_loader(call: &mut OpenCall, verdict: &mut Verdict) -> Result<(), NoMemory>
-    ensures opened { OnOk result (opened_of call.new ≡ record (opened_of call.old) { stop = Some 0 }) }
-    ensures held { call.new.held ≡ call.old.held }
-    ensures refusal { call.new.refusal ≡ call.old.refusal }
-    ensures chain { call.new.chain ≡ call.old.chain }
-    ensures replies { call.new.replies ≡ call.old.replies }
+// The loader reports a call, which stops there.
+fn report_first(verdict: &mut Verdict) -> Result<(), NoMemory>
+    ensures skip { OnOk result (verdict.new.skip ≡ true) }
     ensures reports { OnOk result (reports_of verdict.new.findings.items ≡ reports_of verdict.old.findings.items ++ loader_report ∷ []) }
 {
     verdict.findings.push(loader_finding())?;
-    call.stop = Some(0);
+    verdict.skip = true;
     Ok(())
 }
 
-/// A call that the loader doesn't report comes down to the parts of the chain in force.
-#[tactic(auto, using(crate::proofs::Stopping::stop_last, crate::proofs::Fitting::has_params, crate::proofs::Fitting::has_few_places))]
-pub(crate) fn send_down(
+// A call that the loader doesn't report comes down to the parts of the chain in force.
+fn walk_down(
     table: &DispatchTable,
     states: &mut LayerStates,
     handed: &HandedTable,
-    call: &mut OpenCall,
+    number: u64,
+    begin: Beginning,
+    args: &[Vec<Argument>],
     room: &mut Vec<u64>,
+    form: &mut LayerCall,
+    held: &mut Held,
     verdict: &mut Verdict,
 ) -> Result<(), NoMemory>
     requires table { table.now.rows ≡ kinds_of states.old }
-    requires fits { FitsCall (opened_of call.old) }
+    requires fits { FitsCall (opened_read number (begin_content begin) (args_shown args.now)) }
     requires goes { verdict.old.skip ≡ false }
     requires empty { verdict.old.findings.items ≡ [] }
-    ensures opened { OnOk result (opened_of call.new ≡ record (opened_of call.old) { stop = (walk_at states.old handed.now (opened_of call.old)).found.stop }) }
-    ensures reports { OnOk result (reports_of verdict.new.findings.items ≡ (walk_at states.old handed.now (opened_of call.old)).found.reports) }
-    ensures states { OnOk result (states.new ≡ (walk_at states.old handed.now (opened_of call.old)).states) }
-    ensures bottom { OnOk result (call_content call.new.bottom ≡ (walk_at states.old handed.now (opened_of call.old)).bottom) }
-    ensures held { OnOk result (IsHeldOf call.new.held (kinds_of states.old) (walk_at states.old handed.now (opened_of call.old)).forms) }
+    ensures reports { OnOk result (reports_of verdict.new.findings.items ≡ (walk_at states.old handed.now (opened_read number (begin_content begin.entry) (args_shown args.now))).found.reports) }
+    ensures skip { OnOk result (verdict.new.skip ≡ is_some (walk_at states.old handed.now (opened_read number (begin_content begin.entry) (args_shown args.now))).found.stop) }
+    ensures states { OnOk result (states.new ≡ (walk_at states.old handed.now (opened_read number (begin_content begin.entry) (args_shown args.now))).states) }
+    ensures bottom { OnOk result (call_content form.new ≡ (walk_at states.old handed.now (opened_read number (begin_content begin.entry) (args_shown args.now))).bottom) }
+    ensures held { OnOk result (IsHeldOf held.new (kinds_of states.old) (walk_at states.old handed.now (opened_read number (begin_content begin.entry) (args_shown args.now))).forms) }
     ensures kinds { kinds_of states.new ≡ kinds_of states.old }
+{
+    let passed = Passed {
+        cmd: begin.cmd,
+        asked: begin.results.len() as u32,
+        code: begin.code,
+        payload: begin.payload,
+    };
+    put_call(handed, passed, args, room, form)?;
+    walk_enter(table, states, begin.thread, number, form, held, verdict)
+}
+
+/// Looks at a call whose chain isn't refused: it comes to no part where the loader reports it.
+pub(crate) fn look(
+    table: &DispatchTable,
+    states: &mut LayerStates,
+    objects: &ObjectTable,
+    handed: &HandedTable,
+    number: u64,
+    begin: Beginning,
+    args: &[Vec<Argument>],
+    room: &mut Vec<u64>,
+    form: &mut LayerCall,
+    held: &mut Held,
+    verdict: &mut Verdict,
+) -> Result<(), NoMemory>
+    requires table { table.now.rows ≡ kinds_of states.old }
+    requires fits { FitsCall (opened_read number (begin_content begin) (args_shown args.now)) }
+    requires goes { verdict.old.skip ≡ false }
+    requires empty { verdict.old.findings.items ≡ [] }
+    requires unheld { held.old.forms ≡ [] }
+    ensures found { OnOk result (IsFound objects.now handed.now states.old (opened_read number (begin_content begin.entry) (args_shown args.now)) (call_content form.new) held.new verdict.new states.new) }
+    ensures kinds { kinds_of states.new ≡ kinds_of states.old }
+{
+    if is_reported(objects, begin.cmd, args) {
+        report_first(verdict)?;
+        Ok(())
+    } else {
+        walk_down(
+            table, states, handed, number, begin, args, room, form, held, verdict,
+        )?;
+        Ok(())
+    }
+}
+
+// An open call whose chain isn't refused comes down, and stops where that says.
+fn judge_passed(
+    table: &DispatchTable,
+    parts: &mut SessionParts,
+    number: u64,
+    begin: Beginning,
+    room: &mut Vec<u64>,
+    call: &mut OpenCall,
+    verdict: &mut Verdict,
+) -> Result<(), NoMemory>
+    requires table { table.now.rows ≡ kinds_of parts.old.states }
+    requires allowed { is_some call.old.refusal ≡ false }
+    requires opened { opened_of call.old ≡ opened_first number parts.old.names.names (begin_content begin) call.old.refusal }
+    requires fits { FitsCall (opened_first number parts.old.names.names (begin_content begin) None) }
+    requires lined { AreLined parts.old.names.births }
+    requires goes { verdict.old.skip ≡ false }
+    requires empty { verdict.old.findings.items ≡ [] }
+    requires unheld { call.old.held.forms ≡ [] }
+    ensures judged { OnOk result (IsJudged parts.old.names.births parts.old.names.handed parts.old.states (opened_first number parts.old.names.names (begin_content begin.entry) call.old.refusal) call.new verdict.new parts.new.states) }
+    ensures passes { OnOk result (Passes parts.old (opened_of call.new) parts.new) }
     ensures refusal { call.new.refusal ≡ call.old.refusal }
     ensures chain { call.new.chain ≡ call.old.chain }
     ensures replies { call.new.replies ≡ call.old.replies }
+    ensures kinds { kinds_of parts.new.states ≡ kinds_of parts.old.states }
 {
-    let passed = Passed {
-        cmd: call.cmd,
-        asked: call.results.len() as u32,
-        code: call.code,
-        payload: &call.payload,
-    };
-    put_call(handed, passed, &call.args, room, &mut call.bottom)?;
-    walk_enter(
+    parts.come_down(
         table,
-        states,
-        call.thread,
-        call.number,
+        number,
+        begin,
+        &call.args,
+        room,
         &mut call.bottom,
         &mut call.held,
         verdict,
@@ -147,35 +209,33 @@ pub(crate) fn send_down(
     Ok(())
 }
 
-/// Judges a call at its begin: nothing is looked for where its chain is refused, and it comes to no part where the loader reports it.
-#[tactic(auto, using(crate::proofs::Judged::refused_so, crate::proofs::Judged::loader_so, crate::proofs::Judged::walked_so))]
+/// Judges an open call at its begin: nothing is looked for where its chain is refused.
 pub(crate) fn judge(
     table: &DispatchTable,
-    states: &mut LayerStates,
-    objects: &ObjectTable,
-    handed: &HandedTable,
-    call: &mut OpenCall,
+    parts: &mut SessionParts,
+    number: u64,
+    begin: Beginning,
     room: &mut Vec<u64>,
+    call: &mut OpenCall,
     verdict: &mut Verdict,
 ) -> Result<(), NoMemory>
-    requires table { table.now.rows ≡ kinds_of states.old }
-    requires fits { FitsCall (opened_of call.old) }
+    requires table { table.now.rows ≡ kinds_of parts.old.states }
+    requires opened { opened_of call.old ≡ opened_first number parts.old.names.names (begin_content begin) call.old.refusal }
+    requires fits { FitsCall (opened_first number parts.old.names.names (begin_content begin) None) }
+    requires lined { AreLined parts.old.names.births }
     requires goes { verdict.old.skip ≡ false }
     requires empty { verdict.old.findings.items ≡ [] }
     requires unheld { call.old.held.forms ≡ [] }
-    requires going { call.old.stop ≡ None }
-    ensures judged { OnOk result (IsJudged objects.now handed.now states.old (opened_of call.old) call.new verdict.new states.new) }
+    ensures judged { OnOk result (IsJudged parts.old.names.births parts.old.names.handed parts.old.states (opened_first number parts.old.names.names (begin_content begin.entry) call.old.refusal) call.new verdict.new parts.new.states) }
+    ensures passes { OnOk result (Passes parts.old (opened_of call.new) parts.new) }
     ensures refusal { call.new.refusal ≡ call.old.refusal }
     ensures chain { call.new.chain ≡ call.old.chain }
     ensures replies { call.new.replies ≡ call.old.replies }
-    ensures kinds { kinds_of states.new ≡ kinds_of states.old }
+    ensures kinds { kinds_of parts.new.states ≡ kinds_of parts.old.states }
 {
     if call.refusal.is_some() {
         Ok(())
-    } else if is_reported(objects, call.cmd, &call.args) {
-        stop_at_loader(call, verdict)?;
-        Ok(())
     } else {
-        send_down(table, states, handed, call, room, verdict)
+        judge_passed(table, parts, number, begin, room, call, verdict)
     }
 }

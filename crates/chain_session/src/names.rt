@@ -1,10 +1,10 @@
 // What the arguments of a call stand for.
-ghost use Rattle.std.specs.Prelude.{◌≡◌, map, IfOk};
+ghost use Rattle.std.specs.Prelude.{◌≡◌, ◌≤◌, length, map, OnOk};
 ghost use Rattle.trace_format.specs.Content.{arg_content};
 ghost use Rattle.replay_model.specs.Past.{argument_in, arguments_in};
 ghost use Rattle.session_tables.specs.Shown.{args_shown};
 
-use crate::room::Room;
+use crate::room::Spares;
 use object_model::Argument;
 use session_tables::NameTable;
 use std::alloc::AllocError;
@@ -22,31 +22,60 @@ fn argument(names: &NameTable, name: Option<Name>) -> Argument
     }
 }
 
-fn places_of(
-    room: &mut Room,
+// Puts what names stand for in place of what stood there.
+fn put_places(
     names: &NameTable,
     at: &[Option<Name>],
-) -> Result<Vec<Argument>, AllocError>
-    ensures { IfOk result (λ v. v.items ≡ map (argument_in names.now) at.now) }
+    places: &mut Vec<Argument>,
+) -> Result<(), AllocError>
+    ensures { OnOk result (places.new.items ≡ map (argument_in names.now) at.now) }
 {
-    let mut places = room.places.take();
+    places.clear();
     for name in at {
         places.push(argument(names, *name))?;
     }
-    Ok(places)
+    Ok(())
 }
 
-/// What the arguments of a call stand for.
-pub fn arguments(
-    room: &mut Room,
+// Leaves so many parameters at most, and keeps the room of the others.
+fn leave_at_most(count: usize, room: &mut Spares<Argument>, all: &mut Vec<Vec<Argument>>)
+    ensures { length all.new.items ≤ count }
+{
+    while count < all.len() {
+        if let Some(places) = all.pop() {
+            room.keep(places);
+        }
+    }
+}
+
+// Adds parameters up to so many.
+fn add_up_to(
+    count: usize,
+    room: &mut Spares<Argument>,
+    all: &mut Vec<Vec<Argument>>,
+) -> Result<(), AllocError>
+    requires { length all.old.items ≤ count }
+    ensures { OnOk result (length all.new.items ≡ count) }
+{
+    while all.len() < count {
+        all.push(room.take())?;
+    }
+    Ok(())
+}
+
+/// Puts what the arguments of a call stand for in place of what stood there.
+pub fn put_arguments(
+    room: &mut Spares<Argument>,
     names: &NameTable,
     args: &[TraceArg],
-) -> Result<Vec<Vec<Argument>>, AllocError>
-    ensures { IfOk result (λ v. args_shown v.items ≡ arguments_in names.now (map arg_content args.now)) }
+    all: &mut Vec<Vec<Argument>>,
+) -> Result<(), AllocError>
+    ensures { OnOk result (args_shown all.new.items ≡ arguments_in names.now (map arg_content args.now)) }
 {
-    let mut all = room.args.take();
-    for arg in args {
-        all.push(places_of(room, names, &arg.names)?)?;
+    leave_at_most(args.len(), room, all);
+    add_up_to(args.len(), room, all)?;
+    for (k, arg) in args.iter().enumerate() {
+        put_places(names, &arg.names, &mut all[k])?;
     }
-    Ok(all)
+    Ok(())
 }

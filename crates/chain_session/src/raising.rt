@@ -9,7 +9,7 @@ ghost use Rattle.dispatch_chain.specs.Seats.{kinds_of};
 ghost use Rattle.chain_session.specs.Raising.{HasAnswers, MayRaise, MayRise, chain_at, chain_raised, chain_sent, left_at, left_where, lost_of, routes_at};
 
 use crate::call::OpenCall;
-use crate::handed::HandedTable;
+use crate::name_table::NameTable;
 use crate::room::Room;
 use crate::sending::is_skipped;
 use crate::starting::{start, starts_chain};
@@ -78,7 +78,7 @@ fn raise_flagged(
     table: &DispatchTable,
     states: &mut LayerStates,
     terminator: &mut Terminator,
-    handed: &mut HandedTable,
+    names: &mut NameTable,
     call: &OpenCall,
     held: &Held,
     made: &[Born],
@@ -89,13 +89,14 @@ fn raise_flagged(
     requires answers { HasAnswers terminator.old call.now }
     requires rise { MayRise call.now.thread states.old held.now (left_at terminator.old call.now made.now).results }
     requires flags { born_where results.old ≡ born_flags made.now (lost_of call.now made.now) }
-    ensures chain { OnOk result ((forms : List CallContent) → IsHeldOf held.now (kinds_of states.old) forms → chain_at states.new terminator.new handed.new ≡ chain_sent (chain_at states.old terminator.old handed.old) call.now forms made.now) }
+    ensures chain { OnOk result ((forms : List CallContent) → IsHeldOf held.now (kinds_of states.old) forms → chain_at states.new terminator.new names.new.handed ≡ chain_sent (chain_at states.old terminator.old names.old.handed) call.now forms made.now) }
     ensures drivers { terminator.new.drivers ≡ terminator.old.drivers }
+    ensures rest { names.new ≡ record names.old { handed = names.new.handed } }
     ensures kinds { kinds_of states.new ≡ kinds_of states.old }
 {
     answer(terminator, call, results)?;
     walk_leave(table, states, call.thread, held, results)?;
-    handed.hand_each(made, results)?;
+    names.hand_each(made, results)?;
     Ok(())
 }
 
@@ -104,7 +105,7 @@ fn raise_sent(
     table: &DispatchTable,
     states: &mut LayerStates,
     terminator: &mut Terminator,
-    handed: &mut HandedTable,
+    names: &mut NameTable,
     call: &OpenCall,
     held: &Held,
     made: &[Born],
@@ -114,12 +115,13 @@ fn raise_sent(
     requires guarded { is_guarded states.old ≡ true }
     requires answers { HasAnswers terminator.old call.now }
     requires rise { MayRise call.now.thread states.old held.now (left_at terminator.old call.now made.now).results }
-    ensures chain { OnOk result ((forms : List CallContent) → IsHeldOf held.now (kinds_of states.old) forms → chain_at states.new terminator.new handed.new ≡ chain_sent (chain_at states.old terminator.old handed.old) call.now forms made.now) }
+    ensures chain { OnOk result ((forms : List CallContent) → IsHeldOf held.now (kinds_of states.old) forms → chain_at states.new terminator.new names.new.handed ≡ chain_sent (chain_at states.old terminator.old names.old.handed) call.now forms made.now) }
     ensures drivers { terminator.new.drivers ≡ terminator.old.drivers }
+    ensures rest { names.new ≡ record names.old { handed = names.new.handed } }
     ensures kinds { kinds_of states.new ≡ kinds_of states.old }
 {
     put_flags(call, made, flags)?;
-    raise_flagged(table, states, terminator, handed, call, held, made, flags)
+    raise_flagged(table, states, terminator, names, call, held, made, flags)
 }
 
 // The results of a skipped call come up to the parts that it had come to: all are lost.
@@ -149,26 +151,27 @@ pub(crate) fn raise(
     table: &mut DispatchTable,
     states: &mut LayerStates,
     terminator: &mut Terminator,
-    handed: &mut HandedTable,
+    names: &mut NameTable,
     call: &OpenCall,
     made: &[Born],
     room: &mut Room,
 ) -> Result<(), NoMemory>
     requires table { table.old.rows ≡ kinds_of states.old }
     requires may { MayRaise states.old terminator.old call.now made.now }
-    ensures chain { OnOk result ((forms : List CallContent) → IsHeldOf call.now.held (kinds_of states.old) forms → chain_at states.new terminator.new handed.new ≡ chain_raised (chain_at states.old terminator.old handed.old) call.now forms made.now) }
+    ensures chain { OnOk result ((forms : List CallContent) → IsHeldOf call.now.held (kinds_of states.old) forms → chain_at states.new terminator.new names.new.handed ≡ chain_raised (chain_at states.old terminator.old names.old.handed) call.now forms made.now) }
     ensures drivers { terminator.new.drivers ≡ terminator.old.drivers }
+    ensures rest { names.new ≡ record names.old { handed = names.new.handed } }
     ensures table { table.new.rows ≡ kinds_of states.new }
 {
     if is_skipped(call) {
         raise_skipped(table, states, call, made, &mut room.handles)
     } else if starts_chain(call) {
-        let held = start(table, states, handed, call, room)?;
+        let held = start(table, states, names.handed(), call, room)?;
         raise_sent(
             table,
             states,
             terminator,
-            handed,
+            names,
             call,
             &held,
             made,
@@ -179,7 +182,7 @@ pub(crate) fn raise(
             table,
             states,
             terminator,
-            handed,
+            names,
             call,
             &call.held,
             made,

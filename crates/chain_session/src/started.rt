@@ -18,15 +18,16 @@ ghost use Rattle.chain_session.specs.Shown.{Shows};
 use crate::beginning::begin_call;
 use crate::error::SessionError;
 use crate::finishing::finish_call;
-use crate::handed::HandedTable;
 use crate::kept::Kept;
+use crate::name_table::NameTable;
+use crate::open_calls::OpenCalls;
 use crate::opening::Beginning;
+use crate::parts::SessionParts;
 use crate::room::Room;
 use chain_build::{Chain, Setup};
 use command_tables::NoMemory;
 use dispatch_chain::{DispatchTable, Kit, LayerStates, Terminator};
 use model_driver::Driver;
-use session_tables::{NameTable, ObjectTable, RetrievedTable};
 use std::alloc::Global;
 
 /// What is kept, and the stored rows of the chain in force, which may have no parts.
@@ -35,7 +36,7 @@ pub struct Started {
     pub(crate) kept: Kept,
     table: DispatchTable,
     room: Room,
-    ghost agrees: { table.rows ≡ kinds_of kept.states },
+    ghost agrees: { table.rows ≡ kinds_of kept.parts.states },
 }
 
 // A chain of no parts.
@@ -53,19 +54,18 @@ fn no_chain(alloc: Global) -> Chain
 // Nothing is kept yet, above so many drivers.
 fn nothing(alloc: Global, drivers: u32) -> Kept
     ensures shows { (s : TraceSetup) → drivers ≡ s.drivers → Shows s result nothing_kept }
-    ensures states { result.states ≡ [] }
+    ensures states { result.parts.states ≡ [] }
 {
     Kept {
         calls: 0,
         skipped: 0,
         reports: 0,
-        names: NameTable::new(alloc),
-        objects: ObjectTable::new(alloc),
-        retrieved: RetrievedTable::new(alloc),
-        handed: HandedTable::new(alloc),
-        terminator: Terminator::new(alloc, drivers),
-        states: LayerStates::none(alloc),
-        open_calls: Vec::new(alloc),
+        parts: SessionParts {
+            states: LayerStates::none(alloc),
+            terminator: Terminator::new(alloc, drivers),
+            names: NameTable::new(alloc),
+        },
+        open_calls: OpenCalls::new(alloc),
     }
 }
 
@@ -120,7 +120,7 @@ impl Started {
         requires { CanFinish self.old.kept thread }
         ensures { OnOk result (Finishes self.old.kept self.new.kept thread lines.old.items lines.new.items) }
     {
-        let drivers = self.kept.terminator.drivers();
+        let drivers = self.kept.parts.terminator.drivers();
         finish_call(
             &mut self.table,
             &mut self.kept,

@@ -59,7 +59,7 @@ fn take_in(
     ensures states { OnOk result (states.new ≡ map (fresh_of (opened_of call.now)) table.now.rows) }
     ensures held { OnOk result (IsHeldOf held.new table.now.rows (map (λ _. base_of (opened_of call.now)) table.now.rows)) }
 {
-    let mut form = room.take_form()?;
+    let mut form = LayerCall::with_room(room.alloc, 0, 0)?;
     put_instance(handed, call, &mut room.handles, &mut form)?;
     let mut verdict = room.take_verdict();
     walk_enter(
@@ -97,7 +97,7 @@ fn new_chain(
 {
     let table = table.of_chain(room.alloc, chain)?;
     let mut states = LayerStates::new(room.alloc, chain)?;
-    let mut held = room.take_held();
+    let mut held = Held::new(room.alloc);
     take_in(&table, &mut states, handed, call, &mut held, room)?;
     Ok(NewChain {
         table,
@@ -123,7 +123,7 @@ pub(crate) fn start(
     ensures table { table.new.rows ≡ kinds_of states.new }
 {
     match &call.chain {
-        None => Ok(room.take_held()),
+        None => Ok(Held::new(room.alloc)),
         Some(chain) => {
             let started = new_chain(table, chain, handed, call, room)?;
             *table = started.table;

@@ -1,5 +1,5 @@
 use Rattle.std.proofs.Common.{◌≡◌}
-use Rattle.chain_session.proofs.call.take_first.Given as goal
+use Rattle.chain_session.proofs.open_calls.take_first.Given as goal
 
 abbrev pub invariant-loop-at : goal.invariant-loop-at
 invariant-loop-at l = l.calls ≡ l.initial.calls

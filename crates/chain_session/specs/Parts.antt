@@ -1,0 +1,16 @@
+-- What the parts of a session keep, as the definitions have it. Source: this project.
+use Rattle.std.specs.Prelude.{◌≡◌}
+use Rattle.replay_model.specs.Setup.{Setup}
+use Rattle.session_model.specs.Session.{SessionKept}
+use Rattle.chain_session.specs.declared.parts.SessionParts.{SessionParts}
+
+-- what the parts keep is what is kept here beside the open calls and the counts, under a setup
+pub record PartsShow (s : Setup) (x : SessionParts) (k : SessionKept) : Type 0 where
+  pub names : x.names.names ≡ k.names
+  pub births : x.names.births ≡ k.births
+  pub retrieved : x.names.retrieved ≡ k.retrieved
+  pub states : x.states ≡ k.chain.states
+  pub ids : x.terminator.ids ≡ k.chain.terminator
+  pub routes : x.terminator.routes ≡ k.chain.routes
+  pub handed : x.names.handed ≡ k.chain.handed
+  pub drivers : x.terminator.drivers ≡ s.drivers

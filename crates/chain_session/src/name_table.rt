@@ -1,0 +1,119 @@
+// What a session keeps of names and objects.
+ghost use Rattle.std.specs.Prelude.{◌≡◌, ◌++◌, map, OnOk};
+ghost use Rattle.command_tables.specs.Table.{row_of};
+ghost use Rattle.object_model.specs.History.{births_given, ends_by};
+ghost use Rattle.replay_model.specs.Past.{named_of, objects_of, retrieved_by};
+ghost use Rattle.session_tables.specs.Lined.{AreAdded, AreLeft, AreLined};
+ghost use Rattle.session_tables.specs.Shown.{args_shown};
+ghost use Rattle.chain_model.specs.Handed.{hand_all};
+ghost use Rattle.chain_session.specs.Names.{no_names};
+ghost use Rattle.chain_session.specs.Opened.{opened_of};
+
+use crate::call::OpenCall;
+use crate::handed::HandedTable;
+use crate::keeping::settle;
+use command_tables::Effect;
+use object_model::Argument;
+use replay_model::Born;
+use session_tables::{ObjectTable, RetrievedTable};
+use std::alloc::{AllocError, Global};
+use std::marker::Model;
+
+/// The names that stand for objects; the births of what lives; the retrieved objects with their owners and keys; and the handle of each object
+/// that was born, as it stands above the first part of the chain.
+#[derive(Drop)]
+pub struct NameTable {
+    named: session_tables::NameTable,
+    objects: ObjectTable,
+    retrieved: RetrievedTable,
+    handed: HandedTable,
+}
+
+impl Model for NameTable {
+    ghost use Rattle.chain_session.specs.Names.{NamesKept};
+
+    ghost Value = { NamesKept };
+
+    ghost view = { λ t. record { names = t.named; births = t.objects; retrieved = t.retrieved; handed = t.handed } };
+}
+
+impl NameTable {
+    /// No names and no objects. Takes no memory.
+    pub fn new(alloc: Global) -> NameTable
+        ensures { result ≡ no_names }
+    {
+        NameTable {
+            named: session_tables::NameTable::new(alloc),
+            objects: ObjectTable::new(alloc),
+            retrieved: RetrievedTable::new(alloc),
+            handed: HandedTable::new(alloc),
+        }
+    }
+
+    /// The names with their objects.
+    pub(crate) fn named(&self) -> &session_tables::NameTable
+        ensures { result.now ≡ self.now.names }
+    {
+        &self.named
+    }
+
+    /// What lives.
+    pub(crate) fn objects(&self) -> &ObjectTable
+        ensures { result.now ≡ self.now.births }
+    {
+        &self.objects
+    }
+
+    /// The retrieved objects.
+    pub(crate) fn retrieved(&self) -> &RetrievedTable
+        ensures { result.now ≡ self.now.retrieved }
+    {
+        &self.retrieved
+    }
+
+    /// The handles above the first part.
+    pub(crate) fn handed(&self) -> &HandedTable
+        ensures { result.now ≡ self.now.handed }
+    {
+        &self.handed
+    }
+
+    /// Ends what a call ends. Takes no memory.
+    pub(crate) fn end_some(&mut self, args: &[Vec<Argument>], effect: Effect)
+        requires { AreLined self.old.births }
+        ensures left { AreLeft self.old.births (ends_by self.old.births (args_shown args.now) effect) self.new.births }
+        ensures rest { self.new ≡ record self.old { births = self.new.births } }
+    {
+        self.objects.end_some(args, effect);
+    }
+
+    /// Gives each object that a call made its handle: the results that aren't lost, in turn.
+    pub(crate) fn hand_each(&mut self, made: &[Born], handles: &[u64]) -> Result<(), AllocError>
+        ensures handed { OnOk result (self.new.handed ≡ hand_all self.old.handed made.now handles.now) }
+        ensures rest { self.new ≡ record self.old { handed = self.new.handed } }
+    {
+        self.handed.hand_each(made, handles)
+    }
+
+    /// Adds what a call made: its names, its births and what it retrieved first.
+    pub(crate) fn settle(
+        &mut self,
+        alloc: Global,
+        call: &OpenCall,
+        born: &[Born],
+    ) -> Result<(), AllocError>
+        ensures names { OnOk result (self.new.names ≡ self.old.names ++ map named_of born.now) }
+        ensures births { OnOk result (AreAdded self.old.births (births_given self.old.births (args_shown call.now.args.items) (row_of call.now.cmd).effect (objects_of born.now)) self.new.births) }
+        ensures retrieved { OnOk result (self.new.retrieved ≡ self.old.retrieved ++ retrieved_by self.old.births (opened_of call.now) born.now) }
+        ensures handed { self.new.handed ≡ self.old.handed }
+    {
+        settle(
+            alloc,
+            call,
+            born,
+            &mut self.named,
+            &mut self.objects,
+            &mut self.retrieved,
+        )
+    }
+}
