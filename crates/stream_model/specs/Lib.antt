@@ -1,0 +1,6 @@
+pub mod FileLines
+pub mod Devices
+pub mod Order
+pub mod Refusals
+pub mod FileParts
+pub mod Samples
