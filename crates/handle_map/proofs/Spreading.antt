@@ -86,6 +86,7 @@ pub record Appends (pairs behind : List Pair) (spans more : List Span) (values f
   pub pairs_are : behind ≡ pairs ++ p ∷ []
   pub spans_are : more ≡ spans ++ s ∷ []
   pub values_are : flat ≡ values ++ vs
+  pub short : length values + length vs ≤ 4294967295
   pub start : s.start ≡ length values
   pub len : s.len ≡ length vs
   pub room : s.room ≡ length vs
@@ -113,6 +114,7 @@ more_entries ps behind ss more values flat vs p s spread is =
 pub more_spread : (ps behind : List Pair) (ss more : List Span) (values flat vs : List ℕ) (p : Pair) (s : Span) → IsSpread (length ps) ss values → Appends ps behind ss more values flat vs p s → IsSpread (length behind) more flat
 more_spread ps behind ss more values flat vs p s spread is = spread_same (length ps + 1) (length behind) (ss ++ s ∷ []) more (values ++ vs) flat (ap length is.pairs_are ∙ (length-append ps (p ∷ []) ∙ omega arith)) is.spans_are is.values_are (record {
   all = omega (arith, long, spread.all);
+  short = omega (arith, grown, is.short);
   within = λ q other below. within q other (omega (arith, below, long)) (nat_lt q (length ss)) refl;
   apart = λ a b other below_a below_b ne. apart a b other (omega (arith, below_a, long)) (omega (arith, below_b, long)) ne (nat_lt a (length ss)) (nat_lt b (length ss)) refl refl;
 })
@@ -152,6 +154,7 @@ more_spread ps behind ss more values flat vs p s spread is = spread_same (length
 -- the values of the span lie in the new flat list, and those of the others lie there as they were
 record IsPut (spans : List Span) (values behind : List ℕ) (place : ℕ) (s : Span) : Type 0 where
   within : place < length spans
+  short : length behind ≤ 4294967295
   fits : IsWithin behind s
   others : (q : ℕ) (other : Span) → q < length spans → q ≢ place → IsWithin behind (get_or spans q other)
   kept : (q : ℕ) (other : Span) → q < length spans → q ≢ place → values_at behind (get_or spans q other) ≡ values_at values (get_or spans q other)
@@ -182,6 +185,7 @@ swapped a b (inr h) = inl h
 put_spread : (count : ℕ) (ss : List Span) (values behind : List ℕ) (place : ℕ) (s : Span) → IsSpread count ss values → IsPut ss values behind place s → IsSpread count (set ss place s) behind
 put_spread count ss values behind place s spread is = record {
   all = long ∙ spread.all;
+  short = is.short;
   within = λ p other below. within p other (omega (arith, below, long)) (nat_eq p place) refl;
   apart = λ a b other below_a below_b ne. apart a b other (omega (arith, below_a, long)) (omega (arith, below_b, long)) ne (nat_eq a place) (nat_eq b place) refl refl;
 }
@@ -223,6 +227,7 @@ put_in_room : (count : ℕ) (ss : List Span) (values : List ℕ) (place : ℕ) (
     → IsPut ss values (written values x.start vs) place (record x { len = length vs })
 put_in_room count ss values place x vs spread within at room = record {
   within = within;
+  short = omega (arith, long, spread.short);
   fits = record { few = room; inside = omega (arith, mine.inside, long) };
   others = λ q other below ne. let w = spread.within q other below in record { few = w.few; inside = omega (arith, w.inside, long) };
   kept = λ q other below ne. kept q other (spread.within q other below) (apart q other below ne);
@@ -246,9 +251,10 @@ put_in_room count ss values place x vs spread within at room = record {
     kept q other w (inr behind) = written_other values vs x.start (get_or ss q other).start (get_or ss q other).len (inl (omega (arith, behind, w.few)))
 
 -- behind all others
-put_at_end : (count : ℕ) (ss : List Span) (values : List ℕ) (place : ℕ) (s : Span) (vs : List ℕ) → IsSpread count ss values → place < length ss → s.start ≡ length values → s.len ≡ length vs → s.room ≡ length vs → IsPut ss values (values ++ vs) place s
-put_at_end count ss values place s vs spread within start len room = record {
+put_at_end : (count : ℕ) (ss : List Span) (values : List ℕ) (place : ℕ) (s : Span) (vs : List ℕ) → IsSpread count ss values → place < length ss → length values + length vs ≤ 4294967295 → s.start ≡ length values → s.len ≡ length vs → s.room ≡ length vs → IsPut ss values (values ++ vs) place s
+put_at_end count ss values place s vs spread within short start len room = record {
   within = within;
+  short = omega (arith, long, short);
   fits = record { few = omega (arith, len, room); inside = omega (arith, long, start, room) };
   others = λ q other below ne. let w = spread.within q other below in record { few = w.few; inside = omega (arith, w.inside, long) };
   kept = λ q other below ne. let w = spread.within q other below in kept_before values vs (get_or ss q other).start (get_or ss q other).len (omega (arith, w.few, w.inside));
@@ -276,19 +282,19 @@ room_entries ps ss values flat place x vs spread within at room is =
     mine : IsWithin values x
     mine = subst (IsWithin values) (sym at) (spread.within place x within)
 
-pub end_spread : (count : ℕ) (ss : List Span) (values flat : List ℕ) (place : ℕ) (s : Span) (vs : List ℕ) → IsSpread count ss values → place < length ss → s.start ≡ length values → s.len ≡ length vs → s.room ≡ length vs → flat ≡ values ++ vs
+pub end_spread : (count : ℕ) (ss : List Span) (values flat : List ℕ) (place : ℕ) (s : Span) (vs : List ℕ) → IsSpread count ss values → place < length ss → length values + length vs ≤ 4294967295 → s.start ≡ length values → s.len ≡ length vs → s.room ≡ length vs → flat ≡ values ++ vs
     → IsSpread count (set ss place s) flat
-end_spread count ss values flat place s vs spread within start len room is =
-    subst (λ f. IsSpread count (set ss place s) f) (sym is) (put_spread count ss values (values ++ vs) place s spread (put_at_end count ss values place s vs spread within start len room))
+end_spread count ss values flat place s vs spread within short start len room is =
+    subst (λ f. IsSpread count (set ss place s) f) (sym is) (put_spread count ss values (values ++ vs) place s spread (put_at_end count ss values place s vs spread within short start len room))
 
-pub end_entries : (ps : List Pair) (ss : List Span) (values flat : List ℕ) (place : ℕ) (s : Span) (vs : List ℕ) → IsSpread (length ps) ss values → place < length ss → s.start ≡ length values → s.len ≡ length vs → s.room ≡ length vs → flat ≡ values ++ vs
+pub end_entries : (ps : List Pair) (ss : List Span) (values flat : List ℕ) (place : ℕ) (s : Span) (vs : List ℕ) → IsSpread (length ps) ss values → place < length ss → length values + length vs ≤ 4294967295 → s.start ≡ length values → s.len ≡ length vs → s.room ≡ length vs → flat ≡ values ++ vs
     → entries_of flat ps (set ss place s) ≡ put_at (entries_of values ps ss) place vs
-end_entries ps ss values flat place s vs spread within start len room is =
+end_entries ps ss values flat place s vs spread within short start len room is =
     ap (λ f. entries_of f ps (set ss place s)) is
     ∙ (put_entries ps ss values (values ++ vs) place s spread.all within put.kept ∙ ap (put_at (entries_of values ps ss) place) own)
   where
     put : IsPut ss values (values ++ vs) place s
-    put = put_at_end (length ps) ss values place s vs spread within start len room
+    put = put_at_end (length ps) ss values place s vs spread within short start len room
 
     own : values_at (values ++ vs) s ≡ vs
     own = ap (λ n. take n (drop s.start (values ++ vs))) len ∙ (ap (λ n. take (length vs) (drop n (values ++ vs))) start ∙ added_own values vs)

@@ -26,9 +26,10 @@ pub record IsWithin (values : List ℕ) (s : Span) : Type 0 where
 abbrev pub AreApart : Span → Span → Type 0
 AreApart a b = (a.start + a.room ≤ b.start) ⊎ (b.start + b.room ≤ a.start)
 
--- so many spans share the flat list
+-- so many spans share the flat list, in which a place has 32 bits
 pub record IsSpread (count : ℕ) (spans : List Span) (values : List ℕ) : Type 0 where
   pub all : length spans ≡ count
+  pub short : length values ≤ 4294967295
   pub within : (place : ℕ) (other : Span) → place < length spans → IsWithin values (slice_index_or spans place other)
   pub apart : (a b : ℕ) (other : Span) → a < length spans → b < length spans → a ≢ b → AreApart (slice_index_or spans a other) (slice_index_or spans b other)
 

@@ -4,13 +4,13 @@ ghost use Rattle.handle_map.specs.Spans.{put_at};
 ghost use Rattle.handle_map.specs.Pairs.{AreDistinct, HasSpare, greatest_id, has_pair, values_of, with_values};
 
 use crate::set::HandleSet;
-use crate::span::Span;
-use crate::values::write;
+use crate::span::{Span, span_of, with_len};
+use crate::values::{make_room, write};
 use command_tables::{NoMemory, ObjectType};
 use std::alloc::Global;
 use std::marker::Model;
 
-/// Values by type and id, in order of insertion, found through `S` chains. Contracts see besides how much can be held with no
+/// Values by type and id, in order of insertion, found through `S` chains; 4,294,967,295 values at most. Contracts see besides how much can be held with no
 /// further memory.
 #[derive(Drop)]
 pub struct HandleMap<const S: usize> {
@@ -27,7 +27,7 @@ impl<const S: usize> Model for HandleMap<S> {
 
     ghost Value = { MapState };
 
-    ghost view = { λ m. record { entries = entries_of m.values.items m.set.pairs m.spans.items; spare = min m.set.spare (vec_capacity m.spans - length m.spans.items); room = vec_capacity m.values - length m.values.items } };
+    ghost view = { λ m. record { entries = entries_of m.values.items m.set.pairs m.spans.items; spare = min m.set.spare (vec_capacity m.spans - length m.spans.items); room = min (vec_capacity m.values) 4294967295 - length m.values.items } };
 
     ghost invariant = { λ m. IsSpread (length m.set.pairs) m.spans.items m.values.items };
 }
@@ -70,7 +70,7 @@ impl<const S: usize> HandleMap<S> {
             return Err(NoMemory);
         };
         self.spans.reserve(n)?;
-        Ok(self.values.reserve(most)?)
+        make_room(&mut self.values, most)
     }
 
     /// The same for entries whose ids follow the greatest, after which so many take no memory at all.
@@ -96,22 +96,15 @@ impl<const S: usize> HandleMap<S> {
     {
         let _count = self.set.len();
         let span = self.spans[place];
-        if values.len() <= span.room {
-            write(&mut self.values, span.start, values);
-            self.spans[place] = Span {
-                len: values.len(),
-                ..span
-            };
+        if values.len() <= span.room as usize {
+            write(&mut self.values, span.start as usize, values);
+            self.spans[place] = with_len(span, values.len());
             return Ok(());
         }
-        self.values.reserve(values.len())?;
+        make_room(&mut self.values, values.len())?;
         let start = self.values.len();
         self.values.extend_from_slice(values).unwrap();
-        self.spans[place] = Span {
-            start,
-            len: values.len(),
-            room: values.len(),
-        };
+        self.spans[place] = span_of(start, values.len());
         Ok(())
     }
 
@@ -125,15 +118,10 @@ impl<const S: usize> HandleMap<S> {
         ensures room { self.old.room ≤ self.new.room + length values.now }
     {
         self.spans.reserve(1)?;
-        self.values.reserve(values.len())?;
+        make_room(&mut self.values, values.len())?;
         self.set.add(ty, id)?;
-        let start = self.values.len();
+        let span = span_of(self.values.len(), values.len());
         self.values.extend_from_slice(values).unwrap();
-        let span = Span {
-            start,
-            len: values.len(),
-            room: values.len(),
-        };
         self.spans.push(span).unwrap();
         Ok(())
     }
@@ -163,7 +151,8 @@ impl<const S: usize> HandleMap<S> {
             None => None,
             Some(place) => {
                 let span = self.spans[place];
-                Some(&self.values[span.start..span.start + span.len])
+                let start = span.start as usize;
+                Some(&self.values[start..start + span.len as usize])
             }
         }
     }

@@ -15,3 +15,5 @@ pub mod Sweeping
 pub mod Listing
 pub mod Padding
 pub mod SeenQueues
+pub mod Compacted
+pub mod Owning

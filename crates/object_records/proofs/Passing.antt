@@ -10,7 +10,7 @@ use Rattle.object_records.specs.declared.kept_owner.KeptOwner.{KeptOwner}
 use Rattle.object_records.specs.declared.kept_owner.KeptOwner.TheVariants.{Nobody, At, Unborn}
 use Rattle.object_records.specs.declared.record.ObjectRecord.{ObjectRecord}
 use Rattle.object_records.specs.Links.{IsPrevious, is_owner_at, last_link, link_by}
-use Rattle.object_records.specs.Passed.{ArePassed, IsDeadAt, IsPassed, WasNoted, WasWidened, limited, limited_at, reopened}
+use Rattle.object_records.specs.Passed.{ArePassed, IsDeadAt, IsPassed, WasNoted, WasWidened, limited, limited_at, owner_above, reopened}
 use Rattle.object_records.specs.Table.{before_owned, ended_at}
 use Rattle.object_records.proofs.Below.{past_last, take_get}
 use Rattle.object_records.proofs.Owned.{past}
@@ -104,10 +104,12 @@ zeros_widened passed next true most k long is = subst (λ ns. WasWidened passed 
 zeros_widened passed next false most k long is = subst (λ ns. WasWidened passed ns) (sym is) (none_widened passed)
 
 -- the owner's own owner is limited
-pub reopen_limits : (rs : List ObjectRecord) (passed : List ℕ) (w : KeptOwner) (place : ℕ) (d : ObjectRecord) → w ≡ At place → before_owned w ≤ length rs → limited passed (get_or rs place d).owner place ≡ reopened rs passed w
-reopen_limits rs passed w place d is low =
-    let less : place < length rs = omega (arith, low, ap before_owned is) in
-    ap (λ x. option_map_or (λ (r : ObjectRecord). limited passed r.owner place) x passed) (sym (slice_get-get_or rs place d less)) ∙ ap (λ (k : KeptOwner). reopened rs passed k) (sym is)
+pub reopen_limits : (rs : List ObjectRecord) (passed : List ℕ) (w above : KeptOwner) (place : ℕ) → w ≡ At place → above ≡ owner_above rs w → limited passed above place ≡ reopened rs passed w
+reopen_limits rs passed w above place is up = ap (λ (v : KeptOwner). limited passed v place) (up ∙ ap (owner_above rs) is) ∙ (go (slice_get rs place) ∙ ap (reopened rs passed) (sym is))
+  where
+    go : (x : Option ObjectRecord) → limited passed (option_map_or (λ (r : ObjectRecord). r.owner) x Nobody) place ≡ option_map_or (λ (r : ObjectRecord). limited passed r.owner place) x passed
+    go None = refl
+    go (Some r) = refl
 
 -- ---- a further record
 

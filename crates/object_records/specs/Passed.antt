@@ -45,3 +45,9 @@ abbrev pub reopened : List ObjectRecord → List ℕ → KeptOwner → List ℕ
 reopened rs passed Nobody = passed
 reopened rs passed (At place) = option_map_or (λ r. limited passed r.owner place) (slice_get rs place) passed
 reopened rs passed (Unborn o) = passed
+
+-- the owner of the owner's record
+abbrev pub owner_above : List ObjectRecord → KeptOwner → KeptOwner
+owner_above rs Nobody = Nobody
+owner_above rs (At place) = option_map_or (λ r. r.owner) (slice_get rs place) Nobody
+owner_above rs (Unborn o) = Nobody

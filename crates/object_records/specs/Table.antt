@@ -37,9 +37,8 @@ abbrev pub AreOwnersBefore : ℕ → List ObjectRecord → Type 0
 AreOwnersBefore k [] = Unit {0}
 AreOwnersBefore k (r ∷ rs) = (before_owned r.owner ≤ k) × AreOwnersBefore (suc k) rs
 
--- the index, the links, those between queues, what is passed over and the note of unborn owners fit the records, and their owners stand before them
-pub record IsTable (records : List ObjectRecord) (pairs : List Pair) (links queues : List Links) (passed : List ℕ) (strays : Bool) : Type 0 where
-  pub indexed : pairs ≡ pairs_kept records
+-- the links, those between queues, what is passed over and the note of unborn owners fit the records, and their owners stand before them
+pub record IsTable (records : List ObjectRecord) (links queues : List Links) (passed : List ℕ) (strays : Bool) : Type 0 where
   pub owners : AreOwnersBefore 0 records
   pub linked : AreLinked records links
   pub queued : AreLinked (queues_seen records) (padded (length records) queues)

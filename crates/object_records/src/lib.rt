@@ -6,6 +6,8 @@
 mod births;
 mod ends;
 mod kept_owner;
+mod kept_record;
+mod link_table;
 mod links;
 mod living;
 mod look_ups;
@@ -14,6 +16,7 @@ mod queue_links;
 mod queues;
 mod reading;
 mod record;
+mod record_list;
 mod record_table;
 mod records;
 

@@ -1,6 +1,6 @@
 // How what an object owns is found.
 ghost use Rattle.std.specs.Prelude.{◌≡◌, ◌≤◌, ◌<◌, ◌+◌, true, ◌&&◌, length, if◌then◌else◌, vec_capacity};
-ghost use Rattle.object_records.specs.Links.{AreFew, HasChild, last_of, linked, unlinked, with_linked};
+ghost use Rattle.object_records.specs.Links.{AreFew, last_of, linked, with_linked};
 ghost use Rattle.object_records.specs.Queues.{queue_owner};
 ghost use Rattle.object_records.specs.Table.{before_owned};
 
@@ -21,7 +21,8 @@ pub struct Links {
 
 const _: () = prove!(size_of::<Links>() == 12);
 
-fn one_if(is_child: bool) -> u32
+/// A child counts one.
+pub fn one_if(is_child: bool) -> u32
     ensures { result ≡ (if is_child then 1 else 0) }
 {
     if is_child { 1 } else { 0 }
@@ -90,37 +91,4 @@ pub fn add_links(links: &mut Vec<Links>, owner: KeptOwner, is_child: bool)
             children: 0,
         })
         .unwrap();
-}
-
-// A child of an owner lives no longer.
-fn unlink_child(links: &mut Vec<Links>, owner: KeptOwner)
-    requires within { before_owned owner ≤ length links.old.items }
-    requires child { HasChild links.old.items owner }
-    ensures links { links.new.items ≡ unlinked links.old.items owner }
-    ensures count { length links.new.items ≡ length links.old.items }
-    ensures room { vec_capacity links.new ≡ vec_capacity links.old }
-{
-    match owner {
-        KeptOwner::Nobody | KeptOwner::Unborn(_) => {}
-        KeptOwner::At(place) => {
-            let above = links[place];
-            links[place] = Links {
-                children: above.children - 1,
-                ..above
-            };
-        }
-    }
-}
-
-/// The object of a record lives no longer: its owner counts it no more, where it was a child.
-pub fn unlink(links: &mut Vec<Links>, ended: ObjectRecord)
-    requires within { before_owned ended.owner ≤ length links.old.items }
-    requires child { ended.is_created ≡ true → HasChild links.old.items ended.owner }
-    ensures links { links.new.items ≡ (if ended.is_created then unlinked links.old.items ended.owner else links.old.items) }
-    ensures count { length links.new.items ≡ length links.old.items }
-    ensures room { vec_capacity links.new ≡ vec_capacity links.old }
-{
-    if ended.is_created {
-        unlink_child(links, ended.owner);
-    }
 }

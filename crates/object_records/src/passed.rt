@@ -1,10 +1,9 @@
 // Which of what an object owns a walk need not look at.
-ghost use Rattle.std.specs.Prelude.{◌≡◌, ◌≤◌, if◌then◌else◌, length, nat_lt, slice_index_or};
-ghost use Rattle.object_records.specs.Passed.{WasNoted, WasWidened, limited, limited_at, reopened};
-ghost use Rattle.object_records.specs.Table.{before_owned};
+ghost use Rattle.std.specs.Prelude.{◌≡◌, if◌then◌else◌, nat_lt, slice_index_or, List};
+ghost use Rattle.object_records.specs.declared.record.ObjectRecord.{ObjectRecord};
+ghost use Rattle.object_records.specs.Passed.{WasNoted, WasWidened, limited, limited_at, owner_above, reopened};
 
 use crate::kept_owner::KeptOwner;
-use crate::record::ObjectRecord;
 
 /// What is noted at a place; 0 where nothing is.
 #[tactic(auto, using(crate::proofs::Padding::got_there, crate::proofs::Padding::got_past))]
@@ -56,13 +55,13 @@ fn limit(passed: &mut Vec<u32>, owner: KeptOwner, most: usize)
 }
 
 /// A further record has this owner: the owner's own owner passes over it no longer.
-pub fn reopen(passed: &mut Vec<u32>, records: &[ObjectRecord], owner: KeptOwner)
-    requires { before_owned owner ≤ length records.now }
-    ensures { passed.new.items ≡ reopened records.now passed.old.items owner }
+#[tactic(auto, using(crate::proofs::Passing::reopen_limits))]
+pub fn reopen(passed: &mut Vec<u32>, owner: KeptOwner, above: KeptOwner)
+    ensures { (records : List ObjectRecord) → above ≡ owner_above records owner → passed.new.items ≡ reopened records passed.old.items owner }
 {
     match owner {
         KeptOwner::Nobody | KeptOwner::Unborn(_) => {}
-        KeptOwner::At(place) => limit(passed, records[place].owner, place),
+        KeptOwner::At(place) => limit(passed, above, place),
     }
 }
 

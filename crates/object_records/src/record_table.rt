@@ -6,12 +6,13 @@ ghost use Rattle.object_records.specs.Queues.{queues_seen};
 ghost use Rattle.object_records.specs.Table.{LivesAt, AreOnce, AreOwnersBefore, before_owned, ended_at, objects_kept, place_in};
 
 use crate::kept_owner::has_stray;
-use crate::links::{Links, add_links, may_be_child, queue_owner, unlink};
+use crate::link_table::LinkTable;
+use crate::links::{Links, may_be_child, queue_owner};
 use crate::passed::{note, noted_at, reopen, widen_for};
 use crate::queue_links::{add_queue_links, queue_links, reserve_queues};
 use crate::record::ObjectRecord;
+use crate::record_list::RecordList;
 use command_tables::NoMemory;
-use handle_map::HandleSet;
 use object_model::Object;
 use std::alloc::Global;
 use std::marker::Model;
@@ -19,11 +20,8 @@ use std::marker::Model;
 /// The records of all objects that were born, the oldest first.
 #[derive(Drop)]
 pub struct RecordTable {
-    records: Vec<ObjectRecord>,
-    // The pairs of the objects: each stands at the place of its record. Handles of other origin come between dense ids, so that a record
-    // need not stand at the place of its id; the set has hints for that. Where ids are sparse, many chains keep the way to a pair short.
-    index: HandleSet<4096>,
-    links: Vec<Links>,
+    records: RecordList,
+    links: LinkTable,
     // The links between the queues of each owner alone, since a device may have owned much else. They count no children. Behind the latest
     // queue there are none.
     queues: Vec<Links>,
@@ -40,9 +38,9 @@ impl Model for RecordTable {
 
     ghost Value = { TableState };
 
-    ghost view = { λ t. record { records = t.records.items; spare = min (min (vec_capacity t.records - length t.records.items) (vec_capacity t.links - length t.links.items)) (min (min (vec_capacity t.queues) 4294967295 - length t.records.items) t.index.spare) } };
+    ghost view = { λ t. record { records = t.records.records; spare = min (min t.records.spare t.links.spare) (min (vec_capacity t.queues) 4294967295 - length t.records.records) } };
 
-    ghost invariant = { λ t. IsTable t.records.items t.index.pairs t.links.items t.queues.items t.passed.items t.has_strays };
+    ghost invariant = { λ t. IsTable t.records.records t.links.links t.queues.items t.passed.items t.has_strays };
 }
 
 impl RecordTable {
@@ -50,9 +48,8 @@ impl RecordTable {
         ensures { result.records ≡ [] }
     {
         RecordTable {
-            records: Vec::new(alloc),
-            index: HandleSet::new(alloc),
-            links: Vec::new(alloc),
+            records: RecordList::new(alloc),
+            links: LinkTable::new(alloc),
             queues: Vec::new(alloc),
             passed: Vec::new(alloc),
             has_strays: false,
@@ -66,36 +63,32 @@ impl RecordTable {
     }
 
     /// The place of an object's record.
-    #[tactic(auto, using(crate::proofs::Tables::place_kept, crate::proofs::Tables::once_indexed))]
     pub fn place_of(&self, object: Object) -> Option<usize>
         ensures place { result ≡ place_in self.now.records object }
         ensures owners { AreOwnersBefore 0 self.now.records }
         ensures once { AreOnce (objects_kept self.now.records) }
     {
-        self.index.place(object.ty, object.number)
+        self.records.place_of(object)
     }
 
     /// The record at a place.
-    #[tactic(auto, using(std::proofs::lemmas::Option::slice_get_read, crate::proofs::Tables::once_indexed))]
     pub fn record(&self, place: usize) -> ObjectRecord
         requires { place < length self.now.records }
         ensures found { slice_get self.now.records place ≡ Some result }
         ensures owners { AreOwnersBefore 0 self.now.records }
         ensures once { AreOnce (objects_kept self.now.records) }
     {
-        let _count = self.index.len();
-        self.records[place]
+        self.records.get(place)
     }
 
     /// Records of their own, the same.
     pub fn copy(&self) -> Result<RecordTable, NoMemory>
         ensures { IfOk result (λ table. table.records ≡ self.now.records) }
     {
-        let alloc = *self.records.allocator();
+        let alloc = *self.queues.allocator();
         Ok(RecordTable {
-            records: Vec::from_slice(alloc, &self.records)?,
-            index: self.index.copy()?,
-            links: Vec::from_slice(alloc, &self.links)?,
+            records: self.records.copy()?,
+            links: self.links.copy()?,
             queues: Vec::from_slice(alloc, &self.queues)?,
             passed: Vec::from_slice(alloc, &self.passed)?,
             has_strays: self.has_strays,
@@ -114,12 +107,10 @@ impl RecordTable {
         }
         self.records.reserve(n)?;
         self.links.reserve(n)?;
-        reserve_queues(&mut self.queues, self.records.len(), n)?;
-        self.index.reserve(n)
+        reserve_queues(&mut self.queues, self.records.len(), n)
     }
 
     /// Adds the record of an object that has none.
-    #[tactic(auto, using(crate::proofs::Tables::new_pair, crate::proofs::Tables::owners_last))]
     pub fn push(&mut self, added: ObjectRecord)
         requires new { place_in self.old.records added.object ≡ None }
         requires room { 1 ≤ self.old.spare }
@@ -128,15 +119,13 @@ impl RecordTable {
         ensures spare { self.old.spare ≤ self.new.spare + 1 }
     {
         let count = self.records.len();
-        self.index
-            .add(added.object.ty, added.object.number)
-            .unwrap();
-        add_links(&mut self.links, added.owner, may_be_child(added));
+        let above = self.records.owner_above(added.owner);
+        self.links.add(added.owner, may_be_child(added));
         add_queue_links(&mut self.queues, count, queue_owner(added));
-        reopen(&mut self.passed, self.records.as_slice(), added.owner);
+        reopen(&mut self.passed, added.owner, above);
         widen_for(&mut self.passed, added.owner);
         self.has_strays = has_stray(self.has_strays, added.owner);
-        self.records.push(added).unwrap();
+        self.records.push(added);
     }
 
     /// Whether a record has an owner that wasn't born.
@@ -152,19 +141,19 @@ impl RecordTable {
         requires { place < length self.now.records }
         ensures { result ≡ child_count self.now.records place }
     {
-        self.links[place].children as usize
+        self.links.get(place).children as usize
     }
 
     /// One more than the place of the latest record whose owner stands at a place; 0 where there is none.
-    #[tactic(auto, using(crate::proofs::Linking::last_read, crate::proofs::Tables::once_indexed))]
+    #[tactic(auto, using(crate::proofs::Linking::last_read))]
     pub fn last_owned(&self, place: usize) -> usize
         requires { place < length self.now.records }
         ensures link { result ≡ last_link self.now.records place }
         ensures owners { AreOwnersBefore 0 self.now.records }
         ensures once { AreOnce (objects_kept self.now.records) }
     {
-        let _count = self.index.len();
-        self.links[place].last_owned as usize
+        let _count = self.records.len();
+        self.links.get(place).last_owned as usize
     }
 
     /// One more than the place of the record before one at a place that has the same owner; 0 where there is none.
@@ -173,7 +162,7 @@ impl RecordTable {
         requires { place < length self.now.records }
         ensures { IsPrevious self.now.records place result }
     {
-        self.links[place].previous as usize
+        self.links.get(place).previous as usize
     }
 
     /// One more than the place of the latest queue whose owner stands at a place; 0 where there is none.
@@ -195,15 +184,15 @@ impl RecordTable {
     }
 
     /// The object of the record at a place lives no longer.
-    #[tactic(auto, using(crate::proofs::Tables::ended_index, crate::proofs::Tables::written_ended, crate::proofs::Tables::ended_owners))]
+    #[tactic(auto, using(crate::proofs::Linking::ended_length))]
     pub fn end_at(&mut self, place: usize)
         requires { LivesAt self.old.records place }
         ensures records { self.new.records ≡ ended_at self.old.records place }
         ensures spare { self.new.spare ≡ self.old.spare }
     {
-        let kept = self.records[place];
-        unlink(&mut self.links, kept);
-        self.records[place].lives = false;
+        let kept = self.records.get(place);
+        self.links.unlink(kept);
+        self.records.end_at(place);
     }
 
     /// Before which place nothing that the object of the record at a place owns lives, or owns anything itself.

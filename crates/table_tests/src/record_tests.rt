@@ -1,5 +1,5 @@
 //! A small history: an instance, its physical device, a device, and on that a descriptor pool with two sets.
-ghost use Rattle.std.specs.Prelude.{◌≡◌, ◌≤◌, length, IfOk};
+ghost use Rattle.std.specs.Prelude.{IfOk};
 ghost use Rattle.object_records.specs.Shape.{HasParams};
 
 use command_tables::{CommandId, LayerCall, ObjectType, row};
@@ -11,10 +11,9 @@ use std::test::Fail;
 
 // A call with these handles in each of its parameters.
 fn call_of(alloc: Global, cmd: CommandId, params: &[&[u64]]) -> Result<LayerCall, Fail>
-    requires { length params.now ≤ 6 }
     ensures { IfOk result (λ call. HasParams call) }
 {
-    if params.len() != row(cmd).params.len() {
+    if params.len() > 6 || params.len() != row(cmd).params.len() {
         return Err("another number of parameters".into());
     }
     let mut call = LayerCall::with_room(alloc, 0, 0).ok().ok_or("memory")?;
@@ -33,22 +32,19 @@ fn bear(
     cmd: CommandId,
     params: &[&[u64]],
     handle: u64,
-) -> Result<(), Fail>
-    requires { length params.now ≤ 6 }
-{
+) -> Result<(), Fail> {
     let call = call_of(alloc, cmd, params)?;
     records.bear(&call, &[handle]).ok().ok_or("memory")?;
     Ok(())
 }
 
+// What two sets of a pool are allocated by.
+const SETS: &[&[u64]] = &[&[3], &[4], &[7, 7]];
+
 // Two sets of the pool come back, and a lost one between them.
 #[tactic(auto, using(object_records::proofs::Once::two_once))]
 fn bear_sets(alloc: Global, records: &mut ObjectRecords) -> Result<(), Fail> {
-    let call = call_of(
-        alloc,
-        CommandId::AllocateDescriptorSets,
-        &[&[3], &[4], &[7, 7]],
-    )?;
+    let call = call_of(alloc, CommandId::AllocateDescriptorSets, SETS)?;
     records.bear(&call, &[5, 0, 6]).ok().ok_or("memory")?;
     Ok(())
 }
@@ -59,9 +55,7 @@ fn end(
     records: &mut ObjectRecords,
     cmd: CommandId,
     params: &[&[u64]],
-) -> Result<(), Fail>
-    requires { length params.now ≤ 6 }
-{
+) -> Result<(), Fail> {
     let call = call_of(alloc, cmd, params)?;
     records.end(&call);
     Ok(())
@@ -97,73 +91,61 @@ const SECOND_SET: Object = Object {
     number: 6,
 };
 
-// The results of the first three calls.
-fn with_device(alloc: Global) -> Result<ObjectRecords, Fail> {
-    let mut records = ObjectRecords::new(alloc);
-    bear(alloc, &mut records, CommandId::CreateInstance, &[], 1)?;
-    bear(
-        alloc,
-        &mut records,
-        CommandId::EnumeratePhysicalDevices,
-        &[&[1]],
-        2,
-    )?;
-    bear(alloc, &mut records, CommandId::CreateDevice, &[&[2]], 3)?;
-    Ok(records)
-}
+const OTHER_DEVICE: Object = Object {
+    ty: ObjectType::Device,
+    number: 7,
+};
 
-fn small_history(alloc: Global) -> Result<ObjectRecords, Fail> {
-    let mut records = with_device(alloc)?;
-    bear(
-        alloc,
-        &mut records,
-        CommandId::CreateDescriptorPool,
-        &[&[3]],
-        4,
-    )?;
-    bear_sets(alloc, &mut records)?;
-    Ok(records)
-}
+const OTHER_POOL: Object = Object {
+    ty: ObjectType::DescriptorPool,
+    number: 8,
+};
 
-#[test]
-fn what_is_kept_of_each_object(rt: HostRuntime) -> Result<(), Fail> {
-    let records = small_history(rt.alloc())?;
-    assert_eq!(rt; records.live_count(), 6);
-    assert!(rt; records.is_born(INSTANCE) && records.is_created(INSTANCE));
-    assert!(rt; records.is_born(PHYSICAL_DEVICE) && !records.is_created(PHYSICAL_DEVICE));
-    assert!(rt;
-        !records.is_born(Object {
-            ty: ObjectType::Buffer,
-            number: 4
-        })
-    );
-    assert_eq!(rt; records.owner(INSTANCE), None);
-    assert_eq!(rt; records.owner(PHYSICAL_DEVICE), Some(INSTANCE));
-    assert_eq!(rt; records.owner(DEVICE), Some(INSTANCE));
-    assert_eq!(rt; records.owner(SECOND_SET), Some(POOL));
-    assert_eq!(rt; records.device(FIRST_SET), Some(DEVICE));
-    assert_eq!(rt; records.device(DEVICE), Some(DEVICE));
-    assert_eq!(rt; records.device(PHYSICAL_DEVICE), None);
-    assert_eq!(rt; records.count_children(INSTANCE), 1);
-    assert_eq!(rt; records.count_children(DEVICE), 1);
-    assert_eq!(rt; records.count_children(POOL), 2);
-    Ok(())
-}
+const OTHER_SET: Object = Object {
+    ty: ObjectType::DescriptorSet,
+    number: 9,
+};
 
-#[test]
-fn what_an_object_owns_is_listed_behind_the_rest(rt: HostRuntime) -> Result<(), Fail> {
-    let records = small_history(rt.alloc())?;
-    let mut owned = Vec::new(rt.alloc());
-    owned.push(DEVICE)?;
-    records
-        .list_owned(ObjectType::DescriptorSet, POOL, &mut owned)
-        .ok()
-        .ok_or("memory")?;
-    assert_eq!(rt;
-        owned.as_slice(),
-        [DEVICE, FIRST_SET, SECOND_SET].as_slice()
-    );
-    Ok(())
+const FIRST_QUEUE: Object = Object {
+    ty: ObjectType::Queue,
+    number: 10,
+};
+
+const SECOND_QUEUE: Object = Object {
+    ty: ObjectType::Queue,
+    number: 11,
+};
+
+const OTHER_QUEUE: Object = Object {
+    ty: ObjectType::Queue,
+    number: 12,
+};
+
+// What was never made.
+const NO_BUFFER: Object = Object {
+    ty: ObjectType::Buffer,
+    number: 4,
+};
+
+// A step of a story: a call comes back with one result, two sets come back, a call goes down, or what must hold then.
+#[derive(Clone, Copy)]
+enum Step {
+    Bears(CommandId, &'static [&'static [u64]], u64),
+    BearsSets,
+    Ends(CommandId, &'static [&'static [u64]]),
+    LiveCount(usize),
+    Alive(Object),
+    // Born, and alive no longer.
+    Dead(Object),
+    NotBorn(Object),
+    Created(Object, bool),
+    Owner(Object, Option<Object>),
+    Device(Object, Option<Object>),
+    Children(Object, usize),
+    // The sets of a pool that are listed as living, behind the device.
+    LivingSets(Object, &'static [Object]),
+    // The queues of a device, dead or not.
+    Queues(Object, &'static [Object]),
 }
 
 // What of a pool's sets is listed as living, behind the device.
@@ -182,259 +164,6 @@ fn is_listed(
     Ok(listed.first() == Some(&DEVICE) && &listed[1..] == sets)
 }
 
-#[test]
-fn the_living_sets_of_a_pool_are_listed(rt: HostRuntime) -> Result<(), Fail> {
-    let mut records = small_history(rt.alloc())?;
-    assert!(rt; is_listed(rt.alloc(), &records, POOL, &[FIRST_SET, SECOND_SET])?);
-    assert!(rt; is_listed(rt.alloc(), &records, OTHER_POOL, &[])?);
-    end(
-        rt.alloc(),
-        &mut records,
-        CommandId::FreeDescriptorSets,
-        &[&[3], &[4], &[5]],
-    )?;
-    assert!(rt; is_listed(rt.alloc(), &records, POOL, &[SECOND_SET])?);
-    end(
-        rt.alloc(),
-        &mut records,
-        CommandId::ResetDescriptorPool,
-        &[&[3], &[4]],
-    )?;
-    assert!(rt; is_listed(rt.alloc(), &records, POOL, &[])?);
-    bear(
-        rt.alloc(),
-        &mut records,
-        CommandId::AllocateDescriptorSets,
-        &[&[3], &[4], &[7]],
-        9,
-    )?;
-    assert!(rt; is_listed(rt.alloc(), &records, POOL, &[OTHER_SET])?);
-    Ok(())
-}
-
-// A pool that wasn't born has no record, so its sets are looked for among all.
-#[test]
-fn the_living_sets_of_a_pool_that_nothing_gave_are_listed(rt: HostRuntime) -> Result<(), Fail> {
-    let mut records = with_device(rt.alloc())?;
-    bear_sets(rt.alloc(), &mut records)?;
-    assert!(rt; is_listed(rt.alloc(), &records, POOL, &[FIRST_SET, SECOND_SET])?);
-    assert!(rt; is_listed(rt.alloc(), &records, OTHER_POOL, &[])?);
-    end(
-        rt.alloc(),
-        &mut records,
-        CommandId::ResetDescriptorPool,
-        &[&[3], &[4]],
-    )?;
-    assert!(rt; is_listed(rt.alloc(), &records, POOL, &[])?);
-    Ok(())
-}
-
-#[test]
-fn a_reset_ends_the_sets_alone(rt: HostRuntime) -> Result<(), Fail> {
-    let mut records = small_history(rt.alloc())?;
-    end(
-        rt.alloc(),
-        &mut records,
-        CommandId::ResetDescriptorPool,
-        &[&[3], &[4]],
-    )?;
-    assert!(rt; records.is_alive(POOL) && !records.is_alive(FIRST_SET));
-    assert!(rt; records.is_born(FIRST_SET));
-    assert_eq!(rt; records.live_count(), 4);
-    assert_eq!(rt; records.count_children(POOL), 0);
-    Ok(())
-}
-
-#[test]
-fn a_free_ends_what_it_names(rt: HostRuntime) -> Result<(), Fail> {
-    let mut records = small_history(rt.alloc())?;
-    end(
-        rt.alloc(),
-        &mut records,
-        CommandId::FreeDescriptorSets,
-        &[&[3], &[4], &[0, 6]],
-    )?;
-    assert!(rt; records.is_alive(FIRST_SET) && !records.is_alive(SECOND_SET));
-    Ok(())
-}
-
-#[test]
-fn an_instance_takes_all_with_it(rt: HostRuntime) -> Result<(), Fail> {
-    let mut records = small_history(rt.alloc())?;
-    end(
-        rt.alloc(),
-        &mut records,
-        CommandId::DestroyInstance,
-        &[&[1]],
-    )?;
-    assert_eq!(rt; records.live_count(), 0);
-    Ok(())
-}
-
-#[test]
-fn a_call_is_read_by_its_handles(rt: HostRuntime) -> Result<(), Fail> {
-    let call = call_of(
-        rt.alloc(),
-        CommandId::FreeDescriptorSets,
-        &[&[3], &[4], &[0, 6]],
-    )?;
-    assert_eq!(rt; count_places(&call, 2), 2);
-    assert_eq!(rt; count_places(&call, 3), 0);
-    assert_eq!(rt; first_argument(&call, 0), Some(DEVICE));
-    assert_eq!(rt; first_argument(&call, 2), None);
-    for k in 0..count_places(&call, 2) {
-        let known = argument_at(&call, 2, k);
-        assert!(rt; known == Argument::Null || known == Argument::The(SECOND_SET));
-    }
-    Ok(())
-}
-
-#[test]
-fn what_owns_nothing_ends_alone(rt: HostRuntime) -> Result<(), Fail> {
-    let mut records = with_device(rt.alloc())?;
-    bear(
-        rt.alloc(),
-        &mut records,
-        CommandId::CreateDescriptorPool,
-        &[&[3]],
-        4,
-    )?;
-    assert_eq!(rt; records.count_children(DEVICE), 1);
-    end(
-        rt.alloc(),
-        &mut records,
-        CommandId::DestroyDescriptorPool,
-        &[&[3], &[4]],
-    )?;
-    assert!(rt; !records.is_alive(POOL) && records.is_alive(DEVICE));
-    assert_eq!(rt; records.count_children(DEVICE), 0);
-    assert_eq!(rt; records.live_count(), 3);
-    Ok(())
-}
-
-#[test]
-fn a_later_birth_of_an_owner_ends_what_names_it(rt: HostRuntime) -> Result<(), Fail> {
-    let mut records = ObjectRecords::new(rt.alloc());
-    bear(
-        rt.alloc(),
-        &mut records,
-        CommandId::CreateDescriptorPool,
-        &[&[3]],
-        4,
-    )?;
-    bear(
-        rt.alloc(),
-        &mut records,
-        CommandId::CreateDevice,
-        &[&[2]],
-        3,
-    )?;
-    assert_eq!(rt; records.count_children(DEVICE), 1);
-    end(rt.alloc(), &mut records, CommandId::DestroyDevice, &[&[3]])?;
-    assert_eq!(rt; records.live_count(), 0);
-    Ok(())
-}
-
-const OTHER_DEVICE: Object = Object {
-    ty: ObjectType::Device,
-    number: 7,
-};
-
-const OTHER_POOL: Object = Object {
-    ty: ObjectType::DescriptorPool,
-    number: 8,
-};
-
-const OTHER_SET: Object = Object {
-    ty: ObjectType::DescriptorSet,
-    number: 9,
-};
-
-// Besides, a second device of the same physical device, with a pool and one set.
-fn two_devices(alloc: Global) -> Result<ObjectRecords, Fail> {
-    let mut records = small_history(alloc)?;
-    bear(alloc, &mut records, CommandId::CreateDevice, &[&[2]], 7)?;
-    bear(
-        alloc,
-        &mut records,
-        CommandId::CreateDescriptorPool,
-        &[&[7]],
-        8,
-    )?;
-    bear(
-        alloc,
-        &mut records,
-        CommandId::AllocateDescriptorSets,
-        &[&[7], &[8], &[6]],
-        9,
-    )?;
-    Ok(records)
-}
-
-#[test]
-fn a_device_takes_what_it_owns_and_nothing_else(rt: HostRuntime) -> Result<(), Fail> {
-    let mut records = two_devices(rt.alloc())?;
-    end(rt.alloc(), &mut records, CommandId::DestroyDevice, &[&[3]])?;
-    assert!(rt; !records.is_alive(DEVICE) && !records.is_alive(POOL));
-    assert!(rt; !records.is_alive(FIRST_SET) && !records.is_alive(SECOND_SET));
-    assert!(rt; records.is_alive(OTHER_DEVICE) && records.is_alive(OTHER_POOL));
-    assert!(rt; records.is_alive(OTHER_SET) && records.is_alive(INSTANCE));
-    assert_eq!(rt; records.live_count(), 5);
-    assert_eq!(rt; records.count_children(INSTANCE), 1);
-    Ok(())
-}
-
-#[test]
-fn a_free_passes_over_nulls_and_repeats(rt: HostRuntime) -> Result<(), Fail> {
-    let mut records = two_devices(rt.alloc())?;
-    end(
-        rt.alloc(),
-        &mut records,
-        CommandId::FreeDescriptorSets,
-        &[&[3], &[4], &[5, 0, 6, 5]],
-    )?;
-    assert!(rt; !records.is_alive(FIRST_SET) && !records.is_alive(SECOND_SET));
-    assert!(rt; records.is_alive(POOL) && records.is_alive(OTHER_SET));
-    assert_eq!(rt; records.live_count(), 7);
-    Ok(())
-}
-
-// What a device owned besides its queues.
-const DEAD_BUFFERS: &[u32] = &[10, 1_000, 50_000];
-
-const FIRST_QUEUE: Object = Object {
-    ty: ObjectType::Queue,
-    number: 10,
-};
-
-const SECOND_QUEUE: Object = Object {
-    ty: ObjectType::Queue,
-    number: 11,
-};
-
-const OTHER_QUEUE: Object = Object {
-    ty: ObjectType::Queue,
-    number: 12,
-};
-
-// A buffer of the first device comes and goes.
-fn pass_buffer(alloc: Global, records: &mut ObjectRecords, handle: u64) -> Result<(), Fail> {
-    bear(alloc, records, CommandId::CreateBuffer, &[&[3]], handle)?;
-    end(alloc, records, CommandId::DestroyBuffer, &[&[3], &[handle]])
-}
-
-// The first device has a queue, so many dead buffers and a further queue; the second has one queue between these two.
-fn with_queues(alloc: Global, buffers: u32) -> Result<ObjectRecords, Fail> {
-    let mut records = two_devices(alloc)?;
-    bear(alloc, &mut records, CommandId::GetDeviceQueue, &[&[3]], 10)?;
-    bear(alloc, &mut records, CommandId::GetDeviceQueue, &[&[7]], 12)?;
-    for i in 0..buffers {
-        pass_buffer(alloc, &mut records, 20 + u64::from(i))?;
-    }
-    bear(alloc, &mut records, CommandId::GetDeviceQueue, &[&[3]], 11)?;
-    Ok(records)
-}
-
 fn has_queues(
     alloc: Global,
     records: &ObjectRecords,
@@ -449,16 +178,333 @@ fn has_queues(
     Ok(listed.as_slice() == queues)
 }
 
+// Whether a step's call is taken in, or what it says holds.
+fn goes(alloc: Global, records: &mut ObjectRecords, step: Step) -> Result<bool, Fail> {
+    match step {
+        Step::Bears(cmd, params, handle) => bear(alloc, records, cmd, params, handle)?,
+        Step::BearsSets => bear_sets(alloc, records)?,
+        Step::Ends(cmd, params) => end(alloc, records, cmd, params)?,
+        Step::LivingSets(pool, sets) => return is_listed(alloc, records, pool, sets),
+        Step::Queues(device, queues) => return has_queues(alloc, records, device, queues),
+        said => return Ok(holds(records, said)),
+    }
+    Ok(true)
+}
+
+// Whether what a step says of one object holds.
+fn holds(records: &ObjectRecords, said: Step) -> bool {
+    match said {
+        Step::LiveCount(count) => records.live_count() == count,
+        Step::Alive(object) => records.is_alive(object),
+        Step::Dead(object) => records.is_born(object) && !records.is_alive(object),
+        Step::NotBorn(object) => !records.is_born(object),
+        Step::Created(object, is) => { records.is_born(object) && records.is_created(object) == is }
+        Step::Owner(object, owner) => records.owner(object) == owner,
+        Step::Device(object, device) => records.device(object) == device,
+        Step::Children(object, count) => records.count_children(object) == count,
+        _ => false,
+    }
+}
+
+// Goes through a story.
+fn tell(
+    rt: &impl Abort,
+    alloc: Global,
+    records: &mut ObjectRecords,
+    story: &[Step],
+) -> Result<(), Fail> {
+    for (k, step) in story.iter().enumerate() {
+        assert!(rt; goes(alloc, records, *step)?, "step {k}");
+    }
+    Ok(())
+}
+
+// The records behind a story, which must have no more to say than its calls.
+fn records_of(alloc: Global, story: &[Step]) -> Result<ObjectRecords, Fail> {
+    let mut records = ObjectRecords::new(alloc);
+    for step in story {
+        if !goes(alloc, &mut records, *step)? {
+            return Err("a step of the world".into());
+        }
+    }
+    Ok(records)
+}
+
+// The results of the first three calls.
+const WITH_DEVICE: &[Step] = &[
+    Step::Bears(CommandId::CreateInstance, &[], 1),
+    Step::Bears(CommandId::EnumeratePhysicalDevices, &[&[1]], 2),
+    Step::Bears(CommandId::CreateDevice, &[&[2]], 3),
+];
+
+fn with_device(alloc: Global) -> Result<ObjectRecords, Fail> {
+    records_of(alloc, WITH_DEVICE)
+}
+
+// Besides, a pool with two sets.
+const POOL_WITH_SETS: &[Step] = &[
+    Step::Bears(CommandId::CreateDescriptorPool, &[&[3]], 4),
+    Step::BearsSets,
+];
+
+fn small_history(rt: &impl Abort, alloc: Global) -> Result<ObjectRecords, Fail> {
+    let mut records = with_device(alloc)?;
+    tell(rt, alloc, &mut records, POOL_WITH_SETS)?;
+    Ok(records)
+}
+
+// Besides, a second device of the same physical device, with a pool and one set.
+const SECOND_DEVICE: &[Step] = &[
+    Step::Bears(CommandId::CreateDevice, &[&[2]], 7),
+    Step::Bears(CommandId::CreateDescriptorPool, &[&[7]], 8),
+    Step::Bears(CommandId::AllocateDescriptorSets, &[&[7], &[8], &[6]], 9),
+];
+
+fn two_devices(rt: &impl Abort, alloc: Global) -> Result<ObjectRecords, Fail> {
+    let mut records = small_history(rt, alloc)?;
+    tell(rt, alloc, &mut records, SECOND_DEVICE)?;
+    Ok(records)
+}
+
+const SMALL: &[Step] = &[
+    Step::LiveCount(6),
+    Step::Created(INSTANCE, true),
+    Step::Created(PHYSICAL_DEVICE, false),
+    Step::NotBorn(NO_BUFFER),
+    Step::Owner(INSTANCE, None),
+    Step::Owner(PHYSICAL_DEVICE, Some(INSTANCE)),
+    Step::Owner(DEVICE, Some(INSTANCE)),
+    Step::Owner(SECOND_SET, Some(POOL)),
+    Step::Device(FIRST_SET, Some(DEVICE)),
+    Step::Device(DEVICE, Some(DEVICE)),
+    Step::Device(PHYSICAL_DEVICE, None),
+    Step::Children(INSTANCE, 1),
+    Step::Children(DEVICE, 1),
+    Step::Children(POOL, 2),
+];
+
+#[test]
+fn what_is_kept_of_each_object(rt: HostRuntime) -> Result<(), Fail> {
+    let mut records = small_history(&rt, rt.alloc())?;
+    tell(&rt, rt.alloc(), &mut records, SMALL)
+}
+
+#[test]
+fn what_an_object_owns_is_listed_behind_the_rest(rt: HostRuntime) -> Result<(), Fail> {
+    let records = small_history(&rt, rt.alloc())?;
+    let mut owned = Vec::new(rt.alloc());
+    owned.push(DEVICE)?;
+    records
+        .list_owned(ObjectType::DescriptorSet, POOL, &mut owned)
+        .ok()
+        .ok_or("memory")?;
+    assert_eq!(rt;
+        owned.as_slice(),
+        [DEVICE, FIRST_SET, SECOND_SET].as_slice()
+    );
+    Ok(())
+}
+
+const LIVING_SETS: &[Step] = &[
+    Step::LivingSets(POOL, &[FIRST_SET, SECOND_SET]),
+    Step::LivingSets(OTHER_POOL, &[]),
+    Step::Ends(CommandId::FreeDescriptorSets, &[&[3], &[4], &[5]]),
+    Step::LivingSets(POOL, &[SECOND_SET]),
+    Step::Ends(CommandId::ResetDescriptorPool, &[&[3], &[4]]),
+    Step::LivingSets(POOL, &[]),
+    Step::Bears(CommandId::AllocateDescriptorSets, &[&[3], &[4], &[7]], 9),
+    Step::LivingSets(POOL, &[OTHER_SET]),
+];
+
+#[test]
+fn the_living_sets_of_a_pool_are_listed(rt: HostRuntime) -> Result<(), Fail> {
+    let mut records = small_history(&rt, rt.alloc())?;
+    tell(&rt, rt.alloc(), &mut records, LIVING_SETS)
+}
+
+const SETS_OF_NOTHING: &[Step] = &[
+    Step::BearsSets,
+    Step::LivingSets(POOL, &[FIRST_SET, SECOND_SET]),
+    Step::LivingSets(OTHER_POOL, &[]),
+    Step::Ends(CommandId::ResetDescriptorPool, &[&[3], &[4]]),
+    Step::LivingSets(POOL, &[]),
+];
+
+// A pool that wasn't born has no record, so its sets are looked for among all.
+#[test]
+fn the_living_sets_of_a_pool_that_nothing_gave_are_listed(rt: HostRuntime) -> Result<(), Fail> {
+    let mut records = with_device(rt.alloc())?;
+    tell(&rt, rt.alloc(), &mut records, SETS_OF_NOTHING)
+}
+
+const RESET: &[Step] = &[
+    Step::Ends(CommandId::ResetDescriptorPool, &[&[3], &[4]]),
+    Step::Alive(POOL),
+    Step::Dead(FIRST_SET),
+    Step::LiveCount(4),
+    Step::Children(POOL, 0),
+];
+
+#[test]
+fn a_reset_ends_the_sets_alone(rt: HostRuntime) -> Result<(), Fail> {
+    let mut records = small_history(&rt, rt.alloc())?;
+    tell(&rt, rt.alloc(), &mut records, RESET)
+}
+
+const FREE: &[Step] = &[
+    Step::Ends(CommandId::FreeDescriptorSets, &[&[3], &[4], &[0, 6]]),
+    Step::Alive(FIRST_SET),
+    Step::Dead(SECOND_SET),
+];
+
+#[test]
+fn a_free_ends_what_it_names(rt: HostRuntime) -> Result<(), Fail> {
+    let mut records = small_history(&rt, rt.alloc())?;
+    tell(&rt, rt.alloc(), &mut records, FREE)
+}
+
+const END_OF_ALL: &[Step] = &[
+    Step::Ends(CommandId::DestroyInstance, &[&[1]]),
+    Step::LiveCount(0),
+];
+
+#[test]
+fn an_instance_takes_all_with_it(rt: HostRuntime) -> Result<(), Fail> {
+    let mut records = small_history(&rt, rt.alloc())?;
+    tell(&rt, rt.alloc(), &mut records, END_OF_ALL)
+}
+
+// What frees the second set.
+const FREED: &[&[u64]] = &[&[3], &[4], &[0, 6]];
+
+#[test]
+fn a_call_is_read_by_its_handles(rt: HostRuntime) -> Result<(), Fail> {
+    let call = call_of(rt.alloc(), CommandId::FreeDescriptorSets, FREED)?;
+    assert_eq!(rt; count_places(&call, 2), 2);
+    assert_eq!(rt; count_places(&call, 3), 0);
+    assert_eq!(rt; first_argument(&call, 0), Some(DEVICE));
+    assert_eq!(rt; first_argument(&call, 2), None);
+    for k in 0..count_places(&call, 2) {
+        let known = argument_at(&call, 2, k);
+        assert!(rt; known == Argument::Null || known == Argument::The(SECOND_SET));
+    }
+    Ok(())
+}
+
+const LONE_POOL: &[Step] = &[
+    Step::Bears(CommandId::CreateDescriptorPool, &[&[3]], 4),
+    Step::Children(DEVICE, 1),
+    Step::Ends(CommandId::DestroyDescriptorPool, &[&[3], &[4]]),
+    Step::Dead(POOL),
+    Step::Alive(DEVICE),
+    Step::Children(DEVICE, 0),
+    Step::LiveCount(3),
+];
+
+#[test]
+fn what_owns_nothing_ends_alone(rt: HostRuntime) -> Result<(), Fail> {
+    let mut records = with_device(rt.alloc())?;
+    tell(&rt, rt.alloc(), &mut records, LONE_POOL)
+}
+
+const LATE_OWNER: &[Step] = &[
+    Step::Bears(CommandId::CreateDescriptorPool, &[&[3]], 4),
+    Step::Bears(CommandId::CreateDevice, &[&[2]], 3),
+    Step::Children(DEVICE, 1),
+    Step::Ends(CommandId::DestroyDevice, &[&[3]]),
+    Step::LiveCount(0),
+];
+
+#[test]
+fn a_later_birth_of_an_owner_ends_what_names_it(rt: HostRuntime) -> Result<(), Fail> {
+    let mut records = ObjectRecords::new(rt.alloc());
+    tell(&rt, rt.alloc(), &mut records, LATE_OWNER)
+}
+
+const FIRST_DEVICE_ENDS: &[Step] = &[
+    Step::Ends(CommandId::DestroyDevice, &[&[3]]),
+    Step::Dead(DEVICE),
+    Step::Dead(POOL),
+    Step::Dead(FIRST_SET),
+    Step::Dead(SECOND_SET),
+    Step::Alive(OTHER_DEVICE),
+    Step::Alive(OTHER_POOL),
+    Step::Alive(OTHER_SET),
+    Step::Alive(INSTANCE),
+    Step::LiveCount(5),
+    Step::Children(INSTANCE, 1),
+];
+
+#[test]
+fn a_device_takes_what_it_owns_and_nothing_else(rt: HostRuntime) -> Result<(), Fail> {
+    let mut records = two_devices(&rt, rt.alloc())?;
+    tell(&rt, rt.alloc(), &mut records, FIRST_DEVICE_ENDS)
+}
+
+const FREE_TWICE: &[Step] = &[
+    Step::Ends(CommandId::FreeDescriptorSets, &[&[3], &[4], &[5, 0, 6, 5]]),
+    Step::Dead(FIRST_SET),
+    Step::Dead(SECOND_SET),
+    Step::Alive(POOL),
+    Step::Alive(OTHER_SET),
+    Step::LiveCount(7),
+];
+
+#[test]
+fn a_free_passes_over_nulls_and_repeats(rt: HostRuntime) -> Result<(), Fail> {
+    let mut records = two_devices(&rt, rt.alloc())?;
+    tell(&rt, rt.alloc(), &mut records, FREE_TWICE)
+}
+
+// What a device owned besides its queues.
+const DEAD_BUFFERS: &[u32] = &[10, 1_000, 50_000];
+
+// The first device.
+const OF_DEVICE: &[&[u64]] = &[&[3]];
+
+// A buffer of the first device comes and goes.
+fn pass_buffer(alloc: Global, records: &mut ObjectRecords, handle: u64) -> Result<(), Fail> {
+    bear(alloc, records, CommandId::CreateBuffer, OF_DEVICE, handle)?;
+    end(alloc, records, CommandId::DestroyBuffer, &[&[3], &[handle]])
+}
+
+const TWO_QUEUES: &[Step] = &[
+    Step::Bears(CommandId::GetDeviceQueue, &[&[3]], 10),
+    Step::Bears(CommandId::GetDeviceQueue, &[&[7]], 12),
+];
+
+// The first device has a queue, so many dead buffers and a further queue; the second has one queue between these two.
+fn with_queues(rt: &impl Abort, alloc: Global, buffers: u32) -> Result<ObjectRecords, Fail> {
+    let mut records = two_devices(rt, alloc)?;
+    tell(rt, alloc, &mut records, TWO_QUEUES)?;
+    for i in 0..buffers {
+        pass_buffer(alloc, &mut records, 20 + u64::from(i))?;
+    }
+    bear(
+        alloc,
+        &mut records,
+        CommandId::GetDeviceQueue,
+        OF_DEVICE,
+        11,
+    )?;
+    Ok(records)
+}
+
+const QUEUES: &[Step] = &[
+    Step::Queues(DEVICE, &[FIRST_QUEUE, SECOND_QUEUE]),
+    Step::Queues(OTHER_DEVICE, &[OTHER_QUEUE]),
+    Step::Queues(POOL, &[]),
+    Step::Ends(CommandId::DestroyDevice, &[&[3]]),
+    Step::Queues(DEVICE, &[FIRST_QUEUE, SECOND_QUEUE]),
+    Step::Dead(SECOND_QUEUE),
+    Step::Alive(OTHER_QUEUE),
+];
+
 #[test]
 fn the_queues_of_a_device_are_listed_whatever_else_it_owned(rt: HostRuntime) -> Result<(), Fail> {
     for i in 0..DEAD_BUFFERS.len() {
-        let mut records = with_queues(rt.alloc(), DEAD_BUFFERS[i])?;
-        assert!(rt; has_queues(rt.alloc(), &records, DEVICE, &[FIRST_QUEUE, SECOND_QUEUE])?);
-        assert!(rt; has_queues(rt.alloc(), &records, OTHER_DEVICE, &[OTHER_QUEUE])?);
-        assert!(rt; has_queues(rt.alloc(), &records, POOL, &[])?);
-        end(rt.alloc(), &mut records, CommandId::DestroyDevice, &[&[3]])?;
-        assert!(rt; has_queues(rt.alloc(), &records, DEVICE, &[FIRST_QUEUE, SECOND_QUEUE])?);
-        assert!(rt; !records.is_alive(SECOND_QUEUE) && records.is_alive(OTHER_QUEUE));
+        let mut records = with_queues(&rt, rt.alloc(), DEAD_BUFFERS[i])?;
+        tell(&rt, rt.alloc(), &mut records, QUEUES)?;
     }
     Ok(())
 }
@@ -486,11 +532,8 @@ const AT_DEPTHS: &[Ended] = &[
     ),
 ];
 
-fn lives_as(alloc: Global, row: &Ended) -> Result<bool, Fail> {
-    if row.1.len() > 6 {
-        return Err("too many parameters".into());
-    }
-    let mut records = small_history(alloc)?;
+fn lives_as(rt: &impl Abort, alloc: Global, row: &Ended) -> Result<bool, Fail> {
+    let mut records = small_history(rt, alloc)?;
     end(alloc, &mut records, row.0, row.1)?;
     let alive = [
         records.is_alive(INSTANCE),
@@ -504,69 +547,70 @@ fn lives_as(alloc: Global, row: &Ended) -> Result<bool, Fail> {
 #[test]
 fn what_is_owned_ends_at_each_depth(rt: HostRuntime) -> Result<(), Fail> {
     for i in 0..AT_DEPTHS.len() {
-        assert!(rt; lives_as(rt.alloc(), &AT_DEPTHS[i])?, "at {i}");
+        assert!(rt; lives_as(&rt, rt.alloc(), &AT_DEPTHS[i])?, "at {i}");
     }
     Ok(())
 }
 
+const PARAMETERS_OF_POOL: &[&[u64]] = &[&[3], &[4]];
+
+const PARAMETERS_OF_SET: &[&[u64]] = &[&[3], &[4], &[7]];
+
 #[test]
 fn each_reset_ends_the_sets_born_since_the_last(rt: HostRuntime) -> Result<(), Fail> {
-    let mut records = small_history(rt.alloc())?;
+    let alloc = rt.alloc();
+    let mut records = small_history(&rt, alloc)?;
     for handle in 10..13u64 {
         end(
-            rt.alloc(),
+            alloc,
             &mut records,
             CommandId::ResetDescriptorPool,
-            &[&[3], &[4]],
+            PARAMETERS_OF_POOL,
         )?;
         assert_eq!(rt; records.live_count(), 4);
-        bear(
-            rt.alloc(),
-            &mut records,
-            CommandId::AllocateDescriptorSets,
-            &[&[3], &[4], &[7]],
-            handle,
-        )?;
+        let allocate = CommandId::AllocateDescriptorSets;
+        bear(alloc, &mut records, allocate, PARAMETERS_OF_SET, handle)?;
         assert_eq!(rt; records.live_count(), 5);
         assert_eq!(rt; records.count_children(POOL), 1);
     }
     Ok(())
 }
 
+const BELOW_THE_DEAD: &[Step] = &[
+    Step::Ends(CommandId::DestroyDescriptorPool, &[&[3], &[4]]),
+    Step::Bears(CommandId::AllocateDescriptorSets, &[&[3], &[4], &[7]], 9),
+    Step::Dead(POOL),
+    Step::Alive(OTHER_SET),
+    Step::Ends(CommandId::DestroyDevice, &[&[3]]),
+    Step::Dead(OTHER_SET),
+    Step::LiveCount(2),
+];
+
 #[test]
 fn what_is_born_below_a_dead_pool_ends_with_the_device(rt: HostRuntime) -> Result<(), Fail> {
-    let mut records = small_history(rt.alloc())?;
-    end(
-        rt.alloc(),
-        &mut records,
-        CommandId::DestroyDescriptorPool,
-        &[&[3], &[4]],
-    )?;
-    bear(
-        rt.alloc(),
-        &mut records,
-        CommandId::AllocateDescriptorSets,
-        &[&[3], &[4], &[7]],
-        9,
-    )?;
-    assert!(rt; !records.is_alive(POOL) && records.is_alive(OTHER_SET));
-    end(rt.alloc(), &mut records, CommandId::DestroyDevice, &[&[3]])?;
-    assert!(rt; !records.is_alive(OTHER_SET));
-    assert_eq!(rt; records.live_count(), 2);
-    Ok(())
+    let mut records = small_history(&rt, rt.alloc())?;
+    tell(&rt, rt.alloc(), &mut records, BELOW_THE_DEAD)
 }
+
+// The copy ends its device behind a further buffer.
+const COPY: &[Step] = &[
+    Step::Bears(CommandId::CreateBuffer, &[&[3]], 9),
+    Step::Ends(CommandId::DestroyDevice, &[&[3]]),
+    Step::LiveCount(2),
+];
 
 // Records with so many buffers, and their copy, which goes on by itself.
 fn copy_goes_on(rt: &impl Abort, alloc: Global, buffers: u32) -> Result<(), Fail> {
     let mut records = with_device(alloc)?;
     records.reserve(3).ok().ok_or("memory")?;
     for k in 0..buffers {
+        let handle = u64::from(k) + 10;
         bear(
             alloc,
             &mut records,
             CommandId::CreateBuffer,
-            &[&[3]],
-            u64::from(k) + 10,
+            OF_DEVICE,
+            handle,
         )?;
     }
     let born = records.live_count();
@@ -575,9 +619,7 @@ fn copy_goes_on(rt: &impl Abort, alloc: Global, buffers: u32) -> Result<(), Fail
     assert_eq!(rt; copy.live_count(), born);
     assert_eq!(rt; copy.owner(DEVICE), Some(INSTANCE));
     assert_eq!(rt; copy.count_children(DEVICE) as u64, u64::from(buffers));
-    bear(alloc, &mut copy, CommandId::CreateBuffer, &[&[3]], 9)?;
-    end(alloc, &mut copy, CommandId::DestroyDevice, &[&[3]])?;
-    assert_eq!(rt; copy.live_count(), 2);
+    tell(rt, alloc, &mut copy, COPY)?;
     assert_eq!(rt; records.live_count(), born);
     assert_eq!(rt; records.count_children(DEVICE) as u64, u64::from(buffers));
     assert!(rt; records.is_alive(DEVICE));

@@ -9,4 +9,4 @@ pub returns : goal.returns
 returns c =
     rw (← c.self.view_is)
     (ap (λ (l : Links). l.last_owned) (c.queue_links.ensures ∙ ap (λ (xs : List Links). get_or xs c.args.place no_links) c.as_slice.ensures.value)
-    ∙ last_queue_read c.self.inside.records.items c.self.inside.queues.items c.args.place c.self.invariant.queued (subst (λ (s : TableState). c.args.place < length s.records) (sym c.self.view_is) c.requires))
+    ∙ last_queue_read c.self.inside.records.records c.self.inside.queues.items c.args.place c.self.invariant.queued (subst (λ (s : TableState). c.args.place < length s.records) (sym c.self.view_is) c.requires))

@@ -6,5 +6,5 @@ use Rattle.object_records.proofs.record_table.RecordTable.passed.Goals as goal
 pub returns : goal.returns
 returns c =
     rw (← c.self.view_is)
-    (subst (λ n. IsPassed c.self.inside.records.items c.args.place n) (sym (c.noted_at.ensures ∙ ap (λ (xs : List ℕ). get_or xs c.args.place 0) c.as_slice.ensures.value))
-    (passed_read c.self.inside.records.items c.self.inside.passed.items c.args.place c.self.invariant.passing))
+    (subst (λ n. IsPassed c.self.inside.records.records c.args.place n) (sym (c.noted_at.ensures ∙ ap (λ (xs : List ℕ). get_or xs c.args.place 0) c.as_slice.ensures.value))
+    (passed_read c.self.inside.records.records c.self.inside.passed.items c.args.place c.self.invariant.passing))

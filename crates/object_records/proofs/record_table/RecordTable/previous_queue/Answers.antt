@@ -9,6 +9,6 @@ use Rattle.object_records.proofs.record_table.RecordTable.previous_queue.Goals a
 pub returns : goal.returns
 returns c =
     rw (← c.self.view_is)
-    (subst (λ (l : Links). IsPrevious (queues_seen c.self.inside.records.items) c.args.place l.previous)
+    (subst (λ (l : Links). IsPrevious (queues_seen c.self.inside.records.records) c.args.place l.previous)
     (sym (c.queue_links.ensures ∙ ap (λ (xs : List Links). get_or xs c.args.place no_links) c.as_slice.ensures.value))
-    (previous_queue_read c.self.inside.records.items c.self.inside.queues.items c.args.place c.self.invariant.queued (subst (λ (s : TableState). c.args.place < length s.records) (sym c.self.view_is) c.requires)))
+    (previous_queue_read c.self.inside.records.records c.self.inside.queues.items c.args.place c.self.invariant.queued (subst (λ (s : TableState). c.args.place < length s.records) (sym c.self.view_is) c.requires)))
