@@ -9,16 +9,16 @@ use std::test::Fail;
 
 // A call of a driver, and the handles that it must be answered.
 #[derive(Clone, Copy)]
-struct Step {
-    driver: u32,
-    cmd: CommandId,
-    args: &'static [&'static [u64]],
-    asked: u32,
-    code: Option<Code>,
-    gives: &'static [u64],
+pub struct Step {
+    pub driver: u32,
+    pub cmd: CommandId,
+    pub args: &'static [&'static [u64]],
+    pub asked: u32,
+    pub code: Option<Code>,
+    pub gives: &'static [u64],
 }
 
-const fn create(driver: u32, gives: &'static [u64]) -> Step {
+pub const fn create(driver: u32, gives: &'static [u64]) -> Step {
     Step {
         driver,
         cmd: CommandId::CreateBuffer,
@@ -29,7 +29,7 @@ const fn create(driver: u32, gives: &'static [u64]) -> Step {
     }
 }
 
-const fn destroy(driver: u32, args: &'static [&'static [u64]]) -> Step {
+pub const fn destroy(driver: u32, args: &'static [&'static [u64]]) -> Step {
     Step {
         driver,
         cmd: CommandId::DestroyBuffer,
@@ -49,7 +49,7 @@ fn add(args: &mut HandleArgs<6>, handles: &[u64]) -> Result<(), Fail> {
     Ok(())
 }
 
-fn call_of(alloc: Global, step: &Step) -> Result<DriverCall, Fail> {
+pub fn call_of(alloc: Global, step: &Step) -> Result<DriverCall, Fail> {
     let mut args = HandleArgs::new(alloc);
     for handles in step.args {
         add(&mut args, handles)?;
@@ -66,18 +66,24 @@ fn call_of(alloc: Global, step: &Step) -> Result<DriverCall, Fail> {
     })
 }
 
-fn is_that_answer(reply: &DriverReply, step: &Step) -> bool {
+pub fn is_that_answer(reply: &DriverReply, step: &Step) -> bool {
     reply.code == step.code && reply.handles.as_slice() == step.gives
 }
 
-fn is_that_call(call: &DriverCall, step: &Step) -> bool {
+pub fn is_that_call(call: &DriverCall, step: &Step) -> bool {
     call.driver == step.driver
         && call.body.cmd == step.cmd
         && call.body.asked == step.asked
+        && call.body.code == step.code
         && call.body.args.len() == step.args.len()
+        && (0..call.body.args.len()).all(|p| call.body.args.param(p) == step.args[p])
 }
 
-fn tell<D: Driver>(driver: &mut D, call: &DriverCall, reply: &mut DriverReply) -> Result<(), Fail> {
+pub fn tell<D: Driver>(
+    driver: &mut D,
+    call: &DriverCall,
+    reply: &mut DriverReply,
+) -> Result<(), Fail> {
     if !call.has_shape() {
         return Err(Fail::from("no such call"));
     }
@@ -187,7 +193,7 @@ fn values_by_each_policy(rt: HostRuntime) -> Result<(), Fail> {
 }
 
 // Makes of an empty call the one for the most handles that a call can ask for.
-fn ask_for_most(call: &mut DriverCall) -> Result<(), Fail> {
+pub fn ask_for_most(call: &mut DriverCall) -> Result<(), Fail> {
     call.body.cmd = CommandId::AllocateCommandBuffers;
     call.body.asked = 1024;
     add(&mut call.body.args, &[9])?;
@@ -201,7 +207,7 @@ fn free(call: &mut DriverCall, freed: &[u64]) -> Result<(), Fail> {
     add(&mut call.body.args, freed)
 }
 
-fn has_most(reply: &DriverReply) -> bool {
+pub fn has_most(reply: &DriverReply) -> bool {
     reply.handles.len() == 1024
         && reply.handles.first() == Some(&1)
         && reply.handles.last() == Some(&1024)
@@ -245,15 +251,15 @@ fn many_values(rt: HostRuntime) -> Result<(), Fail> {
     play_one(&rt, alloc, &mut driver, 1025)
 }
 
-fn call_with(alloc: Global, handles: usize) -> Result<DriverCall, NoMemory> {
+pub fn call_with(alloc: Global, handles: usize) -> Result<DriverCall, NoMemory> {
     DriverCall::with_room(alloc, handles, 0)
 }
 
-fn reply_with(alloc: Global, handles: usize) -> Result<DriverReply, NoMemory> {
+pub fn reply_with(alloc: Global, handles: usize) -> Result<DriverReply, NoMemory> {
     DriverReply::with_room(alloc, handles)
 }
 
-fn play_one<D: Driver>(
+pub fn play_one<D: Driver>(
     rt: &impl Abort,
     alloc: Global,
     driver: &mut D,
@@ -283,7 +289,7 @@ fn what_is_recorded(rt: HostRuntime) -> Result<(), Fail> {
     Ok(())
 }
 
-fn are_recorded(rt: &impl Abort, log: &[(DriverCall, DriverReply)], steps: &[Step]) {
+pub fn are_recorded(rt: &impl Abort, log: &[(DriverCall, DriverReply)], steps: &[Step]) {
     assert_eq!(rt; log.len(), steps.len());
     for ((call, reply), step) in log.iter().zip(steps) {
         assert!(rt; is_that_call(call, step));

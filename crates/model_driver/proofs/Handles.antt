@@ -76,6 +76,12 @@ pub values_positive : (p : Policy) (back : List Bool) (n : ℕ) → are_handles 
 values_positive p back zero = refl
 values_positive p back (suc n) = both _ _ (next_positive p back) (values_positive p (with_given back (next_value p back)) n)
 
+-- so many values by a policy are an answer, where so many are due
+pub answers_due : (p : Policy) (back : List Bool) (n : ℕ) (c : DriverCallContent) (before handles : List ℕ) → before ≡ [] → handles ≡ before ++ values_given p back n → n ≡ handles_due c → IsAnsweredBy c (record { code = c.code; handles = handles })
+answers_due p back n c before handles none given due =
+    let is : handles ≡ values_given p back n = given ∙ ap (λ xs. xs ++ values_given p back n) none in
+    record { code = refl; count = ap length is ∙ (values_count p back n ∙ due); handles = ap are_handles is ∙ values_positive p back n }
+
 -- the handles that a model driver answers are an answer
 pub answers_so : (m : ModelState) (c : DriverCallContent) (r : ReplyContent) → r.code ≡ c.code → r.handles ≡ handles_for m c → IsAnsweredBy c r
 answers_so m c r code handles = record {

@@ -4,3 +4,5 @@ pub mod Handles
 pub mod Outs
 pub mod Rows
 pub mod GivenPlaces
+pub mod Flats
+pub mod Taken

@@ -1,5 +1,5 @@
 -- What a model driver keeps, for each driver of the chain by itself. Source: this project.
-use Rattle.std.specs.Prelude.{ℕ, Bool, if◌then◌else◌, ◌==◌, List, [], ◌∷◌}
+use Rattle.std.specs.Prelude.{ℕ, ◌-◌, Bool, if◌then◌else◌, ◌==◌, List, [], ◌∷◌}
 use Rattle.command_tables.specs.Calls.{DriverCallContent}
 use Rattle.model_driver.specs.declared.driver.Policy.{Policy}
 use Rattle.model_driver.specs.Driver.{handles_due}
@@ -36,3 +36,18 @@ handles_for m c = values_given m.policy (with_all_back (back_of m.given c.driver
 -- what is kept behind a call: only what its driver has given changes
 abbrev pub after_call : ModelState → DriverCallContent → ModelState
 after_call m c = record m { given = with_back_of m.given c.driver (back_after m.policy (back_of m.given c.driver) c) }
+
+-- a seat of the shared model driver: the policy by which it answers, which of the values that it gave have come back, and how
+-- many values there is still room for
+pub record SeatState : Type 0 where
+  pub policy : Policy
+  pub back : List Bool
+  pub left : ℕ
+
+-- the handles that a call at a seat is answered: the seat counts for itself, whichever driver of the chain is called
+abbrev pub handles_at_seat : SeatState → DriverCallContent → List ℕ
+handles_at_seat s c = values_given s.policy (with_all_back s.back (values_ended c)) (handles_due c)
+
+-- what a seat keeps behind a call
+abbrev pub seat_after : SeatState → DriverCallContent → SeatState
+seat_after s c = record s { back = back_after s.policy s.back c; left = s.left - handles_due c }

@@ -4,3 +4,6 @@ pub mod Policies
 pub mod GivenValues
 pub mod Books
 pub mod Laws
+pub mod Seats
+pub mod Flat
+pub mod SeatRows

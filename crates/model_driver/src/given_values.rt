@@ -106,7 +106,8 @@ fn take_back_one(back: &mut Vec<bool>, free: &mut BinaryHeap<Reverse<u64>>, valu
     }
 }
 
-fn take_back(back: &mut Vec<bool>, free: &mut BinaryHeap<Reverse<u64>>, values: &[u64])
+/// These values come back; nulls and values that were never given are no matter.
+pub fn take_back(back: &mut Vec<bool>, free: &mut BinaryHeap<Reverse<u64>>, values: &[u64])
     requires book { IsBook back.old.items (heap_items free.old) (heap_len free.old) }
     requires room { length back.old.items ≤ heap_capacity free.old }
     ensures back { back.new.items ≡ with_all_back back.old.items values.now }
@@ -120,7 +121,8 @@ fn take_back(back: &mut Vec<bool>, free: &mut BinaryHeap<Reverse<u64>>, values: 
     }
 }
 
-fn give(
+/// Adds so many values to the handles, one after another.
+pub fn give(
     policy: Policy,
     back: &mut Vec<bool>,
     free: &mut BinaryHeap<Reverse<u64>>,
@@ -134,12 +136,35 @@ fn give(
     ensures handles { handles.new.items ≡ handles.old.items ++ values_given policy back.old.items count }
     ensures back { back.new.items ≡ after_giving policy back.old.items count }
     ensures book { IsBook back.new.items (heap_items free.new) (heap_len free.new) }
-    ensures within { length back.new.items ≤ heap_capacity free.new }
+    ensures length { length back.new.items ≤ length back.old.items + count }
+    ensures capacity { vec_capacity back.old ≤ vec_capacity back.new }
+    ensures within { heap_capacity free.new ≡ heap_capacity free.old }
+    ensures room { vec_capacity handles.old ≤ vec_capacity handles.new }
 {
     for _turn in 0..count {
         let value = give_one(policy, back, free);
         handles.push(value).unwrap();
     }
+}
+
+/// Makes room for so many values more. Even after `NoMemory` no room is lost.
+pub fn make_room(
+    back: &mut Vec<bool>,
+    free: &mut BinaryHeap<Reverse<u64>>,
+    count: usize,
+) -> Result<(), NoMemory>
+    ensures values { back.new.items ≡ back.old.items }
+    ensures free { heap_items free.new ≡ heap_items free.old }
+    ensures count { heap_len free.new ≡ heap_len free.old }
+    ensures room { OnOk result (length back.new.items + count ≤ vec_capacity back.new) }
+    ensures within { OnOk result (length back.new.items + count ≤ heap_capacity free.new) }
+    ensures capacity { vec_capacity back.old ≤ vec_capacity back.new }
+    ensures capacity_free { heap_capacity free.old ≤ heap_capacity free.new }
+{
+    back.reserve(count)?;
+    let values = back.len() + count;
+    free.reserve(values.saturating_sub(free.len()))?;
+    Ok(())
 }
 
 impl GivenValues {
@@ -175,9 +200,7 @@ impl GivenValues {
         let most = count as usize;
         handles.clear();
         handles.reserve(most)?;
-        self.back.reserve(most)?;
-        let values = self.back.len() + most;
-        self.free.reserve(values.saturating_sub(self.free.len()))?;
+        make_room(&mut self.back, &mut self.free, most)?;
         take_back(&mut self.back, &mut self.free, ended);
         give(policy, &mut self.back, &mut self.free, most, handles);
         Ok(())

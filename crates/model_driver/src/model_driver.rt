@@ -39,8 +39,8 @@ impl ModelDriver {
     }
 }
 
-// The handles that come back by a call.
-fn ended(call: &DriverCall) -> &[u64]
+/// The handles that come back by a call.
+pub fn ended(call: &DriverCall) -> &[u64]
     ensures { result.now ≡ values_ended (call_shown call.now) }
 {
     match row(call.body.cmd).effect {

@@ -1,4 +1,4 @@
-use Rattle.std.proofs.Common.{◌≡◌, ◌+◌, ◌-◌, ◌∷◌, [], length, ap, arith, length-append}
+use Rattle.std.proofs.Common.{◌≡◌, ◌+◌, ◌-◌, ◌∷◌, ◌∙◌, [], length, ap, arith, length-append}
 use Rattle.model_driver.proofs.Backs.{behind_more, values_more}
 use Rattle.model_driver.proofs.given_values.give.Goals as goal
 
@@ -12,5 +12,9 @@ loop-turn-preserved c =
       book = c.give_one-value.ensures.book;
       room = omega (arith, c.loop-turn.invariant.room, c.give_one-value.ensures.length, c.give_one-value.ensures.capacity);
       free = omega (arith, c.loop-turn.invariant.free, c.give_one-value.ensures.length, c.give_one-value.ensures.free);
+      grown = omega (arith, c.loop-turn.invariant.grown, c.give_one-value.ensures.length);
+      capacity = omega (arith, c.loop-turn.invariant.capacity, c.give_one-value.ensures.capacity);
+      within = c.give_one-value.ensures.free ∙ c.loop-turn.invariant.within;
+      answered = omega (arith, c.loop-turn.invariant.answered, c.push.ensures.capacity);
       handles = omega (arith, c.loop-turn.invariant.handles, c.push.ensures.capacity, ap length pushed, length-append c.loop-turn.handles.items (c.give_one-value.result ∷ []));
     }

@@ -11,5 +11,9 @@ invariant-loop-turn l = record {
   book : IsBook l.back.items (heap_items l.free) (heap_len l.free);
   room : length l.back.items + (l.count - l._turn) ≤ vec_capacity l.back;
   free : length l.back.items + (l.count - l._turn) ≤ heap_capacity l.free;
+  grown : length l.back.items + (l.count - l._turn) ≤ length l.initial.back.items + l.count;
+  capacity : vec_capacity l.initial.back ≤ vec_capacity l.back;
+  within : heap_capacity l.free ≡ heap_capacity l.initial.free;
+  answered : vec_capacity l.initial.handles ≤ vec_capacity l.handles;
   handles : length l.handles.items + (l.count - l._turn) ≤ vec_capacity l.handles;
 }

@@ -1,0 +1,139 @@
+//! What the seats of shared drivers answer, call by call.
+use crate::driver_tests::{
+    Step, are_recorded, ask_for_most, call_of, call_with, create, destroy, has_most,
+    is_that_answer, play_one, reply_with, tell,
+};
+use model_driver::{
+    DriverCall, DriverReply, Policy, RecordingSeat, RecordingShared, SeatDriver, SharedDriver,
+    SharedModel,
+};
+use std::alloc::Global;
+use std::process::Abort;
+use std::test::Fail;
+
+fn new_seat<D: SharedDriver>(alloc: Global, driver: &D, policy: Policy) -> Result<D::Seat, Fail> {
+    Ok(driver.seat(alloc, policy, 0, 0, 0)?)
+}
+
+fn play_at<D: SharedDriver>(
+    rt: &impl Abort,
+    alloc: Global,
+    driver: &D,
+    seat: D::Seat,
+    steps: &[Step],
+) -> Result<D::Seat, Fail> {
+    let mut at = SeatDriver::new(driver, seat);
+    let mut reply = reply_with(alloc, 0)?;
+    for step in steps {
+        let call = call_of(alloc, step)?;
+        tell(&mut at, &call, &mut reply)?;
+        assert!(rt; is_that_answer(&reply, step), "{:?}", reply.handles);
+    }
+    Ok(at.into_seat())
+}
+
+// Each counts over all drivers of the chain, and none sees what another gave.
+#[test]
+fn each_seat_counts_for_itself(rt: HostRuntime) -> Result<(), Fail> {
+    let alloc = rt.alloc();
+    let driver = SharedModel::new();
+    let fresh = new_seat(alloc, &driver, Policy::Fresh)?;
+    let reuse = new_seat(alloc, &driver, Policy::Reuse)?;
+    let share = new_seat(alloc, &driver, Policy::Share)?;
+    let steps = [
+        create(0, &[1]),
+        create(1, &[2]),
+        destroy(0, &[&[9], &[1]]),
+        create(0, &[3]),
+    ];
+    let fresh = play_at(&rt, alloc, &driver, fresh, &steps)?;
+    let steps = [
+        create(0, &[1]),
+        create(1, &[2]),
+        destroy(1, &[&[9], &[1]]),
+        create(0, &[1]),
+        create(0, &[3]),
+    ];
+    play_at(&rt, alloc, &driver, reuse, &steps)?;
+    play_at(
+        &rt,
+        alloc,
+        &driver,
+        share,
+        &[create(0, &[1]), create(1, &[1])],
+    )?;
+    play_at(&rt, alloc, &driver, fresh, &[create(0, &[4])])?;
+    Ok(())
+}
+
+fn logged(
+    alloc: Global,
+    seats: &[RecordingSeat<<SharedModel as SharedDriver>::Seat>],
+) -> Result<Vec<(DriverCall, DriverReply)>, Fail> {
+    let mut out = Vec::new(alloc);
+    for seat in seats {
+        seat.log(&mut out)?;
+    }
+    Ok(out)
+}
+
+#[test]
+fn what_each_seat_records(rt: HostRuntime) -> Result<(), Fail> {
+    let alloc = rt.alloc();
+    let driver = RecordingShared::new(SharedModel::new());
+    let first = new_seat(alloc, &driver, Policy::Fresh)?;
+    let second = new_seat(alloc, &driver, Policy::Reuse)?;
+    let steps = [
+        create(3, &[1]),
+        destroy(1, &[&[9], &[1]]),
+        create(0, &[2]),
+        destroy(0, &[&[9], &[0]]),
+        create(0, &[3]),
+        create(2, &[1]),
+    ];
+    let (front, back) = steps.split_at(5);
+    let first = play_at(&rt, alloc, &driver, first, front)?;
+    let second = play_at(&rt, alloc, &driver, second, back)?;
+    let seats = vec![in alloc; first, second]?;
+    let log = logged(alloc, &seats)?;
+    are_recorded(&rt, &log, &steps);
+    Ok(())
+}
+
+fn starts_with_most(log: &[(DriverCall, DriverReply)]) -> bool {
+    match log.first() {
+        Some((call, reply)) => call.body.asked == 1024 && has_most(reply),
+        None => false,
+    }
+}
+
+fn ends_with(log: &[(DriverCall, DriverReply)], value: u64) -> bool {
+    match log.last() {
+        Some((_, reply)) => reply.handles.as_slice() == [value].as_slice(),
+        None => false,
+    }
+}
+
+// A seat with room for as many calls as a file of streams can have, the most handles that one call can ask for, and then
+// a thousand calls.
+#[test]
+fn many_calls_at_a_seat(rt: HostRuntime) -> Result<(), Fail> {
+    let alloc = rt.alloc();
+    let driver = RecordingShared::new(SharedModel::new());
+    let seat = driver.seat(alloc, Policy::Reuse, 131_072, 262_144, 1_048_576)?;
+    let mut call = call_with(alloc, 1026)?;
+    ask_for_most(&mut call)?;
+    let mut reply = reply_with(alloc, 0)?;
+    let mut at = SeatDriver::new(&driver, seat);
+    tell(&mut at, &call, &mut reply)?;
+    assert!(rt; has_most(&reply));
+    for value in 1025..2025 {
+        play_one(&rt, alloc, &mut at, value)?;
+    }
+    let seats = vec![in alloc; at.into_seat()]?;
+    let log = logged(alloc, &seats)?;
+    assert_eq!(rt; log.len(), 1001);
+    assert!(rt; starts_with_most(&log));
+    assert!(rt; ends_with(&log, 2024));
+    Ok(())
+}
