@@ -17,7 +17,7 @@ use Rattle.chain_session.specs.Standing.{Advances, CanCome, CutBefore, ShowsOnce
 use Rattle.chain_session.specs.Telling.{FrontAsked}
 use Rattle.chain_session.proofs.Told.{none_asked}
 
-replies_long : (calls : List DriverCallContent) (own : List ReplyContent) → AreRepliesTo calls own → length own ≡ length calls
+pub replies_long : (calls : List DriverCallContent) (own : List ReplyContent) → AreRepliesTo calls own → length own ≡ length calls
 replies_long [] [] h = refl
 replies_long [] (r ∷ own) h = absurd h
 replies_long (c ∷ calls) [] h = absurd h

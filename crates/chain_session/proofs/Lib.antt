@@ -25,5 +25,10 @@ pub mod Guarded
 pub mod Returning
 pub mod Within
 pub mod Ended
+pub mod Entered
+pub mod Recalled
+pub mod CameUp
+pub mod Departing
+pub mod PartsStood
 pub mod CameBack
 pub mod Held

@@ -131,7 +131,7 @@ fn tell_and_keep<D: Driver>(
     let mut call = call;
     let number = call.number;
     send(
-        room.alloc,
+        &mut room.replies,
         &kept.parts.terminator,
         &mut call,
         &mut room.targets,

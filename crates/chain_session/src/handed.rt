@@ -1,5 +1,5 @@
 // The handles of objects above the first part of a chain.
-ghost use Rattle.std.specs.Prelude.{◌≡◌, [], OnOk, OnErr};
+ghost use Rattle.std.specs.Prelude.{◌≡◌, [], IfOk, OnOk, OnErr};
 ghost use Rattle.chain_model.specs.Handed.{hand_all, hand_one, handle_in};
 
 use object_model::Object;
@@ -19,7 +19,7 @@ pub struct HandedEntry {
 #[derive(Drop)]
 pub struct HandedTable {
     list: Vec<HandedEntry>,
-    places: ObjectMap<usize>,
+    places: ObjectMap<u32>,
 }
 
 impl Model for HandedTable {
@@ -34,6 +34,13 @@ impl Model for HandedTable {
     ghost view = { λ t. handed_shown t.list.items };
 
     ghost invariant = { λ t. (o : Object) → kept t.places o ≡ place_in t.list.items o };
+}
+
+// The place behind so many. Places have 32 bits.
+fn place_of(count: usize) -> Result<u32, AllocError>
+    ensures { IfOk result (λ place. place ≡ count) }
+{
+    u32::try_from(count).ok().ok_or(AllocError)
 }
 
 impl HandedTable {
@@ -53,23 +60,25 @@ impl HandedTable {
     {
         match self.places.get(object) {
             None => 0,
-            Some(place) => self.list[place].handle,
+            Some(place) => self.list[place as usize].handle,
         }
     }
 
-    /// Gives an object this handle in place of the one that it had, in memory up to the object's number.
+    /// Gives an object this handle in place of the one that it had, in memory up to the object's number. `AllocError` comes too where 2^32
+    /// objects have one.
     pub fn hand(&mut self, object: Object, handle: u64) -> Result<(), AllocError>
         ensures ok { OnOk result (self.new ≡ hand_one object handle self.old) }
         ensures err { OnErr result (self.new ≡ self.old) }
     {
         match self.places.get(object) {
             Some(place) => {
-                self.list[place].handle = handle;
+                self.list[place as usize].handle = handle;
                 Ok(())
             }
             None => {
                 self.list.reserve(1)?;
-                self.places.put(object, self.list.len())?;
+                let place = place_of(self.list.len())?;
+                self.places.put(object, place)?;
                 self.list.push(HandedEntry { object, handle })?;
                 Ok(())
             }

@@ -1,8 +1,9 @@
 // What a session keeps of names and objects.
-ghost use Rattle.std.specs.Prelude.{◌≡◌, ◌++◌, map, OnOk};
+ghost use Rattle.std.specs.Prelude.{◌≡◌, ◌++◌, map, IfOk, OnOk};
 ghost use Rattle.command_tables.specs.Table.{row_of};
 ghost use Rattle.object_model.specs.History.{births_given, ends_by};
-ghost use Rattle.replay_model.specs.Past.{named_of, objects_of, retrieved_by};
+ghost use Rattle.trace_format.specs.Content.{arg_content};
+ghost use Rattle.replay_model.specs.Past.{arguments_in, named_of, objects_of, retrieved_by};
 ghost use Rattle.session_tables.specs.Lined.{AreAdded, AreLeft, AreLined};
 ghost use Rattle.session_tables.specs.Shown.{args_shown};
 ghost use Rattle.chain_model.specs.Handed.{hand_all};
@@ -12,12 +13,16 @@ ghost use Rattle.chain_session.specs.Opened.{opened_of};
 use crate::call::OpenCall;
 use crate::handed::HandedTable;
 use crate::keeping::settle;
+use crate::names::put_arguments;
+use crate::room::Room;
 use command_tables::Effect;
 use object_model::Argument;
 use replay_model::Born;
 use session_tables::{ObjectTable, RetrievedTable};
 use std::alloc::{AllocError, Global};
 use std::marker::Model;
+use std::mem;
+use trace_format::TraceArg;
 
 /// The names that stand for objects; the births of what lives; the retrieved objects with their owners and keys; and the handle of each object
 /// that was born, as it stands above the first part of the chain.
@@ -27,6 +32,9 @@ pub struct NameTable {
     objects: ObjectTable,
     retrieved: RetrievedTable,
     handed: HandedTable,
+    // Room for what the arguments of a call that enters stand for, and for what its steps and those of its return need.
+    args: Vec<Vec<Argument>>,
+    room: Room,
 }
 
 impl Model for NameTable {
@@ -47,6 +55,8 @@ impl NameTable {
             objects: ObjectTable::new(alloc),
             retrieved: RetrievedTable::new(alloc),
             handed: HandedTable::new(alloc),
+            args: Vec::new(alloc),
+            room: Room::new(alloc),
         }
     }
 
@@ -76,6 +86,46 @@ impl NameTable {
         ensures { result.now ≡ self.now.handed }
     {
         &self.handed
+    }
+
+    /// What the arguments of a call stand for, in room that is kept.
+    pub(crate) fn read(&mut self, args: &[TraceArg]) -> Result<Vec<Vec<Argument>>, AllocError>
+        ensures args { IfOk result (λ v. args_shown v.items ≡ arguments_in self.old.names (map arg_content args.now)) }
+        ensures same { self.new ≡ self.old }
+    {
+        let mut all = mem::replace(&mut self.args, Vec::new(self.room.alloc));
+        put_arguments(&mut self.room.places, &self.named, args, &mut all)?;
+        Ok(all)
+    }
+
+    /// Takes the room for the handles of one parameter.
+    pub(crate) fn take_handles(&mut self) -> Vec<u64>
+        ensures { self.new ≡ self.old }
+    {
+        mem::replace(&mut self.room.handles, Vec::new(self.room.alloc))
+    }
+
+    /// Keeps what was read, and the handles, for their room.
+    pub(crate) fn keep_read(&mut self, args: Vec<Vec<Argument>>, handles: Vec<u64>)
+        ensures { self.new ≡ self.old }
+    {
+        self.args = args;
+        self.room.handles = handles;
+    }
+
+    /// Takes the room for the steps of a return.
+    pub(crate) fn take_room(&mut self) -> Room
+        ensures { self.new ≡ self.old }
+    {
+        let alloc = self.room.alloc;
+        mem::replace(&mut self.room, Room::new(alloc))
+    }
+
+    /// Keeps that room.
+    pub(crate) fn keep_room(&mut self, room: Room)
+        ensures { self.new ≡ self.old }
+    {
+        self.room = room;
     }
 
     /// Ends what a call ends. Takes no memory.

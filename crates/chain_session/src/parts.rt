@@ -1,21 +1,29 @@
 // What a begin and a return change of a session, beside its open calls and counts.
-ghost use Rattle.std.specs.Prelude.{◌≡◌, [], false, OnOk};
+ghost use Rattle.std.specs.Prelude.{◌≡◌, [], false, map, IfOk, OnOk};
 ghost use Rattle.command_tables.specs.Calls.{call_content};
 ghost use Rattle.replay_model.specs.Past.{Opened, is_skipped};
 ghost use Rattle.session_model.specs.Living.{ArePast};
 ghost use Rattle.session_tables.specs.Lined.{AreLined};
 ghost use Rattle.session_tables.specs.Shown.{args_shown};
 ghost use Rattle.dispatch_chain.specs.Seats.{kinds_of};
+ghost use Rattle.trace_format.specs.Content.{content};
+ghost use Rattle.chain_session.specs.Entering.{CanEnter, CanEnterAt, Enters, EntersAt};
+ghost use Rattle.model_driver.specs.Driver.{reply_shown};
 ghost use Rattle.chain_session.specs.Judging.{ComesDown, FitsCall};
+ghost use Rattle.chain_session.specs.Leaving.{CanLeave, CanLeaveAt, Leaves, LeavesAt};
 ghost use Rattle.chain_session.specs.Opening.{begin_content, opened_read};
 
 use crate::judging::look;
+use crate::leaving::leave_sent;
 use crate::name_table::NameTable;
 use crate::opening::Beginning;
+use crate::raising::raise_lost;
 use command_tables::{CommandId, LayerCall, NoMemory, row};
 use dispatch_chain::{DispatchTable, Held, LayerStates, Terminator};
 use lifetime_layer::Verdict;
+use model_driver::DriverReply;
 use object_model::Argument;
+use trace_format::Event;
 
 /// What the parts of the chain keep, what its end keeps, and the names with their objects.
 #[derive(Drop)]
@@ -77,5 +85,159 @@ impl SessionParts {
         )?;
         end_some(&mut self.names, begin.cmd, args, verdict.skip);
         Ok(())
+    }
+
+    // The begin of a call enters, by what it says.
+    fn enter_with(
+        &mut self,
+        table: &DispatchTable,
+        number: u64,
+        begin: Beginning,
+        call: &mut LayerCall,
+        held: &mut Held,
+        verdict: &mut Verdict,
+    ) -> Result<(), NoMemory>
+        requires table { table.now.rows ≡ kinds_of self.old.states }
+        requires can { CanEnter self.old number (begin_content begin) }
+        requires goes { verdict.old.skip ≡ false }
+        requires empty { verdict.old.findings.items ≡ [] }
+        requires unheld { held.old.forms ≡ [] }
+        ensures ok { OnOk result (Enters self.old number (begin_content begin.entry) (call_content call.new) held.new verdict.new self.new) }
+        ensures kinds { kinds_of self.new.states ≡ kinds_of self.old.states }
+    {
+        let args = self.names.read(begin.args)?;
+        let mut handles = self.names.take_handles();
+        self.come_down(
+            table,
+            number,
+            begin,
+            &args,
+            &mut handles,
+            call,
+            held,
+            verdict,
+        )?;
+        self.names.keep_read(args, handles);
+        Ok(())
+    }
+
+    /// The begin of a call enters, which isn't that of a `vkCreateInstance` whose chain is refused. In `verdict` stands what the loader or the
+    /// parts of the chain in force, whose rows `table` has, find at it, and whether it is skipped for that. Where it isn't skipped, `call` is
+    /// then the call below the last part, of which the terminator makes what the drivers are told. `held` holds it for its return. After
+    /// `NoMemory` all is for dropping.
+    pub fn enter(
+        &mut self,
+        table: &DispatchTable,
+        number: u64,
+        event: &Event,
+        call: &mut LayerCall,
+        held: &mut Held,
+        verdict: &mut Verdict,
+    ) -> Result<(), NoMemory>
+        requires table { table.now.rows ≡ kinds_of self.old.states }
+        requires can { CanEnterAt self.old number (content event.now) }
+        ensures ok { OnOk result (EntersAt self.old number (content event.now) (call_content call.new) held.new verdict.new self.new) }
+        ensures kinds { kinds_of self.new.states ≡ kinds_of self.old.states }
+    {
+        match event {
+            Event::Return { .. } => Ok(()),
+            Event::Begin {
+                thread,
+                cmd,
+                args,
+                results,
+                code,
+                payload,
+            } => {
+                let begin = Beginning {
+                    thread: *thread,
+                    cmd: *cmd,
+                    args,
+                    results,
+                    code: *code,
+                    payload,
+                };
+                held.clear();
+                verdict.findings.clear();
+                verdict.skip = false;
+                self.enter_with(table, number, begin, call, held, verdict)
+            }
+        }
+    }
+
+    // The call of a begin leaves, by what it says.
+    #[tactic(auto, using(crate::proofs::Departing::can_guarded, crate::proofs::Departing::leaves_skipped))]
+    fn leave_with(
+        &mut self,
+        table: &DispatchTable,
+        begin: Beginning,
+        call: &LayerCall,
+        held: &Held,
+        skipped: bool,
+        replies: &[DriverReply],
+        results: &mut Vec<u64>,
+    ) -> Result<u32, NoMemory>
+        requires table { table.now.rows ≡ kinds_of self.old.states }
+        requires can { CanLeave self.old (begin_content begin) (call_content call.now) held.now skipped (map reply_shown replies.now) }
+        ensures ok { IfOk result (Leaves self.old (begin_content begin.entry) (call_content call.now) held.now skipped (map reply_shown replies.now) self.new) }
+        ensures kinds { kinds_of self.new.states ≡ kinds_of self.old.states }
+    {
+        if skipped {
+            raise_lost(
+                table,
+                &mut self.states,
+                begin.thread,
+                held,
+                begin.results,
+                results,
+            )?;
+            Ok(0)
+        } else {
+            let born = leave_sent(table, self, begin, call, held, replies, results)?;
+            let count = u32::try_from(born).ok().ok_or(NoMemory)?;
+            Ok(count)
+        }
+    }
+
+    /// The call of a begin leaves, which isn't that of a `vkCreateInstance` that makes the instance. `call`, `held` and `verdict` are what
+    /// `enter` left of it, and `replies` are its drivers', one for each call that they were told, in that order; a skipped one has none. What
+    /// is born of it is kept, and the answer is how many of its results are born. `results` is any memory for them. A count that would pass
+    /// 32 bits is refused as want of memory. After `NoMemory` all is for dropping.
+    pub fn leave(
+        &mut self,
+        table: &DispatchTable,
+        event: &Event,
+        call: &LayerCall,
+        held: &Held,
+        verdict: &Verdict,
+        replies: &[DriverReply],
+        results: &mut Vec<u64>,
+    ) -> Result<u32, NoMemory>
+        requires table { table.now.rows ≡ kinds_of self.old.states }
+        requires can { CanLeaveAt self.old (content event.now) (call_content call.now) held.now verdict.now.skip (map reply_shown replies.now) }
+        ensures ok { IfOk result (LeavesAt self.old (content event.now) (call_content call.now) held.now verdict.now.skip (map reply_shown replies.now) self.new) }
+        ensures kinds { kinds_of self.new.states ≡ kinds_of self.old.states }
+    {
+        match event {
+            Event::Return { .. } => Ok(0),
+            Event::Begin {
+                thread,
+                cmd,
+                args,
+                results: names,
+                code,
+                payload,
+            } => {
+                let begin = Beginning {
+                    thread: *thread,
+                    cmd: *cmd,
+                    args,
+                    results: names,
+                    code: *code,
+                    payload,
+                };
+                self.leave_with(table, begin, call, held, verdict.skip, replies, results)
+            }
+        }
     }
 }

@@ -1,5 +1,5 @@
 // The results of a call come up at its return.
-ghost use Rattle.std.specs.Prelude.{◌≡◌, ◌++◌, List, map, true, OnOk};
+ghost use Rattle.std.specs.Prelude.{◌≡◌, ◌++◌, List, drop, length, map, true, OnOk};
 ghost use Rattle.command_tables.specs.Calls.{CallContent};
 ghost use Rattle.layer_model.specs.Walks.{is_guarded, leave_parts};
 ghost use Rattle.chain_model.specs.Simulated.{born_flags};
@@ -39,26 +39,37 @@ fn flag_lost(lost: &[Name], flags: &mut Vec<u64>) -> Result<(), AllocError>
     Ok(())
 }
 
-// The results that are lost, where these are born.
+/// The results that are lost, where these are born.
 #[tactic(auto, using(std::proofs::lemmas::List::drop_all))]
-fn lost_results<'a>(call: &'a OpenCall, made: &[Born]) -> &'a [Name]
-    ensures { result.now ≡ lost_of call.now made.now }
+pub(crate) fn lost_results<'a>(results: &'a [Name], made: &[Born]) -> &'a [Name]
+    ensures { result.now ≡ drop (length made.now) results.now }
 {
-    if made.len() < call.results.len() {
-        &call.results[made.len()..]
+    if made.len() < results.len() {
+        &results[made.len()..]
     } else {
         &[]
     }
 }
 
-// Which results are born.
+// Those of an open call.
+fn lost_by<'a>(call: &'a OpenCall, made: &[Born]) -> &'a [Name]
+    ensures { result.now ≡ lost_of call.now made.now }
+{
+    lost_results(&call.results, made)
+}
+
+/// Which results are born, in place of what stood there.
 #[tactic(auto, using(crate::proofs::Rising::flags_so))]
-fn put_flags(call: &OpenCall, made: &[Born], flags: &mut Vec<u64>) -> Result<(), AllocError>
-    ensures { OnOk result (born_where flags.new.items ≡ born_flags made.now (lost_of call.now made.now)) }
+pub(crate) fn put_flags(
+    made: &[Born],
+    lost: &[Name],
+    flags: &mut Vec<u64>,
+) -> Result<(), AllocError>
+    ensures { OnOk result (born_where flags.new.items ≡ born_flags made.now lost.now) }
 {
     flags.clear();
     flag_born(made, flags)?;
-    flag_lost(lost_results(call, made), flags)
+    flag_lost(lost, flags)
 }
 
 // What the terminator makes of the replies of a call, by the flags of its results.
@@ -120,12 +131,32 @@ fn raise_sent(
     ensures rest { names.new ≡ record names.old { handed = names.new.handed } }
     ensures kinds { kinds_of states.new ≡ kinds_of states.old }
 {
-    put_flags(call, made, flags)?;
+    put_flags(made, lost_by(call, made), flags)?;
     raise_flagged(table, states, terminator, names, call, held, made, flags)
 }
 
-// The results of a skipped call come up to the parts that it had come to: all are lost.
+/// Lost results of a skipped call come up to the parts that it had come to. `results` is any memory for them.
 #[tactic(auto, using(crate::proofs::Rising::lost_all))]
+pub(crate) fn raise_lost(
+    table: &DispatchTable,
+    states: &mut LayerStates,
+    thread: u32,
+    held: &Held,
+    lost: &[Name],
+    results: &mut Vec<u64>,
+) -> Result<(), NoMemory>
+    requires table { table.now.rows ≡ kinds_of states.old }
+    requires guarded { is_guarded states.old ≡ true }
+    ensures states { OnOk result ((forms : List CallContent) → IsHeldOf held.now (kinds_of states.old) forms → states.new ≡ (leave_parts thread states.old forms (map (λ _. 0) lost.now)).states) }
+    ensures kinds { kinds_of states.new ≡ kinds_of states.old }
+{
+    results.clear();
+    flag_lost(lost, results)?;
+    results_are_once();
+    walk_leave(table, states, thread, held, results)
+}
+
+// The results of a skipped call come up to the parts that it had come to: all are lost.
 fn raise_skipped(
     table: &DispatchTable,
     states: &mut LayerStates,
@@ -138,10 +169,8 @@ fn raise_skipped(
     ensures states { OnOk result ((forms : List CallContent) → IsHeldOf call.now.held (kinds_of states.old) forms → states.new ≡ (leave_parts call.now.thread states.old forms (map (λ _. 0) (lost_of call.now made.now))).states) }
     ensures kinds { kinds_of states.new ≡ kinds_of states.old }
 {
-    results.clear();
-    flag_lost(lost_results(call, made), results)?;
-    results_are_once();
-    walk_leave(table, states, call.thread, &call.held, results)
+    let lost = lost_by(call, made);
+    raise_lost(table, states, call.thread, &call.held, lost, results)
 }
 
 /// The results of a call come up to those above the first part. Where the call makes the instance and was sent, its chain comes in force

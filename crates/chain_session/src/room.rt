@@ -4,7 +4,7 @@ ghost use Rattle.std.specs.Prelude.{◌≡◌, [], false};
 use crate::call::OpenCall;
 use command_tables::NoMemory;
 use lifetime_layer::Verdict;
-use model_driver::DriverCall;
+use model_driver::{DriverCall, DriverReply};
 use object_model::Argument;
 use replay_model::Born;
 use std::alloc::Global;
@@ -43,6 +43,40 @@ impl<T: Drop> Spares<T> {
     }
 }
 
+/// Replies that are filled again.
+#[derive(Drop)]
+pub(crate) struct SpareReplies {
+    alloc: Global,
+    replies: Vec<DriverReply>,
+}
+
+impl SpareReplies {
+    fn new(alloc: Global) -> SpareReplies {
+        SpareReplies {
+            alloc,
+            replies: Vec::new(alloc),
+        }
+    }
+
+    /// A reply, whatever it is.
+    pub(crate) fn take(&mut self) -> DriverReply {
+        match self.replies.pop() {
+            None => DriverReply {
+                code: None,
+                handles: Vec::new(self.alloc),
+            },
+            Some(reply) => reply,
+        }
+    }
+
+    // Keeps replies for their room, unless there is no memory for that.
+    fn keep(&mut self, replies: &mut Vec<DriverReply>) {
+        while let Some(reply) = replies.pop() {
+            let _kept = self.replies.push(reply);
+        }
+    }
+}
+
 /// Room for calls, so that a call takes memory only where it is larger than those before it in the same room, or more calls are open than
 /// ever before.
 #[derive(Drop)]
@@ -55,6 +89,8 @@ pub(crate) struct Room {
     pub(crate) handles: Vec<u64>,
     /// What the drivers are told of a call.
     pub(crate) targets: Vec<DriverCall>,
+    /// For what they answer.
+    pub(crate) replies: SpareReplies,
     verdicts: Vec<Verdict>,
     calls: Vec<Box<OpenCall>>,
 }
@@ -68,6 +104,7 @@ impl Room {
             born: Spares::new(alloc),
             handles: Vec::new(alloc),
             targets: Vec::new(alloc),
+            replies: SpareReplies::new(alloc),
             verdicts: Vec::new(alloc),
             calls: Vec::new(alloc),
         }
@@ -83,6 +120,8 @@ impl Room {
 
     /// Keeps a call that has returned for its room, unless there is no memory for that.
     pub(crate) fn give_back(&mut self, call: Box<OpenCall>) {
+        let mut call = call;
+        self.replies.keep(&mut call.replies);
         let _kept = self.calls.push(call);
     }
 

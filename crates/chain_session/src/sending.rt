@@ -10,11 +10,12 @@ ghost use Rattle.chain_session.specs.Sending.{IsSentTo, calls_due, drivers_told}
 ghost use Rattle.chain_session.specs.Telling.{FrontAsked};
 
 use crate::call::OpenCall;
+use crate::room::SpareReplies;
 use crate::telling::ask_each;
 use command_tables::NoMemory;
 use dispatch_chain::Terminator;
 use model_driver::{Driver, DriverCall};
-use std::alloc::{AllocError, Global};
+use std::alloc::AllocError;
 
 // The drivers that are told a call.
 fn put_drivers(targets: &[DriverCall], drivers: &mut Vec<u32>) -> Result<(), AllocError>
@@ -36,7 +37,7 @@ pub(crate) fn is_skipped(call: &OpenCall) -> bool
 // All memory for what is kept of the drivers is taken before one is told.
 #[tactic(auto, using(crate::proofs::Sent::sent_so, crate::proofs::Sent::drivers_of_targets, crate::proofs::Sent::front_due, crate::proofs::Told::none_asked))]
 fn tell<D: Driver>(
-    alloc: Global,
+    spare: &mut SpareReplies,
     terminator: &Terminator,
     call: &mut OpenCall,
     targets: &mut Vec<DriverCall>,
@@ -50,7 +51,7 @@ fn tell<D: Driver>(
 {
     terminator.targets(&call.bottom, targets)?;
     put_drivers(targets, &mut call.drivers)?;
-    ask_each(alloc, targets, driver, &mut call.replies)?;
+    ask_each(spare, targets, driver, &mut call.replies)?;
     Ok(())
 }
 
@@ -58,7 +59,7 @@ fn tell<D: Driver>(
 /// them were told.
 #[tactic(auto, using(crate::proofs::Sent::kept_so))]
 pub(crate) fn send<D: Driver>(
-    alloc: Global,
+    spare: &mut SpareReplies,
     terminator: &Terminator,
     call: &mut OpenCall,
     targets: &mut Vec<DriverCall>,
@@ -74,6 +75,6 @@ pub(crate) fn send<D: Driver>(
     if is_skipped(call) {
         Ok(())
     } else {
-        tell(alloc, terminator, call, targets, driver)
+        tell(spare, terminator, call, targets, driver)
     }
 }

@@ -4,14 +4,14 @@ ghost use Rattle.std.specs.List.{AllByRecursion};
 ghost use Rattle.model_driver.specs.Driver.{HasShape, call_shown, reply_shown};
 ghost use Rattle.chain_session.specs.Telling.{AreAsked, AskedOnce, FrontAsked};
 
+use crate::room::SpareReplies;
 use command_tables::NoMemory;
 use model_driver::{Driver, DriverCall, DriverReply};
-use std::alloc::Global;
 
 // One driver is told its call. Its reply is kept, unless there is no memory for that.
 #[tactic(auto, using(crate::proofs::Told::once, crate::proofs::Told::none_asked, crate::proofs::Told::one_asked, crate::proofs::Told::shown_more))]
 fn ask_one<D: Driver>(
-    alloc: Global,
+    spare: &mut SpareReplies,
     call: &DriverCall,
     driver: &mut D,
     replies: &mut Vec<DriverReply>,
@@ -21,10 +21,7 @@ fn ask_one<D: Driver>(
     ensures err { OnErr result (FrontAsked (call_shown call.now ∷ []) (D.log driver.old) (D.log driver.new)) }
     ensures policy { D.answers_by driver.new ≡ D.answers_by driver.old }
 {
-    let mut reply = DriverReply {
-        code: None,
-        handles: Vec::new(alloc),
-    };
+    let mut reply = spare.take();
     driver.call(call, &mut reply)?;
     replies.push(reply)?;
     Ok(())
@@ -33,7 +30,7 @@ fn ask_one<D: Driver>(
 /// Each driver is told its call, in order. What stood among the replies before is gone. After `NoMemory` the first so many of the calls were
 /// told.
 pub(crate) fn ask_each<D: Driver>(
-    alloc: Global,
+    spare: &mut SpareReplies,
     calls: &[DriverCall],
     driver: &mut D,
     replies: &mut Vec<DriverReply>,
@@ -45,7 +42,7 @@ pub(crate) fn ask_each<D: Driver>(
 {
     replies.clear();
     for call in calls {
-        ask_one(alloc, call, driver, replies)?;
+        ask_one(spare, call, driver, replies)?;
     }
     Ok(())
 }

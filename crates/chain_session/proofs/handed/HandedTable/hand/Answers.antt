@@ -29,7 +29,7 @@ invariant_of-self-in-None c =
     let es = c.self.inside.list.items in
     let e : HandedEntry = record { object = c.args.object; handle = c.args.handle } in
     let none : place_in es c.args.object ≡ None = sym (c.self.invariant c.args.object) ∙ (sym c.get.ensures ∙ c.in-None.is) in
-    let long : c.len.result ≡ length es = omega (arith, c.len.ensures, c.reserve.new.self.ok.0, ap (λ (xs : List HandedEntry). length xs) c.in_ok-reserve-in-None.ensures.items) in
+    let long : c.in_ok-place-in-None.place ≡ length es = omega (arith, c.in_ok-place-in-None.ensures, c.len.ensures, c.reserve.new.self.ok.0, ap (λ (xs : List HandedEntry). length xs) c.in_ok-reserve-in-None.ensures.items) in
     λ o.
     c.in_ok-put-in-None.ensures.ok o
     ∙ (ap (λ (n : ℕ). cond (same c.args.object o) (Some n) (kept c.self.inside.places o)) long

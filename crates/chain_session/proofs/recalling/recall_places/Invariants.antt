@@ -1,0 +1,7 @@
+use Rattle.std.proofs.Common.{◌≡◌, length, take}
+use Rattle.command_tables.specs.Handles.{list_at}
+use Rattle.chain_session.specs.Leaving.{recalled_places}
+use Rattle.chain_session.proofs.recalling.recall_places.Given as goal
+
+abbrev pub invariant-loop-k : goal.invariant-loop-k
+invariant-loop-k l = (length l.at.items ≡ length l.initial.at.items) × (l.at.items ≡ recalled_places (take l.k (list_at l.marks.marks l.p)) l.initial.at.items)
