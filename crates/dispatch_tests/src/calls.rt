@@ -37,10 +37,12 @@ fn no_parameters(alloc: Global, cmd: CommandId) -> Result<LayerCall, Fail>
 
 /// A call with these handles in each of its parameters.
 pub(crate) fn call_of(alloc: Global, cmd: CommandId, params: &[&[u64]]) -> Result<LayerCall, Fail>
-    requires { length params.now ≤ 6 }
     ensures shape { IfOk result (λ call. HasParams call) }
     ensures few { IfOk result (λ call. HasFewPlaces call) }
 {
+    if params.len() > 6 {
+        return Err("too many parameters".into());
+    }
     if params.len() != row(cmd).params.len() {
         return Err("another number of parameters".into());
     }
@@ -49,4 +51,14 @@ pub(crate) fn call_of(alloc: Global, cmd: CommandId, params: &[&[u64]]) -> Resul
         push(&mut call, params[p])?;
     }
     Ok(call)
+}
+
+/// The first parameter in which a call hasn't just these handles, if there is one.
+pub(crate) fn first_other(call: &LayerCall, want: &[&[u64]]) -> Option<usize> {
+    for p in 0..want.len() {
+        if p >= call.args.len() || call.args.param(p) != want[p] {
+            return Some(p);
+        }
+    }
+    None
 }

@@ -1,4 +1,5 @@
 //! A story of two drivers, call by call.
+use crate::calls::first_other;
 use command_tables::{CommandId, LayerCall};
 use model_driver::{DriverCall, DriverReply};
 use std::alloc::Global;
@@ -7,11 +8,7 @@ use std::test::Fail;
 use terminator::Terminator;
 
 // What one driver is told: its number, how many handles it is asked for, and its handles.
-struct Told {
-    driver: u32,
-    asked: u32,
-    args: &'static [&'static [u64]],
-}
+struct Told(u32, u32, &'static [&'static [u64]]);
 
 // A call that comes to the terminator, and what comes of it.
 #[derive(Clone, Copy)]
@@ -25,30 +22,38 @@ struct Step {
     above: &'static [u64],
 }
 
+// One parameter more.
+fn add(call: &mut LayerCall, handles: &[u64]) -> Result<(), Fail> {
+    if call.args.len() >= 6 {
+        return Err("too many parameters".into());
+    }
+    call.args.push_param(handles).ok().ok_or("memory")?;
+    Ok(())
+}
+
 fn call_of(alloc: Global, step: &Step) -> Result<LayerCall, Fail> {
     let mut call = LayerCall::with_room(alloc, 8, 8).ok().ok_or("memory")?;
     call.cmd = step.cmd;
     for handles in step.args {
-        if call.args.len() >= 6 {
-            return Err(Fail::from("too many parameters"));
-        }
-        call.args.push_param(handles).ok().ok_or("memory")?;
+        add(&mut call, handles)?;
     }
     call.payload.extend_from_slice(step.payload)?;
     call.asked = u32::try_from(step.flags.len()).ok().ok_or("count")?;
     Ok(call)
 }
 
-fn is_told(rt: &impl Abort, call: &DriverCall, want: &Told, step: &Step) {
-    assert!(rt; call.body.cmd == step.cmd);
-    assert_eq!(rt; call.driver, want.driver);
-    assert_eq!(rt; call.body.asked, want.asked);
-    assert_eq!(rt; call.body.payload.as_slice(), step.payload);
-    assert_eq!(rt; call.body.args.len(), want.args.len());
-    for (p, handles) in want.args.iter().enumerate() {
-        assert!(rt; p < call.body.args.len());
-        assert_eq!(rt; call.body.args.param(p), *handles, "at {p}");
-    }
+// Whether a driver is told this, but for the handles.
+fn is_that_body(call: &DriverCall, want: &Told, step: &Step) -> bool {
+    call.driver == want.0
+        && call.body.cmd == step.cmd
+        && call.body.asked == want.1
+        && call.body.payload.as_slice() == step.payload
+        && call.body.args.len() == want.2.len()
+}
+
+fn is_told(rt: &impl Abort, call: &DriverCall, want: &Told, step: &Step, at: usize) {
+    assert!(rt; is_that_body(call, want, step), "at step {at}");
+    assert_eq!(rt; first_other(&call.body, want.2), None, "at step {at}");
 }
 
 fn replies_of(alloc: Global, step: &Step) -> Result<Vec<DriverReply>, Fail> {
@@ -72,12 +77,13 @@ fn play_one(
     part: &mut Terminator,
     out: &mut Vec<DriverCall>,
     step: &Step,
+    at: usize,
 ) -> Result<(), Fail> {
     let call = call_of(alloc, step)?;
     part.targets(&call, out).ok().ok_or("memory")?;
-    assert_eq!(rt; out.len(), step.told.len());
+    assert_eq!(rt; out.len(), step.told.len(), "at step {at}");
     for (told, want) in out.iter().zip(step.told) {
-        is_told(rt, told, want, step);
+        is_told(rt, told, want, step, at);
     }
     let replies = replies_of(alloc, step)?;
     if replies.len() != out.len() {
@@ -87,7 +93,7 @@ fn play_one(
     part.leave(&call, &replies, &mut results)
         .ok()
         .ok_or("memory")?;
-    assert_eq!(rt; results.as_slice(), step.above);
+    assert_eq!(rt; results.as_slice(), step.above, "at step {at}");
     Ok(())
 }
 
@@ -98,438 +104,297 @@ fn play_all(
     out: &mut Vec<DriverCall>,
     steps: &[Step],
 ) -> Result<(), Fail> {
-    for step in steps {
-        play_one(rt, alloc, part, out, step)?;
+    for at in 0..steps.len() {
+        play_one(rt, alloc, part, out, &steps[at], at)?;
     }
     Ok(())
 }
 
+// An end of two drivers, behind the instance and the devices.
+fn with_devices(
+    rt: &impl Abort,
+    alloc: Global,
+    out: &mut Vec<DriverCall>,
+) -> Result<Terminator, Fail> {
+    let mut part = Terminator::new(alloc, 2);
+    play_all(rt, alloc, &mut part, out, &BEGIN)?;
+    play_all(rt, alloc, &mut part, out, &DEVICES)?;
+    Ok(part)
+}
+
 // Behind the instance and the devices, these steps.
 fn play(rt: &impl Abort, alloc: Global, steps: &[Step]) -> Result<(), Fail> {
-    let mut part = Terminator::new(alloc, 2);
     let mut out = Vec::new(alloc);
-    play_all(rt, alloc, &mut part, &mut out, &begin())?;
-    play_all(rt, alloc, &mut part, &mut out, &devices())?;
+    let mut part = with_devices(rt, alloc, &mut out)?;
     play_all(rt, alloc, &mut part, &mut out, steps)
 }
 
 // An instance of both drivers, and a physical device of each.
-fn begin() -> [Step; 2] {
-    [
-        Step {
-            cmd: CommandId::CreateInstance,
-            args: &[],
-            payload: b"",
-            told: &[
-                Told {
-                    driver: 0,
-                    asked: 1,
-                    args: &[],
-                },
-                Told {
-                    driver: 1,
-                    asked: 1,
-                    args: &[],
-                },
-            ],
-            replies: &[&[500], &[600]],
-            flags: &[1],
-            above: &[1],
-        },
-        Step {
-            cmd: CommandId::EnumeratePhysicalDevices,
-            args: &[&[1]],
-            payload: b"",
-            told: &[
-                Told {
-                    driver: 0,
-                    asked: 1,
-                    args: &[&[500]],
-                },
-                Told {
-                    driver: 1,
-                    asked: 1,
-                    args: &[&[600]],
-                },
-            ],
-            replies: &[&[51], &[61]],
-            flags: &[1, 1],
-            above: &[2, 3],
-        },
-    ]
-}
+static BEGIN: [Step; 2] = [
+    Step {
+        cmd: CommandId::CreateInstance,
+        args: &[],
+        payload: b"",
+        told: &[Told(0, 1, &[]), Told(1, 1, &[])],
+        replies: &[&[500], &[600]],
+        flags: &[1],
+        above: &[1],
+    },
+    Step {
+        cmd: CommandId::EnumeratePhysicalDevices,
+        args: &[&[1]],
+        payload: b"",
+        told: &[Told(0, 1, &[&[500]]), Told(1, 1, &[&[600]])],
+        replies: &[&[51], &[61]],
+        flags: &[1, 1],
+        above: &[2, 3],
+    },
+];
 
 // A device of the second driver, then one of the first, with the same value.
-fn devices() -> [Step; 2] {
-    [
-        Step {
-            cmd: CommandId::CreateDevice,
-            args: &[&[3]],
-            payload: b"",
-            told: &[Told {
-                driver: 1,
-                asked: 1,
-                args: &[&[61]],
-            }],
-            replies: &[&[71]],
-            flags: &[1],
-            above: &[4],
-        },
-        Step {
-            cmd: CommandId::CreateDevice,
-            args: &[&[2]],
-            payload: b"",
-            told: &[Told {
-                driver: 0,
-                asked: 1,
-                args: &[&[51]],
-            }],
-            replies: &[&[71]],
-            flags: &[1],
-            above: &[5],
-        },
-    ]
-}
-
-// A step of a call to one driver, that asks for no handle.
-fn to_one(cmd: CommandId, args: &'static [&'static [u64]], told: &'static [Told]) -> Step {
+static DEVICES: [Step; 2] = [
     Step {
-        cmd,
-        args,
+        cmd: CommandId::CreateDevice,
+        args: &[&[3]],
         payload: b"",
-        told,
-        replies: &[&[]],
-        flags: &[],
-        above: &[],
-    }
-}
-
-fn queue(device: &'static [&'static [u64]], payload: &'static [u8]) -> Step {
-    Step {
-        cmd: CommandId::GetDeviceQueue,
-        args: device,
-        payload,
-        told: &[Told {
-            driver: 1,
-            asked: 1,
-            args: &[&[71]],
-        }],
-        replies: &[&[91]],
+        told: &[Told(1, 1, &[&[61]])],
+        replies: &[&[71]],
         flags: &[1],
-        above: &[6],
-    }
-}
+        above: &[4],
+    },
+    Step {
+        cmd: CommandId::CreateDevice,
+        args: &[&[2]],
+        payload: b"",
+        told: &[Told(0, 1, &[&[51]])],
+        replies: &[&[71]],
+        flags: &[1],
+        above: &[5],
+    },
+];
+
+// A step of a call to one driver, that asks for no handle; each has a command, arguments and what is told of its own.
+const TO_ONE: Step = Step {
+    cmd: CommandId::QueueWaitIdle,
+    args: &[],
+    payload: b"",
+    told: &[],
+    replies: &[&[]],
+    flags: &[],
+    above: &[],
+};
+
+// The first queue of the first device.
+const QUEUE: Step = Step {
+    cmd: CommandId::GetDeviceQueue,
+    args: &[&[4]],
+    payload: b"0 0",
+    told: &[Told(1, 1, &[&[71]])],
+    replies: &[&[91]],
+    flags: &[1],
+    above: &[6],
+};
+
+// Its second queue.
+const SECOND_QUEUE: Step = Step {
+    payload: b"0 1",
+    replies: &[&[92]],
+    above: &[7],
+    ..QUEUE
+};
+
+const SURFACE: Step = Step {
+    cmd: CommandId::CreateXcbSurfaceKHR,
+    args: &[&[1]],
+    payload: b"",
+    told: &[Told(0, 1, &[&[500]]), Told(1, 1, &[&[600]])],
+    replies: &[&[81], &[82]],
+    flags: &[1],
+    above: &[6],
+};
+
+static ITS_OWN_VALUES: [Step; 5] = [
+    SURFACE,
+    Step {
+        cmd: CommandId::GetPhysicalDeviceSurfaceSupportKHR,
+        args: &[&[3], &[6]],
+        told: &[Told(1, 0, &[&[61], &[82]])],
+        ..TO_ONE
+    },
+    Step {
+        cmd: CommandId::EnumeratePhysicalDevices,
+        args: &[&[1]],
+        payload: b"",
+        told: &[Told(0, 1, &[&[500]]), Told(1, 1, &[&[600]])],
+        replies: &[&[52], &[62]],
+        flags: &[0, 1],
+        above: &[0, 3],
+    },
+    Step {
+        cmd: CommandId::GetPhysicalDeviceFeatures,
+        args: &[&[2]],
+        told: &[Told(0, 0, &[&[51]])],
+        ..TO_ONE
+    },
+    Step {
+        cmd: CommandId::GetPhysicalDeviceFeatures,
+        args: &[&[3]],
+        told: &[Told(1, 0, &[&[62]])],
+        ..TO_ONE
+    },
+];
 
 #[test]
 fn each_driver_is_told_its_own_values(rt: HostRuntime) -> Result<(), Fail> {
-    let alloc = rt.alloc();
-    let surface = Step {
-        cmd: CommandId::CreateXcbSurfaceKHR,
-        args: &[&[1]],
+    play(&rt, rt.alloc(), &ITS_OWN_VALUES)
+}
+
+static QUEUES: [Step; 7] = [
+    QUEUE,
+    SECOND_QUEUE,
+    Step {
+        args: &[&[5]],
+        told: &[Told(0, 1, &[&[71]])],
+        above: &[8],
+        ..QUEUE
+    },
+    Step {
+        replies: &[&[93]],
+        ..QUEUE
+    },
+    Step {
+        cmd: CommandId::QueueWaitIdle,
+        args: &[&[6]],
+        told: &[Told(1, 0, &[&[93]])],
+        ..TO_ONE
+    },
+    Step {
+        cmd: CommandId::QueueWaitIdle,
+        args: &[&[7]],
+        told: &[Told(1, 0, &[&[92]])],
+        ..TO_ONE
+    },
+    Step {
+        cmd: CommandId::QueueWaitIdle,
+        args: &[&[8]],
+        told: &[Told(0, 0, &[&[91]])],
+        ..TO_ONE
+    },
+];
+
+#[test]
+fn queues_keep_their_ids(rt: HostRuntime) -> Result<(), Fail> {
+    play(&rt, rt.alloc(), &QUEUES)
+}
+
+const FENCE: Step = Step {
+    cmd: CommandId::CreateFence,
+    args: &[&[5]],
+    payload: b"",
+    told: &[Told(0, 1, &[&[71]])],
+    replies: &[&[111]],
+    flags: &[1],
+    above: &[111],
+};
+
+static LOST_RESULTS: [Step; 4] = [
+    Step {
+        cmd: CommandId::AllocateCommandBuffers,
+        args: &[&[4], &[30]],
         payload: b"",
-        told: &[
-            Told {
-                driver: 0,
-                asked: 1,
-                args: &[&[500]],
-            },
-            Told {
-                driver: 1,
-                asked: 1,
-                args: &[&[600]],
-            },
-        ],
-        replies: &[&[81], &[82]],
+        told: &[Told(1, 3, &[&[71], &[30]])],
+        replies: &[&[101, 102, 103]],
+        flags: &[1, 0, 1],
+        above: &[6, 0, 7],
+    },
+    FENCE,
+    Step {
+        flags: &[0],
+        above: &[0],
+        ..FENCE
+    },
+    // Of a command buffer of the second driver the first has no value: that of the second is told.
+    Step {
+        cmd: CommandId::FreeCommandBuffers,
+        args: &[&[5], &[30], &[7, 0, 6, 99]],
+        told: &[Told(0, 0, &[&[71], &[30], &[103, 0, 101, 0]])],
+        ..TO_ONE
+    },
+];
+
+#[test]
+fn lost_results_and_other_types(rt: HostRuntime) -> Result<(), Fail> {
+    play(&rt, rt.alloc(), &LOST_RESULTS)
+}
+
+static NEVER_ANSWERED: [Step; 3] = [
+    Step {
+        replies: &[&[81], &[]],
+        ..SURFACE
+    },
+    Step {
+        cmd: CommandId::GetPhysicalDeviceSurfaceSupportKHR,
+        args: &[&[2], &[6]],
+        told: &[Told(0, 0, &[&[51], &[81]])],
+        ..TO_ONE
+    },
+    Step {
+        cmd: CommandId::GetPhysicalDeviceSurfaceSupportKHR,
+        args: &[&[3], &[6]],
+        told: &[Told(1, 0, &[&[61], &[0]])],
+        ..TO_ONE
+    },
+];
+
+#[test]
+fn a_value_that_a_driver_never_answered_is_null(rt: HostRuntime) -> Result<(), Fail> {
+    play(&rt, rt.alloc(), &NEVER_ANSWERED)
+}
+
+// Of three drivers the second's physical device is lost.
+static THREE_DRIVERS: [Step; 4] = [
+    Step {
+        cmd: CommandId::CreateInstance,
+        args: &[],
+        payload: b"",
+        told: &[Told(0, 1, &[]), Told(1, 1, &[]), Told(2, 1, &[])],
+        replies: &[&[500], &[600], &[700]],
         flags: &[1],
-        above: &[6],
-    };
-    let support = to_one(
-        CommandId::GetPhysicalDeviceSurfaceSupportKHR,
-        &[&[3], &[6]],
-        &[Told {
-            driver: 1,
-            asked: 0,
-            args: &[&[61], &[82]],
-        }],
-    );
-    let again = Step {
+        above: &[1],
+    },
+    Step {
         cmd: CommandId::EnumeratePhysicalDevices,
         args: &[&[1]],
         payload: b"",
         told: &[
-            Told {
-                driver: 0,
-                asked: 1,
-                args: &[&[500]],
-            },
-            Told {
-                driver: 1,
-                asked: 1,
-                args: &[&[600]],
-            },
+            Told(0, 1, &[&[500]]),
+            Told(1, 1, &[&[600]]),
+            Told(2, 1, &[&[700]]),
         ],
-        replies: &[&[52], &[62]],
-        flags: &[0, 1],
-        above: &[0, 3],
-    };
-    let features = CommandId::GetPhysicalDeviceFeatures;
-    let steps = [
-        surface,
-        support,
-        again,
-        to_one(
-            features,
-            &[&[2]],
-            &[Told {
-                driver: 0,
-                asked: 0,
-                args: &[&[51]],
-            }],
-        ),
-        to_one(
-            features,
-            &[&[3]],
-            &[Told {
-                driver: 1,
-                asked: 0,
-                args: &[&[62]],
-            }],
-        ),
-    ];
-    play(&rt, alloc, &steps)
-}
-
-#[test]
-fn queues_keep_their_ids(rt: HostRuntime) -> Result<(), Fail> {
-    let alloc = rt.alloc();
-    let second = Step {
-        replies: &[&[92]],
-        above: &[7],
-        ..queue(&[&[4]], b"0 1")
-    };
-    let other = Step {
-        told: &[Told {
-            driver: 0,
-            asked: 1,
-            args: &[&[71]],
-        }],
-        above: &[8],
-        ..queue(&[&[5]], b"0 0")
-    };
-    let again = Step {
-        replies: &[&[93]],
-        ..queue(&[&[4]], b"0 0")
-    };
-    let wait = CommandId::QueueWaitIdle;
-    let steps = [
-        queue(&[&[4]], b"0 0"),
-        second,
-        other,
-        again,
-        to_one(
-            wait,
-            &[&[6]],
-            &[Told {
-                driver: 1,
-                asked: 0,
-                args: &[&[93]],
-            }],
-        ),
-        to_one(
-            wait,
-            &[&[7]],
-            &[Told {
-                driver: 1,
-                asked: 0,
-                args: &[&[92]],
-            }],
-        ),
-        to_one(
-            wait,
-            &[&[8]],
-            &[Told {
-                driver: 0,
-                asked: 0,
-                args: &[&[91]],
-            }],
-        ),
-    ];
-    play(&rt, alloc, &steps)
-}
-
-#[test]
-fn lost_results_and_other_types(rt: HostRuntime) -> Result<(), Fail> {
-    let alloc = rt.alloc();
-    let buffers = Step {
-        cmd: CommandId::AllocateCommandBuffers,
-        args: &[&[4], &[30]],
-        payload: b"",
-        told: &[Told {
-            driver: 1,
-            asked: 3,
-            args: &[&[71], &[30]],
-        }],
-        replies: &[&[101, 102, 103]],
+        replies: &[&[51], &[61], &[71]],
         flags: &[1, 0, 1],
-        above: &[6, 0, 7],
-    };
-    let fence = Step {
-        cmd: CommandId::CreateFence,
-        args: &[&[5]],
+        above: &[2, 0, 3],
+    },
+    Step {
+        cmd: CommandId::CreateDevice,
+        args: &[&[3]],
         payload: b"",
-        told: &[Told {
-            driver: 0,
-            asked: 1,
-            args: &[&[71]],
-        }],
-        replies: &[&[111]],
+        told: &[Told(2, 1, &[&[71]])],
+        replies: &[&[72]],
         flags: &[1],
-        above: &[111],
-    };
-    let lost = Step {
-        flags: &[0],
-        above: &[0],
-        ..fence
-    };
-    // Of a command buffer of the second driver the first has no value: that of the second is told.
-    let free = to_one(
-        CommandId::FreeCommandBuffers,
-        &[&[5], &[30], &[7, 0, 6, 99]],
-        &[Told {
-            driver: 0,
-            asked: 0,
-            args: &[&[71], &[30], &[103, 0, 101, 0]],
-        }],
-    );
-    let steps = [buffers, fence, lost, free];
-    play(&rt, alloc, &steps)
-}
-
-#[test]
-fn a_value_that_a_driver_never_answered_is_null(rt: HostRuntime) -> Result<(), Fail> {
-    let surface = Step {
-        cmd: CommandId::CreateXcbSurfaceKHR,
-        args: &[&[1]],
-        payload: b"",
-        told: &[
-            Told {
-                driver: 0,
-                asked: 1,
-                args: &[&[500]],
-            },
-            Told {
-                driver: 1,
-                asked: 1,
-                args: &[&[600]],
-            },
-        ],
-        replies: &[&[81], &[]],
-        flags: &[1],
-        above: &[6],
-    };
-    let support = CommandId::GetPhysicalDeviceSurfaceSupportKHR;
-    let first = to_one(
-        support,
-        &[&[2], &[6]],
-        &[Told {
-            driver: 0,
-            asked: 0,
-            args: &[&[51], &[81]],
-        }],
-    );
-    let second = to_one(
-        support,
-        &[&[3], &[6]],
-        &[Told {
-            driver: 1,
-            asked: 0,
-            args: &[&[61], &[0]],
-        }],
-    );
-    play(&rt, rt.alloc(), &[surface, first, second])
-}
-
-// Of three drivers the second's physical device is lost.
-fn three_drivers() -> [Step; 4] {
-    [
-        Step {
-            cmd: CommandId::CreateInstance,
-            args: &[],
-            payload: b"",
-            told: &[
-                Told {
-                    driver: 0,
-                    asked: 1,
-                    args: &[],
-                },
-                Told {
-                    driver: 1,
-                    asked: 1,
-                    args: &[],
-                },
-                Told {
-                    driver: 2,
-                    asked: 1,
-                    args: &[],
-                },
-            ],
-            replies: &[&[500], &[600], &[700]],
-            flags: &[1],
-            above: &[1],
-        },
-        Step {
-            cmd: CommandId::EnumeratePhysicalDevices,
-            args: &[&[1]],
-            payload: b"",
-            told: &[
-                Told {
-                    driver: 0,
-                    asked: 1,
-                    args: &[&[500]],
-                },
-                Told {
-                    driver: 1,
-                    asked: 1,
-                    args: &[&[600]],
-                },
-                Told {
-                    driver: 2,
-                    asked: 1,
-                    args: &[&[700]],
-                },
-            ],
-            replies: &[&[51], &[61], &[71]],
-            flags: &[1, 0, 1],
-            above: &[2, 0, 3],
-        },
-        Step {
-            cmd: CommandId::CreateDevice,
-            args: &[&[3]],
-            payload: b"",
-            told: &[Told {
-                driver: 2,
-                asked: 1,
-                args: &[&[71]],
-            }],
-            replies: &[&[72]],
-            flags: &[1],
-            above: &[4],
-        },
-        to_one(
-            CommandId::DestroyDevice,
-            &[&[4]],
-            &[Told {
-                driver: 2,
-                asked: 0,
-                args: &[&[72]],
-            }],
-        ),
-    ]
-}
+        above: &[4],
+    },
+    Step {
+        cmd: CommandId::DestroyDevice,
+        args: &[&[4]],
+        told: &[Told(2, 0, &[&[72]])],
+        ..TO_ONE
+    },
+];
 
 // An instance of no driver, which nobody is told of.
-fn no_driver() -> [Step; 2] {
-    let create = Step {
+static NO_DRIVER: [Step; 2] = [
+    Step {
         cmd: CommandId::CreateInstance,
         args: &[],
         payload: b"",
@@ -537,16 +402,17 @@ fn no_driver() -> [Step; 2] {
         replies: &[],
         flags: &[1],
         above: &[1],
-    };
-    let destroy = Step {
+    },
+    Step {
         cmd: CommandId::DestroyInstance,
         args: &[&[1]],
+        payload: b"",
+        told: &[],
+        replies: &[],
         flags: &[],
         above: &[],
-        ..create
-    };
-    [create, destroy]
-}
+    },
+];
 
 fn play_on(rt: &impl Abort, alloc: Global, drivers: u32, steps: &[Step]) -> Result<(), Fail> {
     let mut part = Terminator::new(alloc, drivers);
@@ -557,37 +423,35 @@ fn play_on(rt: &impl Abort, alloc: Global, drivers: u32, steps: &[Step]) -> Resu
 
 #[test]
 fn there_may_be_any_number_of_drivers(rt: HostRuntime) -> Result<(), Fail> {
-    play_on(&rt, rt.alloc(), 0, &no_driver())?;
-    play_on(&rt, rt.alloc(), 3, &three_drivers())
+    play_on(&rt, rt.alloc(), 0, &NO_DRIVER)?;
+    play_on(&rt, rt.alloc(), 3, &THREE_DRIVERS)
+}
+
+static QUEUE_FIRST: [Step; 1] = [QUEUE];
+
+static QUEUE_AGAIN: [Step; 3] = [
+    QUEUE,
+    Step {
+        cmd: CommandId::QueueWaitIdle,
+        args: &[&[6]],
+        told: &[Told(1, 0, &[&[91]])],
+        ..TO_ONE
+    },
+    SECOND_QUEUE,
+];
+
+fn copy_of(part: &Terminator) -> Result<Terminator, Fail> {
+    Ok(part.copy().ok().ok_or("memory")?)
 }
 
 // A copy goes on from what was issued as the original does.
 #[test]
 fn a_copy_tells_what_the_original_tells(rt: HostRuntime) -> Result<(), Fail> {
     let alloc = rt.alloc();
-    let mut part = Terminator::new(alloc, 2);
     let mut out = Vec::new(alloc);
-    play_all(&rt, alloc, &mut part, &mut out, &begin())?;
-    play_all(&rt, alloc, &mut part, &mut out, &devices())?;
-    play_one(&rt, alloc, &mut part, &mut out, &queue(&[&[4]], b"0 0"))?;
-    let mut copy = part.copy().ok().ok_or("memory")?;
-    let steps = [
-        queue(&[&[4]], b"0 0"),
-        to_one(
-            CommandId::QueueWaitIdle,
-            &[&[6]],
-            &[Told {
-                driver: 1,
-                asked: 0,
-                args: &[&[91]],
-            }],
-        ),
-        Step {
-            replies: &[&[92]],
-            above: &[7],
-            ..queue(&[&[4]], b"0 1")
-        },
-    ];
-    play_all(&rt, alloc, &mut copy, &mut out, &steps)?;
-    play_all(&rt, alloc, &mut part, &mut out, &steps)
+    let mut part = with_devices(&rt, alloc, &mut out)?;
+    play_all(&rt, alloc, &mut part, &mut out, &QUEUE_FIRST)?;
+    let mut copy = copy_of(&part)?;
+    play_all(&rt, alloc, &mut copy, &mut out, &QUEUE_AGAIN)?;
+    play_all(&rt, alloc, &mut part, &mut out, &QUEUE_AGAIN)
 }

@@ -35,12 +35,25 @@ fn no_parameters(alloc: Global, cmd: CommandId) -> Result<LayerCall, Fail>
     Ok(call)
 }
 
+// The handles in each parameter of a call.
+pub(crate) type Lists = &'static [&'static [u64]];
+
+// A call with the handles in its parameters.
+#[derive(Clone, Copy)]
+pub(crate) struct Named(pub CommandId, pub Lists);
+
+// A call that comes back with one result; 0 for none.
+#[derive(Clone, Copy)]
+pub(crate) struct Made(pub CommandId, pub Lists, pub u64);
+
 /// A call with these handles in each of its parameters.
 pub(crate) fn call_of(alloc: Global, cmd: CommandId, params: &[&[u64]]) -> Result<LayerCall, Fail>
-    requires { length params.now ≤ 6 }
     ensures shape { IfOk result (λ call. HasParams call) }
     ensures few { IfOk result (λ call. HasFewPlaces call) }
 {
+    if params.len() > 6 {
+        return Err("too many parameters".into());
+    }
     if params.len() != row(cmd).params.len() {
         return Err("another number of parameters".into());
     }

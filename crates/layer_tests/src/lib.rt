@@ -7,11 +7,15 @@ mod calls;
 #[cfg(test)]
 mod lifetime_marks;
 #[cfg(test)]
+mod lifetime_steps;
+#[cfg(test)]
 mod lifetime_stories;
 #[cfg(test)]
 mod lifetime_tests;
 #[cfg(test)]
 mod thread_marks;
+#[cfg(test)]
+mod thread_steps;
 #[cfg(test)]
 mod thread_stories;
 #[cfg(test)]

@@ -1,23 +1,17 @@
 //! Each mark of the command table that the rules parameter and parent read, in one table: with a call at which it fails and one at
 //! which it doesn't.
-use crate::lifetime_tests::{finding, is_found, make, with_devices};
+use crate::calls::{Lists, Made, Named};
+use crate::lifetime_steps::{finding, is_found, make_all};
+use crate::lifetime_tests::with_devices;
 use command_tables::{CommandId, Rule};
 use lifetime_layer::{Finding, LifeState};
 use std::alloc::Global;
 use std::process::Abort;
 use std::test::Fail;
 
-// A call that comes back with one result; 0 for none.
-#[derive(Clone, Copy)]
-struct Made(CommandId, &'static [&'static [u64]], u64);
-
 // A call, and what is found at it.
 #[derive(Clone, Copy)]
-struct Judged(
-    CommandId,
-    &'static [&'static [u64]],
-    &'static [(u8, u32, Rule)],
-);
+struct Judged(CommandId, Lists, &'static [(u8, u32, Rule)]);
 
 // What the devices 3 and 4 have. Of each pool of the first device there are two.
 const WORLD: &[Made] = &[
@@ -138,16 +132,6 @@ const OWNED_BY: &[Judged] = &[
     Judged(CommandId::DestroyImage, &[&[3], &[14]], &[]),
 ];
 
-fn make_all(alloc: Global, state: &mut LifeState, calls: &[Made]) -> Result<(), Fail> {
-    for call in calls {
-        if call.1.len() > 6 {
-            return Err("too many parameters".into());
-        }
-        make(alloc, state, call.0, call.1, call.2)?;
-    }
-    Ok(())
-}
-
 fn findings_of(alloc: Global, given: &[(u8, u32, Rule)]) -> Result<Vec<Finding>, Fail> {
     let mut findings = Vec::new(alloc);
     for (param, index, rule) in given {
@@ -157,11 +141,8 @@ fn findings_of(alloc: Global, given: &[(u8, u32, Rule)]) -> Result<Vec<Finding>,
 }
 
 fn judge(alloc: Global, state: &mut LifeState, call: &Judged) -> Result<bool, Fail> {
-    if call.1.len() > 6 {
-        return Err("too many parameters".into());
-    }
     let findings = findings_of(alloc, call.2)?;
-    is_found(alloc, state, call.0, call.1, &findings)
+    is_found(alloc, state, &Named(call.0, call.1), &findings)
 }
 
 fn judge_all(
@@ -179,8 +160,8 @@ fn judge_all(
 #[test]
 fn each_mark_of_a_parameter(rt: HostRuntime) -> Result<(), Fail> {
     let alloc = rt.alloc();
-    let mut state = with_devices(alloc)?;
-    make_all(alloc, &mut state, WORLD)?;
+    let mut state = with_devices(&rt, alloc)?;
+    make_all(&rt, alloc, &mut state, WORLD)?;
     judge_all(&rt, alloc, &mut state, OR_NULL)?;
     judge_all(&rt, alloc, &mut state, SAME_DEVICE)?;
     judge_all(&rt, alloc, &mut state, OWNED_BY)

@@ -1,19 +1,13 @@
 //! Each mark of the command table that the rule overlap reads, in one table: with two calls that conflict and two that don't.
-use crate::thread_tests::{begin, end, is_found, make, on, overlap, with_queue};
+use crate::calls::{Made, Named};
+use crate::thread_steps::{end, is_found, make_all, on, overlap_finding};
+use crate::thread_tests::with_queue;
 use command_tables::CommandId;
 use lifetime_layer::Finding;
 use std::alloc::Global;
 use std::process::Abort;
 use std::test::Fail;
 use thread_layer::UseState;
-
-// A call with the handles in its parameters.
-#[derive(Clone, Copy)]
-struct Named(CommandId, &'static [&'static [u64]]);
-
-// A call with its one result; 0 for none.
-#[derive(Clone, Copy)]
-struct Made(CommandId, &'static [&'static [u64]], u64);
 
 // A call is open on one thread, and the next comes in on another: the arguments of the second, by parameter and place, at which it
 // conflicts with the first.
@@ -174,57 +168,21 @@ const WITH_SETS: &[Beside] = &[
     ),
 ];
 
-fn make_all(alloc: Global, state: &mut UseState, calls: &[Made]) -> Result<(), Fail> {
-    for call in calls {
-        if call.1.len() > 6 {
-            return Err("too many parameters".into());
-        }
-        make(alloc, state, call.0, call.1, call.2)?;
-    }
-    Ok(())
-}
-
 fn overlaps_of(alloc: Global, given: &[(u8, u32)], number: u64) -> Result<Vec<Finding>, Fail> {
     let mut findings = Vec::new(alloc);
     for (param, index) in given {
-        findings.push(overlap(*param, *index, number))?;
+        findings.push(overlap_finding(*param, *index, number))?;
     }
     Ok(findings)
 }
 
-fn open(alloc: Global, state: &mut UseState, call: &Named, number: u64) -> Result<(), Fail> {
-    if call.1.len() > 6 {
-        return Err("too many parameters".into());
-    }
-    begin(alloc, state, on(1, number), call.0, call.1)
-}
-
-fn is_judged(
-    alloc: Global,
-    state: &mut UseState,
-    call: &Named,
-    findings: &[Finding],
-) -> Result<bool, Fail> {
-    if call.1.len() > 6 {
-        return Err("too many parameters".into());
-    }
-    is_found(alloc, state, on(2, 900), call.0, call.1, findings)
-}
-
-fn close(alloc: Global, state: &mut UseState, thread: u32, call: &Named) -> Result<(), Fail> {
-    if call.1.len() > 6 {
-        return Err("too many parameters".into());
-    }
-    end(alloc, state, thread, call.0, call.1, 0)
-}
-
 fn judge(alloc: Global, state: &mut UseState, row: &Beside, number: u64) -> Result<bool, Fail> {
-    open(alloc, state, &row.0, number)?;
+    let is_clean = is_found(alloc, state, on(1, number), &row.0, &[])?;
     let findings = overlaps_of(alloc, row.2, number)?;
-    let is_met = is_judged(alloc, state, &row.1, &findings)?;
-    close(alloc, state, 1, &row.0)?;
-    close(alloc, state, 2, &row.1)?;
-    Ok(is_met)
+    let is_met = is_found(alloc, state, on(2, 900), &row.1, &findings)?;
+    end(alloc, state, 1, &row.0, 0)?;
+    end(alloc, state, 2, &row.1, 0)?;
+    Ok(is_clean && is_met)
 }
 
 fn judge_all(
@@ -242,8 +200,8 @@ fn judge_all(
 #[test]
 fn each_mark_of_a_use(rt: HostRuntime) -> Result<(), Fail> {
     let alloc = rt.alloc();
-    let mut state = with_queue(alloc)?;
-    make_all(alloc, &mut state, WORLD)?;
+    let mut state = with_queue(&rt, alloc)?;
+    make_all(&rt, alloc, &mut state, WORLD)?;
     judge_all(&rt, alloc, &mut state, WRITTEN)?;
     judge_all(&rt, alloc, &mut state, WITH_POOL)?;
     judge_all(&rt, alloc, &mut state, WITH_QUEUES)?;

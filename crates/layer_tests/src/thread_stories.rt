@@ -1,460 +1,209 @@
 //! Calls that are open beside each other, on one part.
-use crate::thread_tests::{
-    begin, end, is_found, make, on, overlap, with_command_pool, with_queue, with_set,
-};
+use crate::calls::Named;
+use crate::thread_steps::{Overlap, Step, all_go};
+use crate::thread_tests::{with_command_pool, with_queue, with_set};
 use command_tables::CommandId;
 use std::test::Fail;
 
+const SUBMIT: Named = Named(CommandId::QueueSubmit, &[&[4], &[], &[], &[], &[0]]);
+
+static SUBMITTED_TWICE: [Step; 5] = [
+    Step::Begins(1, 11, SUBMIT, &[]),
+    Step::Begins(2, 12, SUBMIT, &[Overlap(0, 0, 11)]),
+    Step::Ends(1, SUBMIT, 0),
+    Step::Ends(2, SUBMIT, 0),
+    Step::Begins(2, 13, SUBMIT, &[]),
+];
+
 #[test]
 fn a_queue_is_submitted_to_by_two_threads(rt: HostRuntime) -> Result<(), Fail> {
-    let alloc = rt.alloc();
-    let mut state = with_queue(alloc)?;
-    begin(
-        alloc,
-        &mut state,
-        on(1, 11),
-        CommandId::QueueSubmit,
-        &[&[4], &[], &[], &[], &[0]],
-    )?;
-    let found = is_found(
-        alloc,
-        &mut state,
-        on(2, 12),
-        CommandId::QueueSubmit,
-        &[&[4], &[], &[], &[], &[0]],
-        &[overlap(0, 0, 11)],
-    )?;
-    assert!(rt; found);
-    end(
-        alloc,
-        &mut state,
-        1,
-        CommandId::QueueSubmit,
-        &[&[4], &[], &[], &[], &[0]],
-        0,
-    )?;
-    end(
-        alloc,
-        &mut state,
-        2,
-        CommandId::QueueSubmit,
-        &[&[4], &[], &[], &[], &[0]],
-        0,
-    )?;
-    begin(
-        alloc,
-        &mut state,
-        on(2, 13),
-        CommandId::QueueSubmit,
-        &[&[4], &[], &[], &[], &[0]],
-    )?;
-    Ok(())
+    let mut state = with_queue(&rt, rt.alloc())?;
+    all_go(&rt, rt.alloc(), &mut state, &SUBMITTED_TWICE)
 }
+
+const ALLOCATE: Named = Named(CommandId::AllocateCommandBuffers, &[&[3], &[5]]);
+
+const DESTROY_POOL: Named = Named(CommandId::DestroyCommandPool, &[&[3], &[5]]);
+
+static DESTROYED_WHILE_ALLOCATING: [Step; 2] = [
+    Step::Begins(1, 11, ALLOCATE, &[]),
+    Step::Begins(2, 12, DESTROY_POOL, &[Overlap(1, 0, 11)]),
+];
 
 #[test]
 fn a_pool_is_destroyed_while_buffers_are_allocated(rt: HostRuntime) -> Result<(), Fail> {
-    let alloc = rt.alloc();
-    let mut state = with_command_pool(alloc)?;
-    begin(
-        alloc,
-        &mut state,
-        on(1, 11),
-        CommandId::AllocateCommandBuffers,
-        &[&[3], &[5]],
-    )?;
-    let found = is_found(
-        alloc,
-        &mut state,
-        on(2, 12),
-        CommandId::DestroyCommandPool,
-        &[&[3], &[5]],
-        &[overlap(1, 0, 11)],
-    )?;
-    assert!(rt; found);
-    Ok(())
+    let mut state = with_command_pool(&rt, rt.alloc())?;
+    all_go(&rt, rt.alloc(), &mut state, &DESTROYED_WHILE_ALLOCATING)
 }
+
+const BEGIN_6: Named = Named(CommandId::BeginCommandBuffer, &[&[6]]);
+
+const BEGIN_7: Named = Named(CommandId::BeginCommandBuffer, &[&[7]]);
+
+static TWO_BUFFERS: [Step; 2] = [
+    Step::Begins(1, 11, BEGIN_6, &[]),
+    Step::Begins(2, 12, BEGIN_7, &[Overlap(0, 0, 11)]),
+];
 
 #[test]
 fn two_buffers_of_one_pool_are_begun(rt: HostRuntime) -> Result<(), Fail> {
-    let alloc = rt.alloc();
-    let mut state = with_command_pool(alloc)?;
-    begin(
-        alloc,
-        &mut state,
-        on(1, 11),
-        CommandId::BeginCommandBuffer,
-        &[&[6]],
-    )?;
-    let found = is_found(
-        alloc,
-        &mut state,
-        on(2, 12),
-        CommandId::BeginCommandBuffer,
-        &[&[7]],
-        &[overlap(0, 0, 11)],
-    )?;
-    assert!(rt; found);
-    Ok(())
+    let mut state = with_command_pool(&rt, rt.alloc())?;
+    all_go(&rt, rt.alloc(), &mut state, &TWO_BUFFERS)
 }
+
+const CREATE_BUFFER: Named = Named(CommandId::CreateBuffer, &[&[3]]);
+
+static DEVICE_READ: [Step; 2] = [
+    Step::Begins(1, 11, CREATE_BUFFER, &[]),
+    Step::Begins(2, 12, CREATE_BUFFER, &[]),
+];
 
 #[test]
 fn a_device_is_read_by_two_threads(rt: HostRuntime) -> Result<(), Fail> {
-    let alloc = rt.alloc();
-    let mut state = with_queue(alloc)?;
-    begin(
-        alloc,
-        &mut state,
-        on(1, 11),
-        CommandId::CreateBuffer,
-        &[&[3]],
-    )?;
-    begin(
-        alloc,
-        &mut state,
-        on(2, 12),
-        CommandId::CreateBuffer,
-        &[&[3]],
-    )?;
-    Ok(())
+    let mut state = with_queue(&rt, rt.alloc())?;
+    all_go(&rt, rt.alloc(), &mut state, &DEVICE_READ)
 }
+
+const UPDATE: Named = Named(
+    CommandId::UpdateDescriptorSets,
+    &[&[3], &[9], &[], &[], &[], &[]],
+);
+
+const RESET: Named = Named(CommandId::ResetDescriptorPool, &[&[3], &[8]]);
+
+static RESET_WHILE_WRITTEN: [Step; 2] = [
+    Step::Begins(1, 11, UPDATE, &[]),
+    Step::Begins(2, 12, RESET, &[Overlap(1, 0, 11)]),
+];
 
 #[test]
 fn a_pool_is_reset_while_its_set_is_written(rt: HostRuntime) -> Result<(), Fail> {
-    let alloc = rt.alloc();
-    let mut state = with_set(alloc)?;
-    begin(
-        alloc,
-        &mut state,
-        on(1, 11),
-        CommandId::UpdateDescriptorSets,
-        &[&[3], &[9], &[], &[], &[], &[]],
-    )?;
-    let found = is_found(
-        alloc,
-        &mut state,
-        on(2, 12),
-        CommandId::ResetDescriptorPool,
-        &[&[3], &[8]],
-        &[overlap(1, 0, 11)],
-    )?;
-    assert!(rt; found);
-    Ok(())
+    let mut state = with_set(&rt, rt.alloc())?;
+    all_go(&rt, rt.alloc(), &mut state, &RESET_WHILE_WRITTEN)
 }
+
+static WRITTEN_AFTER_ITS_END: [Step; 8] = [
+    Step::Begins(1, 11, RESET, &[]),
+    Step::Ends(1, RESET, 0),
+    Step::Begins(1, 12, UPDATE, &[]),
+    Step::Begins(2, 13, UPDATE, &[Overlap(1, 0, 12)]),
+    Step::Ends(1, UPDATE, 0),
+    Step::Ends(2, UPDATE, 0),
+    Step::Begins(1, 14, RESET, &[]),
+    Step::Begins(2, 15, UPDATE, &[]),
+];
 
 // A dead set is used still where it is named, but the reset of its pool no longer writes it.
 #[test]
 fn a_set_is_written_by_two_threads_after_its_end(rt: HostRuntime) -> Result<(), Fail> {
-    let alloc = rt.alloc();
-    let mut state = with_set(alloc)?;
-    begin(
-        alloc,
-        &mut state,
-        on(1, 11),
-        CommandId::ResetDescriptorPool,
-        &[&[3], &[8]],
-    )?;
-    end(
-        alloc,
-        &mut state,
-        1,
-        CommandId::ResetDescriptorPool,
-        &[&[3], &[8]],
-        0,
-    )?;
-    begin(
-        alloc,
-        &mut state,
-        on(1, 12),
-        CommandId::UpdateDescriptorSets,
-        &[&[3], &[9], &[], &[], &[], &[]],
-    )?;
-    let found = is_found(
-        alloc,
-        &mut state,
-        on(2, 13),
-        CommandId::UpdateDescriptorSets,
-        &[&[3], &[9], &[], &[], &[], &[]],
-        &[overlap(1, 0, 12)],
-    )?;
-    assert!(rt; found);
-    end(
-        alloc,
-        &mut state,
-        1,
-        CommandId::UpdateDescriptorSets,
-        &[&[3], &[9], &[], &[], &[], &[]],
-        0,
-    )?;
-    end(
-        alloc,
-        &mut state,
-        2,
-        CommandId::UpdateDescriptorSets,
-        &[&[3], &[9], &[], &[], &[], &[]],
-        0,
-    )?;
-    begin(
-        alloc,
-        &mut state,
-        on(1, 14),
-        CommandId::ResetDescriptorPool,
-        &[&[3], &[8]],
-    )?;
-    begin(
-        alloc,
-        &mut state,
-        on(2, 15),
-        CommandId::UpdateDescriptorSets,
-        &[&[3], &[9], &[], &[], &[], &[]],
-    )?;
-    Ok(())
+    let mut state = with_set(&rt, rt.alloc())?;
+    all_go(&rt, rt.alloc(), &mut state, &WRITTEN_AFTER_ITS_END)
 }
+
+const UPDATE_TWICE: Named = Named(
+    CommandId::UpdateDescriptorSets,
+    &[&[3], &[9, 9], &[], &[], &[], &[]],
+);
+
+static NAMED_TWICE: [Step; 2] = [
+    Step::Begins(1, 11, UPDATE, &[]),
+    Step::Begins(2, 12, UPDATE_TWICE, &[Overlap(1, 0, 11), Overlap(1, 1, 11)]),
+];
 
 #[test]
 fn a_call_names_a_set_twice(rt: HostRuntime) -> Result<(), Fail> {
-    let alloc = rt.alloc();
-    let mut state = with_set(alloc)?;
-    begin(
-        alloc,
-        &mut state,
-        on(1, 11),
-        CommandId::UpdateDescriptorSets,
-        &[&[3], &[9], &[], &[], &[], &[]],
-    )?;
-    let found = is_found(
-        alloc,
-        &mut state,
-        on(2, 12),
-        CommandId::UpdateDescriptorSets,
-        &[&[3], &[9, 9], &[], &[], &[], &[]],
-        &[overlap(1, 0, 11), overlap(1, 1, 11)],
-    )?;
-    assert!(rt; found);
-    Ok(())
+    let mut state = with_set(&rt, rt.alloc())?;
+    all_go(&rt, rt.alloc(), &mut state, &NAMED_TWICE)
 }
+
+const SUBMIT_6: Named = Named(CommandId::QueueSubmit, &[&[4], &[], &[6], &[], &[0]]);
+
+static BY_ITSELF_AND_BY_ITS_POOL: [Step; 3] = [
+    Step::Begins(1, 11, ALLOCATE, &[]),
+    Step::Begins(2, 12, SUBMIT_6, &[]),
+    Step::Begins(3, 13, BEGIN_6, &[Overlap(0, 0, 11)]),
+];
 
 // The buffer conflicts with the second call, its pool with the first: one finding, with the lesser number.
 #[test]
 fn an_argument_conflicts_by_itself_and_by_its_pool(rt: HostRuntime) -> Result<(), Fail> {
-    let alloc = rt.alloc();
-    let mut state = with_command_pool(alloc)?;
-    begin(
-        alloc,
-        &mut state,
-        on(1, 11),
-        CommandId::AllocateCommandBuffers,
-        &[&[3], &[5]],
-    )?;
-    begin(
-        alloc,
-        &mut state,
-        on(2, 12),
-        CommandId::QueueSubmit,
-        &[&[4], &[], &[6], &[], &[0]],
-    )?;
-    let found = is_found(
-        alloc,
-        &mut state,
-        on(3, 13),
-        CommandId::BeginCommandBuffer,
-        &[&[6]],
-        &[overlap(0, 0, 11)],
-    )?;
-    assert!(rt; found);
-    Ok(())
+    let mut state = with_command_pool(&rt, rt.alloc())?;
+    all_go(&rt, rt.alloc(), &mut state, &BY_ITSELF_AND_BY_ITS_POOL)
 }
+
+static LEAST: [Step; 7] = [
+    Step::Begins(1, 30, SUBMIT, &[]),
+    Step::Begins(2, 20, SUBMIT, &[Overlap(0, 0, 30)]),
+    Step::Begins(3, 40, SUBMIT, &[Overlap(0, 0, 20)]),
+    Step::Ends(2, SUBMIT, 0),
+    Step::Begins(2, 50, SUBMIT, &[Overlap(0, 0, 30)]),
+    Step::Ends(1, SUBMIT, 0),
+    Step::Begins(1, 60, SUBMIT, &[Overlap(0, 0, 40)]),
+];
 
 #[test]
 fn the_least_number_is_named(rt: HostRuntime) -> Result<(), Fail> {
-    let alloc = rt.alloc();
-    let mut state = with_queue(alloc)?;
-    begin(
-        alloc,
-        &mut state,
-        on(1, 30),
-        CommandId::QueueSubmit,
-        &[&[4], &[], &[], &[], &[0]],
-    )?;
-    let found = is_found(
-        alloc,
-        &mut state,
-        on(2, 20),
-        CommandId::QueueSubmit,
-        &[&[4], &[], &[], &[], &[0]],
-        &[overlap(0, 0, 30)],
-    )?;
-    assert!(rt; found);
-    let found = is_found(
-        alloc,
-        &mut state,
-        on(3, 40),
-        CommandId::QueueSubmit,
-        &[&[4], &[], &[], &[], &[0]],
-        &[overlap(0, 0, 20)],
-    )?;
-    assert!(rt; found);
-    end(
-        alloc,
-        &mut state,
-        2,
-        CommandId::QueueSubmit,
-        &[&[4], &[], &[], &[], &[0]],
-        0,
-    )?;
-    let found = is_found(
-        alloc,
-        &mut state,
-        on(2, 50),
-        CommandId::QueueSubmit,
-        &[&[4], &[], &[], &[], &[0]],
-        &[overlap(0, 0, 30)],
-    )?;
-    assert!(rt; found);
-    end(
-        alloc,
-        &mut state,
-        1,
-        CommandId::QueueSubmit,
-        &[&[4], &[], &[], &[], &[0]],
-        0,
-    )?;
-    let found = is_found(
-        alloc,
-        &mut state,
-        on(1, 60),
-        CommandId::QueueSubmit,
-        &[&[4], &[], &[], &[], &[0]],
-        &[overlap(0, 0, 40)],
-    )?;
-    assert!(rt; found);
-    Ok(())
+    let mut state = with_queue(&rt, rt.alloc())?;
+    all_go(&rt, rt.alloc(), &mut state, &LEAST)
 }
+
+const WAIT_FOR_DEVICE: Named = Named(CommandId::DeviceWaitIdle, &[&[3]]);
+
+static WAITED_FOR: [Step; 4] = [
+    Step::Begins(1, 11, SUBMIT, &[]),
+    Step::Begins(2, 12, WAIT_FOR_DEVICE, &[Overlap(0, 0, 11)]),
+    Step::Ends(1, SUBMIT, 0),
+    Step::Begins(1, 13, SUBMIT, &[Overlap(0, 0, 12)]),
+];
 
 #[test]
 fn a_device_is_waited_for_while_its_queue_is_in_use(rt: HostRuntime) -> Result<(), Fail> {
-    let alloc = rt.alloc();
-    let mut state = with_queue(alloc)?;
-    begin(
-        alloc,
-        &mut state,
-        on(1, 11),
-        CommandId::QueueSubmit,
-        &[&[4], &[], &[], &[], &[0]],
-    )?;
-    let found = is_found(
-        alloc,
-        &mut state,
-        on(2, 12),
-        CommandId::DeviceWaitIdle,
-        &[&[3]],
-        &[overlap(0, 0, 11)],
-    )?;
-    assert!(rt; found);
-    end(
-        alloc,
-        &mut state,
-        1,
-        CommandId::QueueSubmit,
-        &[&[4], &[], &[], &[], &[0]],
-        0,
-    )?;
-    let found = is_found(
-        alloc,
-        &mut state,
-        on(1, 13),
-        CommandId::QueueSubmit,
-        &[&[4], &[], &[], &[], &[0]],
-        &[overlap(0, 0, 12)],
-    )?;
-    assert!(rt; found);
-    Ok(())
+    let mut state = with_queue(&rt, rt.alloc())?;
+    all_go(&rt, rt.alloc(), &mut state, &WAITED_FOR)
 }
+
+const SUBMIT_TO_NOTHING: Named = Named(CommandId::QueueSubmit, &[&[40], &[], &[], &[], &[0]]);
+
+static NOTHING_GAVE_IT: [Step; 2] = [
+    Step::Begins(1, 11, SUBMIT_TO_NOTHING, &[]),
+    Step::Begins(2, 12, SUBMIT_TO_NOTHING, &[]),
+];
 
 #[test]
 fn an_object_that_nothing_gave_is_not_used(rt: HostRuntime) -> Result<(), Fail> {
-    let alloc = rt.alloc();
-    let mut state = with_queue(alloc)?;
-    begin(
-        alloc,
-        &mut state,
-        on(1, 11),
-        CommandId::QueueSubmit,
-        &[&[40], &[], &[], &[], &[0]],
-    )?;
-    begin(
-        alloc,
-        &mut state,
-        on(2, 12),
-        CommandId::QueueSubmit,
-        &[&[40], &[], &[], &[], &[0]],
-    )?;
-    Ok(())
+    let mut state = with_queue(&rt, rt.alloc())?;
+    all_go(&rt, rt.alloc(), &mut state, &NOTHING_GAVE_IT)
 }
+
+static OPEN_UNTIL_RESULTS: [Step; 5] = [
+    Step::Begins(1, 11, DESTROY_POOL, &[]),
+    Step::Begins(2, 12, BEGIN_6, &[Overlap(0, 0, 11)]),
+    Step::Ends(2, BEGIN_6, 0),
+    Step::Ends(1, DESTROY_POOL, 0),
+    Step::Begins(2, 13, BEGIN_6, &[]),
+];
 
 // The part is not told whether a part further on skips the call.
 #[test]
 fn a_call_is_open_until_its_results_come(rt: HostRuntime) -> Result<(), Fail> {
-    let alloc = rt.alloc();
-    let mut state = with_command_pool(alloc)?;
-    begin(
-        alloc,
-        &mut state,
-        on(1, 11),
-        CommandId::DestroyCommandPool,
-        &[&[3], &[5]],
-    )?;
-    let found = is_found(
-        alloc,
-        &mut state,
-        on(2, 12),
-        CommandId::BeginCommandBuffer,
-        &[&[6]],
-        &[overlap(0, 0, 11)],
-    )?;
-    assert!(rt; found);
-    end(
-        alloc,
-        &mut state,
-        2,
-        CommandId::BeginCommandBuffer,
-        &[&[6]],
-        0,
-    )?;
-    end(
-        alloc,
-        &mut state,
-        1,
-        CommandId::DestroyCommandPool,
-        &[&[3], &[5]],
-        0,
-    )?;
-    begin(
-        alloc,
-        &mut state,
-        on(2, 13),
-        CommandId::BeginCommandBuffer,
-        &[&[6]],
-    )?;
-    Ok(())
+    let mut state = with_command_pool(&rt, rt.alloc())?;
+    all_go(&rt, rt.alloc(), &mut state, &OPEN_UNTIL_RESULTS)
 }
+
+const DESTROY_BUFFER: Named = Named(CommandId::DestroyBuffer, &[&[3], &[5]]);
+
+static DEAD_BUFFER: [Step; 6] = [
+    Step::Begins(1, 1, CREATE_BUFFER, &[]),
+    Step::Ends(1, CREATE_BUFFER, 5),
+    Step::Begins(1, 1, DESTROY_BUFFER, &[]),
+    Step::Ends(1, DESTROY_BUFFER, 0),
+    Step::Begins(1, 6, DESTROY_BUFFER, &[]),
+    Step::Begins(2, 7, DESTROY_BUFFER, &[Overlap(1, 0, 6)]),
+];
 
 // That a buffer is dead is for a lifetimes part to say.
 #[test]
 fn a_dead_buffer_is_destroyed_by_two_threads(rt: HostRuntime) -> Result<(), Fail> {
-    let alloc = rt.alloc();
-    let mut state = with_queue(alloc)?;
-    make(alloc, &mut state, CommandId::CreateBuffer, &[&[3]], 5)?;
-    let destroy = CommandId::DestroyBuffer;
-    make(alloc, &mut state, destroy, &[&[3], &[5]], 0)?;
-    begin(alloc, &mut state, on(1, 6), destroy, &[&[3], &[5]])?;
-    let found = is_found(
-        alloc,
-        &mut state,
-        on(2, 7),
-        destroy,
-        &[&[3], &[5]],
-        &[overlap(1, 0, 6)],
-    )?;
-    assert!(rt; found);
-    Ok(())
+    let mut state = with_queue(&rt, rt.alloc())?;
+    all_go(&rt, rt.alloc(), &mut state, &DEAD_BUFFER)
 }

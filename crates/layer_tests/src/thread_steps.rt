@@ -1,0 +1,128 @@
+//! Stories of one part that finds overlaps, as tables of steps: a table costs the prover next to nothing, where each call of a
+//! function is proved.
+use crate::calls::{Made, Named, call_of};
+use command_tables::Rule;
+use lifetime_layer::{Finding, Verdict};
+use std::alloc::Global;
+use std::process::Abort;
+use std::test::Fail;
+use thread_layer::UseState;
+
+// A thread with the number of its call.
+#[derive(Clone, Copy)]
+pub(crate) struct Caller {
+    pub thread: u32,
+    pub number: u64,
+}
+
+pub(crate) fn on(thread: u32, number: u64) -> Caller {
+    Caller { thread, number }
+}
+
+// An argument by its parameter and place, and the number of the call that it overlaps with.
+#[derive(Clone, Copy)]
+pub(crate) struct Overlap(pub u8, pub u32, pub u64);
+
+#[derive(Clone, Copy)]
+pub(crate) enum Step {
+    // A call begins on a thread with a number: just these overlaps are found, and it isn't skipped.
+    Begins(u32, u64, Named, &'static [Overlap]),
+    // A thread's call comes back with one result; 0 for none.
+    Ends(u32, Named, u64),
+}
+
+// An overlap with a call, found by the part at place 3.
+pub(crate) fn overlap_finding(param: u8, index: u32, number: u64) -> Finding {
+    Finding {
+        place: 3,
+        param,
+        index,
+        rule: Rule::Overlap,
+        detail: number,
+    }
+}
+
+fn findings_of(alloc: Global, given: &[Overlap]) -> Result<Vec<Finding>, Fail> {
+    let mut findings = Vec::new(alloc);
+    for Overlap(param, index, number) in given {
+        findings.push(overlap_finding(*param, *index, *number))?;
+    }
+    Ok(findings)
+}
+
+// Whether a call that begins has just these findings, and isn't skipped.
+pub(crate) fn is_found(
+    alloc: Global,
+    state: &mut UseState,
+    caller: Caller,
+    named: &Named,
+    findings: &[Finding],
+) -> Result<bool, Fail> {
+    let call = call_of(alloc, named.0, named.1)?;
+    let mut verdict = Verdict::new(alloc);
+    state
+        .enter(caller.thread, caller.number, &call, &mut verdict)
+        .ok()
+        .ok_or("memory")?;
+    Ok(verdict.findings.as_slice() == findings && !verdict.skip)
+}
+
+// A thread's call comes back with one result; 0 for none.
+#[tactic(auto, using(object_records::proofs::Once::one_once))]
+pub(crate) fn end(
+    alloc: Global,
+    state: &mut UseState,
+    thread: u32,
+    named: &Named,
+    handle: u64,
+) -> Result<(), Fail> {
+    let call = call_of(alloc, named.0, named.1)?;
+    state.leave(thread, &call, &[handle]).ok().ok_or("memory")?;
+    Ok(())
+}
+
+// Whether a call that begins on the first thread, and comes back with its result, has no findings.
+fn is_made(alloc: Global, state: &mut UseState, made: &Made) -> Result<bool, Fail> {
+    let named = Named(made.0, made.1);
+    let is_clean = is_found(alloc, state, on(1, 1), &named, &[])?;
+    end(alloc, state, 1, &named, made.2)?;
+    Ok(is_clean)
+}
+
+pub(crate) fn make_all(
+    rt: &impl Abort,
+    alloc: Global,
+    state: &mut UseState,
+    calls: &[Made],
+) -> Result<(), Fail> {
+    for i in 0..calls.len() {
+        assert!(rt; is_made(alloc, state, &calls[i])?, "at made {i}");
+    }
+    Ok(())
+}
+
+fn goes(alloc: Global, state: &mut UseState, step: &Step) -> Result<bool, Fail> {
+    match step {
+        Step::Begins(thread, number, named, overlaps) => {
+            let findings = findings_of(alloc, overlaps)?;
+            is_found(alloc, state, on(*thread, *number), named, &findings)
+        }
+        Step::Ends(thread, named, handle) => {
+            end(alloc, state, *thread, named, *handle)?;
+            Ok(true)
+        }
+    }
+}
+
+// Each step goes as it must.
+pub(crate) fn all_go(
+    rt: &impl Abort,
+    alloc: Global,
+    state: &mut UseState,
+    steps: &[Step],
+) -> Result<(), Fail> {
+    for i in 0..steps.len() {
+        assert!(rt; goes(alloc, state, &steps[i])?, "at step {i}");
+    }
+    Ok(())
+}
