@@ -1,7 +1,7 @@
 #!/usr/bin/env python3
 """fuzz.py ROUNDS [SEED]: tries so many changed traces and so many changed trees of each stored trace, in a copy of the repository.
 
-The gate tries 40 of each, by the two tests of crates/vkreplay/src/fuzz_tests.rt. This runs the same two with another number of rounds and
+The gate tries 40 of each, by the two tests of crates/stress_tests/src/fuzz_tests.rt. This runs the same two with another number of rounds and
 another first number of their generator, and no other test. It needs `rt`, and proves nothing."""
 import pathlib, re, shutil, subprocess, sys, tempfile
 
@@ -23,7 +23,7 @@ def main():
     with tempfile.TemporaryDirectory() as folder:
         copy = pathlib.Path(folder) / "repository"
         shutil.copytree(TOP, copy, ignore=shutil.ignore_patterns("out", ".git"))
-        source = copy / "crates/vkreplay/src"
+        source = copy / "crates/stress_tests/src"
         for file in source.glob("*tests.rt"):
             text = file.read_text()
             if file.name == "fuzz_tests.rt":

@@ -1,37 +1,10 @@
 //! `vkreplay chain` shows which layers and drivers the manifests on this machine come to, and `vkreplay run` replays a recorded Vulkan
 //! trace from standard input through such a chain to model drivers. `vkreplay gen` writes a generated trace, and `vkreplay soak` replays it.
-//! `main` hands the process's words, variables and streams to `replay_tool`, whose call `replay_main` has the promises. The tests are
-//! of whole runs through that call.
+//! `main` hands the process's words, variables and streams to `replay_tool`, whose call `replay_main` has the promises. Tests of
+//! whole runs through that call stand in crates of their own.
 #![tactic(auto)]
 
 ghost use Rattle.std.specs.Prelude.{◌≡◌, []};
-
-#[cfg(test)]
-mod block_tests;
-#[cfg(test)]
-mod case_tests;
-#[cfg(test)]
-mod chain_tests;
-#[cfg(test)]
-mod cut_tests;
-#[cfg(test)]
-mod environment_tests;
-#[cfg(test)]
-mod fault_tests;
-#[cfg(test)]
-mod fuzz_tests;
-#[cfg(test)]
-mod refusal_tests;
-#[cfg(test)]
-mod row_table;
-#[cfg(test)]
-mod row_tests;
-#[cfg(test)]
-mod size_tests;
-#[cfg(test)]
-mod soak_tests;
-#[cfg(test)]
-mod tests;
 
 use dispatch_chain::Kit;
 use lifetime_layer::LifeState;

@@ -1,12 +1,13 @@
 // Generated traces, as they are written and replayed.
 ghost use Rattle.std.specs.Prelude.{None};
 
-use crate::chain_tests::{DRIVER, HOME, Pairs, VALIDATION, tree_of, variables};
-use crate::tests::{finished_of, sink, words_of};
 use env_filters::EnvList;
 use model_driver::{AdverseDriver, ModelDriver, RecordingDriver};
 use replay_base::{Failed, MemSink, MemSource, Sink};
 use replay_core::Status;
+use run_fixtures::{
+    DRIVER, HOME, Pairs, VALIDATION, finished_of, sink, tree_of, variables, words_of,
+};
 use std::alloc::Global;
 use std::process::Abort;
 use std::test::Fail;

@@ -1,15 +1,15 @@
 // What stands after each refusal: of trees that fail at each of their calls, of sinks that fail at each of their writes, and of chains
 // that are too long.
-use crate::case_tests::all_calls;
-use crate::chain_tests::{DRIVER, HOME, Pairs, Seen, seen_over, variables};
-use crate::fault_tests::lines_in;
 use crate::row_table::{FIRST_ROWS, LAST_ROWS, Row, SECOND_ROWS, THIRD_ROWS};
 use crate::row_tests::{lines_of, trace_of};
 use crate::size_tests::{is_limited, names, plain, plain_seen, plain_text};
-use crate::tests::{Streams, run_set, sink, streams_over};
 use model_driver::{ModelDriver, RecordingDriver};
 use replay_base::MemSink;
 use replay_core::Status;
+use run_fixtures::{
+    DRIVER, HOME, Pairs, Seen, Streams, all_calls, lines_in, run_set, seen_over, sink,
+    streams_over, variables,
+};
 use std::alloc::{AllocError, Global};
 use std::process::Abort;
 use std::test::Fail;

@@ -2,10 +2,9 @@
 ghost use Rattle.std.specs.Prelude.{IsTrue};
 ghost use Rattle.model_driver.specs.Driver.{are_handles};
 
-use crate::case_tests::all_calls;
 use crate::row_table::{FIRST_ROWS, LAST_ROWS, Row, SECOND_ROWS, THIRD_ROWS};
-use crate::tests::{run_set, streams_over};
 use model_driver::{AdverseDriver, Driver, ModelDriver, RecordingDriver};
+use run_fixtures::{all_calls, run_set, streams_over};
 use std::alloc::{AllocError, Global};
 use std::process::Abort;
 use std::test::Fail;

@@ -1,7 +1,6 @@
 // Traces behind an instance, a physical device and a device: what is printed, and what the drivers are told.
-use crate::chain_tests::{DRIVER, HOME, LIFETIMES, Pairs, VALIDATION};
-use crate::tests::UNVERSIONED;
 use replay_core::Status;
+use run_fixtures::{DRIVER, HOME, LIFETIMES, Pairs, UNVERSIONED, VALIDATION};
 
 // How a trace begins, what is printed till then, and what the drivers are told.
 #[derive(Clone, Copy)]

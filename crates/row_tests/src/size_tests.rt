@@ -1,11 +1,11 @@
 // Chains of the most layers, meta-layers of the most levels, and searches of the most and the largest manifest files.
-use crate::chain_tests::{
-    DRIVER, HOME, Seen, VALIDATION, VALIDATION_TEXT, put, seen_at, seen_over, set, tree_of,
-    variables,
-};
 use env_filters::EnvList;
 use replay_base::MemTree;
 use replay_core::Status;
+use run_fixtures::{
+    DRIVER, HOME, Seen, VALIDATION, VALIDATION_TEXT, put, seen_at, seen_over, set, tree_of,
+    variables,
+};
 use std::alloc::{AllocError, Global};
 use std::process::Abort;
 use std::test::Fail;

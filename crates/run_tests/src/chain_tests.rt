@@ -1,27 +1,12 @@
 // Chains that are shown: what each tree with its variables prints, says and answers.
-use crate::tests::{finished_of, sink, words_of};
-use env_filters::EnvList;
-use model_driver::ModelDriver;
-use replay_base::{MemSink, MemSource, MemTree};
 use replay_core::Status;
+use run_fixtures::{
+    DRIVER, HOME, LIFETIMES, Pairs, Seen, VALIDATION, VALIDATION_TEXT, seen_at, seen_over, tree_of,
+    variables,
+};
 use std::alloc::Global;
 use std::process::Abort;
 use std::test::Fail;
-
-pub type Pairs = &'static [(&'static str, &'static str)];
-
-pub const DRIVER: (&str, &str) = (
-    "/etc/vulkan/icd.d/a.json",
-    r#"{"file_format_version":"1.0.1","ICD":{"library_path":"libvulkan_a.so","api_version":"1.3.275"}}"#,
-);
-
-pub const VALIDATION: (&str, &str) = (
-    "/usr/share/vulkan/explicit_layer.d/v.json",
-    r#"{"file_format_version":"1.2.0","layer":{"name":"VK_LAYER_KHRONOS_validation","type":"GLOBAL","library_path":"libVkLayer_khronos_validation.so","api_version":"1.3.275","implementation_version":"1","description":"Khronos Validation Layer","platforms":["LINUX"],"features":{"presets":[]}}}"#,
-);
-
-pub const VALIDATION_TEXT: &str =
-    "chain 0 ok layers=1 parts=3 drivers=1\nlayer 1 VK_LAYER_KHRONOS_validation /usr/share/vulkan/explicit_layer.d/v.json\npart 1 threads VK_LAYER_KHRONOS_validation\npart 2 lifetimes VK_LAYER_KHRONOS_validation\npart 3 unique VK_LAYER_KHRONOS_validation\ndriver 1 /etc/vulkan/icd.d/a.json libvulkan_a.so\n";
 
 const NO_LAYERS_TEXT: &str =
     "chain 0 ok layers=0 parts=0 drivers=1\ndriver 1 /etc/vulkan/icd.d/a.json libvulkan_a.so\n";
@@ -43,14 +28,6 @@ const SWITCHED: (&str, &str) = (
     "/usr/share/vulkan/implicit_layer.d/s.json",
     r#"{"file_format_version":"1.2.0","layer":{"name":"VK_LAYER_own_switched","type":"GLOBAL","library_path":"libown_switched.so","api_version":"1.3.275","implementation_version":"1","description":"own","disable_environment":{"D_OVL":"1"},"enable_environment":{"E_OVL":"1"}}}"#,
 );
-
-// An explicit layer that checks and wraps nothing.
-pub const LIFETIMES: (&str, &str) = (
-    "/usr/share/vulkan/explicit_layer.d/l.json",
-    r#"{"file_format_version":"1.2.0","layer":{"name":"VK_LAYER_own_life","type":"GLOBAL","library_path":"libVkLayer_object_lifetimes.so","api_version":"1.3.275","implementation_version":"1","description":"own"}}"#,
-);
-
-pub const HOME: (&str, &str) = ("HOME", "/home/u");
 
 // The words, the files and the variables; and what must be answered, printed and said.
 #[derive(Clone, Copy)]
@@ -149,110 +126,6 @@ static CASES: [Shown; 11] = [
         ..EMPTY
     },
 ];
-
-// The variables of these pairs.
-pub fn variables(alloc: Global, pairs: Pairs) -> Result<EnvList, Fail> {
-    let mut env = EnvList::new(alloc);
-    for (name, value) in pairs {
-        set(&mut env, name, value)?;
-    }
-    Ok(env)
-}
-
-// One variable more.
-pub fn set(env: &mut EnvList, name: &str, value: &str) -> Result<(), Fail> {
-    env.put(name, value).ok().ok_or("no memory")?;
-    Ok(())
-}
-
-// A tree of these files.
-pub fn tree_of(alloc: Global, files: Pairs) -> Result<MemTree, Fail> {
-    let mut tree = MemTree::new(alloc);
-    for (path, text) in files {
-        put(&mut tree, path, text.as_bytes())?;
-    }
-    Ok(tree)
-}
-
-// One file more.
-pub fn put(tree: &mut MemTree, path: &str, bytes: &[u8]) -> Result<(), Fail> {
-    tree.put(path, bytes).ok().ok_or("no memory")?;
-    Ok(())
-}
-
-// What is shown of a tree, with its status and what is said.
-#[derive(Drop)]
-pub struct Seen {
-    pub status: Status,
-    pub out: Vec<u8>,
-    pub errs: Vec<u8>,
-}
-
-// Runs the program over a tree with this trace.
-fn run_over(
-    alloc: Global,
-    words: &[String],
-    env: &EnvList,
-    tree: &mut MemTree,
-    trace: &mut MemSource,
-    out: &mut MemSink,
-    errs: &mut MemSink,
-) -> Status {
-    let mut driver = ModelDriver::new(alloc);
-    finished_of(alloc, words, env, tree, trace, out, errs, &mut driver).status
-}
-
-fn seen_of(alloc: Global, status: Status, out: &MemSink, errs: &MemSink) -> Result<Seen, Fail> {
-    Ok(Seen {
-        status,
-        out: Vec::from_slice(alloc, out.bytes())?,
-        errs: Vec::from_slice(alloc, errs.bytes())?,
-    })
-}
-
-fn seen_with(
-    alloc: Global,
-    words: &[String],
-    env: &EnvList,
-    tree: &mut MemTree,
-    trace: &mut MemSource,
-) -> Result<Seen, Fail> {
-    let mut out = sink_of(alloc, 1_048_576)?;
-    let mut errs = sink(alloc, 0)?;
-    let status = run_over(alloc, words, env, tree, trace, &mut out, &mut errs);
-    seen_of(alloc, status, &out, &errs)
-}
-
-// A sink with room for so many bytes.
-fn sink_of(alloc: Global, room: usize) -> Result<MemSink, Fail> {
-    Ok(
-        MemSink::new(alloc, room, Vec::new(alloc))
-            .ok()
-            .ok_or("no memory")?,
-    )
-}
-
-pub fn seen_at(
-    alloc: Global,
-    words: &str,
-    env: &EnvList,
-    tree: &mut MemTree,
-) -> Result<Seen, Fail> {
-    seen_over(alloc, words, env, tree, "")
-}
-
-// The same with a trace.
-pub fn seen_over(
-    alloc: Global,
-    words: &str,
-    env: &EnvList,
-    tree: &mut MemTree,
-    trace: &str,
-) -> Result<Seen, Fail> {
-    let bytes = Vec::from_slice(alloc, trace.as_bytes())?;
-    let mut trace = MemSource::new(bytes, Vec::new(alloc));
-    seen_with(alloc, &words_of(alloc, words)?, env, tree, &mut trace)
-}
 
 fn shown_of(alloc: Global, case: &Shown) -> Result<Seen, Fail> {
     let env = variables(alloc, case.env)?;

@@ -1,12 +1,10 @@
 // A trace of sixteen calls through the validation layer that is cut behind each byte, and one whose source fails behind each.
-use crate::chain_tests::{tree_of, variables};
-use crate::fault_tests::{ByteSource, lines_in};
 use crate::row_table::{Row, SECOND_ROWS};
 use crate::row_tests::{lines_of, trace_of};
-use crate::tests::{finished_of, sink, words_of};
 use model_driver::ModelDriver;
 use replay_base::{MemSink, MemSource, Source};
 use replay_core::Status;
+use run_fixtures::{ByteSource, finished_of, lines_in, sink, tree_of, variables, words_of};
 use std::alloc::{AllocError, Global};
 use std::process::Abort;
 use std::test::Fail;

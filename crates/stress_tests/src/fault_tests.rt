@@ -1,47 +1,17 @@
 // Runs over a source and a sink that move one byte a call and fail at one of their calls.
 ghost use Rattle.std.specs.Prelude.{None};
 
-use crate::chain_tests::{DRIVER, tree_of};
-use crate::tests::{TWICE, TWICE_TEXT, finished_of, sink, words_of};
 use env_filters::EnvList;
 use model_driver::{Driver, ModelDriver, RecordingDriver};
 use replay_base::{Failed, MemSink, MemSource, MemTree, Sink, Source};
 use replay_core::Status;
 use replay_tool::BlockSink;
+use run_fixtures::{
+    ByteSource, DRIVER, TWICE, TWICE_TEXT, finished_of, lines_in, sink, tree_of, words_of,
+};
 use std::alloc::{AllocError, Global};
 use std::process::Abort;
 use std::test::Fail;
-
-#[derive(Drop)]
-pub struct ByteSource {
-    pub bytes: Vec<u8>,
-    pub at: usize,
-    pub fails_at: usize,
-    pub faults: u64,
-}
-
-impl Source for ByteSource {
-    ghost left = { λ _. None };
-
-    ghost faults = { λ s. s.faults };
-
-    ghost loan = { λ _. None };
-
-    fn read(&mut self, buf: &mut [u8]) -> Result<usize, Failed> {
-        if self.at == self.fails_at {
-            self.faults = self.faults.saturating_add(1);
-            return Err(Failed);
-        }
-        match self.bytes.get(self.at).copied() {
-            None => Ok(0),
-            Some(byte) => {
-                buf[0] = byte;
-                self.at = self.at.saturating_add(1);
-                Ok(1)
-            }
-        }
-    }
-}
 
 #[derive(Drop)]
 struct ByteSink {
@@ -147,10 +117,6 @@ fn cut_run(alloc: Global, read: usize, written: usize) -> Result<Cut, Fail> {
     let trace = source_at(alloc, read)?;
     let errs = sink(alloc, 0)?;
     Ok(cut_of(alloc, &words, tree, trace, errs, written))
-}
-
-pub fn lines_in(text: &[u8]) -> usize {
-    text.iter().filter(|byte| **byte == b'\n').count()
 }
 
 // How many lines are written, and how many calls the driver is told, by the number of lines of the trace.

@@ -1,31 +1,21 @@
 // Whole runs over memory: what each prints, says and asks the driver.
-use crate::chain_tests::{DRIVER, Pairs, VALIDATION, tree_of, variables};
 use command_tables::CommandId;
-use dispatch_chain::Kit;
-use env_filters::EnvList;
-use lifetime_layer::LifeState;
 use model_driver::{AdverseDriver, Driver, DriverCall, DriverReply, ModelDriver, RecordingDriver};
-use replay_base::{MemSink, MemSource, MemTree, NoMemory, Sink, Source, Tree};
-use replay_core::{Session, Status};
-use replay_tool::{Finished, replay_main};
+use replay_base::MemSource;
+use replay_core::Status;
+use run_fixtures::{
+    DRIVER, Pairs, Streams, TWICE, TWICE_TEXT, UNVERSIONED, VALIDATION, run_set, run_with,
+    streams_at, streams_with,
+};
 use std::alloc::{AllocError, Global};
 use std::process::Abort;
 use std::test::Fail;
-use thread_layer::UseState;
-use unique_layer::UniqueState;
 
 const FIRST: &str =
     "vktrace 1\nb 1 vkCreateInstance = %1.1 VK_SUCCESS\nr 1\nb 1 vkEnumeratePhysicalDevices %1.1 = %1.2 VK_SUCCESS\nr 1\nb 1 vkCreateDevice %1.2 = %1.3 VK_SUCCESS\nr 1\nb 1 vkDestroyDevice %1.3 void\nr 1\nb 1 vkDestroyInstance %1.1 void\nr 1\n";
 
 const FIRST_TEXT: &str =
     "chain 1 ok layers=0 parts=0 drivers=1\ndriver 1 /etc/vulkan/icd.d/a.json libvulkan_a.so\nret 1 vkCreateInstance VK_SUCCESS born=1\nret 2 vkEnumeratePhysicalDevices VK_SUCCESS born=1\nret 3 vkCreateDevice VK_SUCCESS born=1\nret 4 vkDestroyDevice void\nret 5 vkDestroyInstance void\nend calls=5 skipped=0 reports=0\n";
-
-// A device that is destroyed twice.
-pub const TWICE: &str =
-    "vktrace 1\nb 1 vkCreateInstance = %1.1 VK_SUCCESS\nr 1\nb 1 vkEnumeratePhysicalDevices %1.1 = %1.2 VK_SUCCESS\nr 1\nb 1 vkCreateDevice %1.2 = %1.3 VK_SUCCESS\nr 1\nb 1 vkDestroyDevice %1.3 void\nr 1\nb 1 vkDestroyDevice %1.3 void\nr 1\n";
-
-pub const TWICE_TEXT: &str =
-    "chain 1 ok layers=0 parts=0 drivers=1\ndriver 1 /etc/vulkan/icd.d/a.json libvulkan_a.so\nret 1 vkCreateInstance VK_SUCCESS born=1\nret 2 vkEnumeratePhysicalDevices VK_SUCCESS born=1\nret 3 vkCreateDevice VK_SUCCESS born=1\nret 4 vkDestroyDevice void\nreport 5 0 VUID-vkDestroyDevice-device-parameter %1.3\nret 5 vkDestroyDevice void\nend calls=5 skipped=1 reports=1\n";
 
 // A buffer and then its device are used behind their ends.
 const DEAD: &str =
@@ -51,9 +41,6 @@ const ONE: &str = "vktrace 1\nb 1 vkCreateInstance = %1.1 VK_SUCCESS\nr 1\n";
 // The lines of a chain without layers at the first call.
 const BARE_CHAIN: &str =
     "chain 1 ok layers=0 parts=0 drivers=1\ndriver 1 /etc/vulkan/icd.d/a.json libvulkan_a.so\n";
-
-// A manifest of a driver without a version.
-pub const UNVERSIONED: (&str, &str) = ("/etc/vulkan/icd.d/c.json", "{}");
 
 // A driver's manifest below another root.
 const ELSEWHERE: (&str, &str) = (
@@ -335,14 +322,6 @@ static LATER_RUNS: [Run<'static>; 18] = [
     },
 ];
 
-pub fn words_of(alloc: Global, text: &str) -> Result<Vec<String>, Fail> {
-    let mut words = Vec::new(alloc);
-    for word in text.split_whitespace() {
-        words.push(String::from_str(alloc, word)?)?;
-    }
-    Ok(words)
-}
-
 fn bytes_of(alloc: Global, run: &Run) -> Result<Vec<u8>, AllocError> {
     let mut bytes = Vec::from_slice(alloc, run.trace.as_bytes())?;
     bytes.resize(bytes.len().saturating_add(run.letters), run.letter)?;
@@ -350,131 +329,13 @@ fn bytes_of(alloc: Global, run: &Run) -> Result<Vec<u8>, AllocError> {
     Ok(bytes)
 }
 
-fn sink_of(alloc: Global, room: usize, fails: u64) -> Result<MemSink, NoMemory> {
-    MemSink::new(alloc, room, vec![in alloc; fails]?)
-}
-
-pub fn sink(alloc: Global, fails: u64) -> Result<MemSink, Fail> {
-    Ok(sink_of(alloc, 4096, fails).ok().ok_or("no memory")?)
-}
-
-// What goes in and out of a run over memory.
-#[derive(Drop)]
-pub struct Streams {
-    pub tree: MemTree,
-    pub trace: MemSource,
-    pub out: MemSink,
-    pub errs: MemSink,
-}
-
 fn streams_of(alloc: Global, run: &Run) -> Result<Streams, Fail> {
-    let tree = tree_of(alloc, run.files)?;
-    let out = sink(alloc, run.write_fails)?;
-    let errs = sink(alloc, 0)?;
-    let trace = source_of(alloc, run)?;
-    Ok(Streams {
-        tree,
-        trace,
-        out,
-        errs,
-    })
+    streams_with(alloc, run.files, source_of(alloc, run)?, run.write_fails)
 }
 
 fn source_of(alloc: Global, run: &Run) -> Result<MemSource, AllocError> {
     let fails = vec![in alloc; run.read_fails]?;
     Ok(MemSource::new(bytes_of(alloc, run)?, fails))
-}
-
-// The streams of a run that doesn't fail.
-pub fn streams_over(alloc: Global, files: Pairs, trace: &str) -> Result<Streams, Fail> {
-    streams_of(
-        alloc,
-        &Run {
-            files,
-            trace,
-            ..CLEAN
-        },
-    )
-}
-
-// The same over one driver.
-pub fn streams_at(alloc: Global, trace: &str) -> Result<Streams, Fail> {
-    streams_over(alloc, &[DRIVER], trace)
-}
-
-// Runs the program with a kit of the layers' own calls.
-pub fn finished_of<T: Tree, S: Source, K: Sink, L: Sink, D: Driver>(
-    alloc: Global,
-    words: &[String],
-    env: &EnvList,
-    tree: &mut T,
-    trace: &mut S,
-    out: &mut K,
-    errs: &mut L,
-    driver: &mut D,
-) -> Finished {
-    let kit = Kit::new(
-        UniqueState::enter,
-        UniqueState::leave,
-        LifeState::enter,
-        LifeState::leave,
-        UseState::enter,
-        UseState::leave,
-    );
-    replay_main(
-        alloc,
-        words,
-        env,
-        Session::new(alloc, &kit),
-        &kit,
-        tree,
-        trace,
-        out,
-        errs,
-        driver,
-    )
-}
-
-// Runs the program over memory.
-fn run_of<D: Driver>(
-    alloc: Global,
-    words: &[String],
-    env: &EnvList,
-    streams: &mut Streams,
-    driver: &mut D,
-) -> Finished {
-    finished_of(
-        alloc,
-        words,
-        env,
-        &mut streams.tree,
-        &mut streams.trace,
-        &mut streams.out,
-        &mut streams.errs,
-        driver,
-    )
-}
-
-// The same with words and variables that are made first.
-pub fn run_set<D: Driver>(
-    alloc: Global,
-    words: &str,
-    env: Pairs,
-    streams: &mut Streams,
-    driver: &mut D,
-) -> Result<Finished, Fail> {
-    let env = variables(alloc, env)?;
-    Ok(run_of(alloc, &words_of(alloc, words)?, &env, streams, driver))
-}
-
-// The same without variables.
-pub fn run_with<D: Driver>(
-    alloc: Global,
-    words: &str,
-    streams: &mut Streams,
-    driver: &mut D,
-) -> Result<Finished, Fail> {
-    run_set(alloc, words, &[], streams, driver)
 }
 
 fn is_written(rt: &impl Abort, streams: &Streams, run: &Run) {

@@ -2,11 +2,10 @@
 ghost use Rattle.std.specs.Prelude.{IsTrue};
 ghost use Rattle.model_driver.specs.Driver.{are_handles};
 
-use crate::chain_tests::{DRIVER, HOME, VALIDATION, put, variables};
-use crate::tests::{TWICE, finished_of, sink, words_of};
 use model_driver::{AdverseDriver, Driver, ModelDriver};
 use replay_base::{MemSink, MemSource, MemTree};
 use replay_core::Status;
+use run_fixtures::{DRIVER, HOME, TWICE, VALIDATION, finished_of, put, sink, variables, words_of};
 use std::alloc::{AllocError, Global};
 use std::process::Abort;
 use std::test::Fail;

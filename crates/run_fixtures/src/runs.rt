@@ -1,0 +1,151 @@
+use crate::files::{DRIVER, Pairs, tree_of, variables};
+use dispatch_chain::Kit;
+use env_filters::EnvList;
+use lifetime_layer::LifeState;
+use model_driver::Driver;
+use replay_base::{MemSink, MemSource, MemTree, NoMemory, Sink, Source, Tree};
+use replay_core::Session;
+use replay_tool::{Finished, replay_main};
+use std::alloc::Global;
+use std::test::Fail;
+use thread_layer::UseState;
+use unique_layer::UniqueState;
+
+/// A device that is destroyed twice.
+pub const TWICE: &str =
+    "vktrace 1\nb 1 vkCreateInstance = %1.1 VK_SUCCESS\nr 1\nb 1 vkEnumeratePhysicalDevices %1.1 = %1.2 VK_SUCCESS\nr 1\nb 1 vkCreateDevice %1.2 = %1.3 VK_SUCCESS\nr 1\nb 1 vkDestroyDevice %1.3 void\nr 1\nb 1 vkDestroyDevice %1.3 void\nr 1\n";
+
+/// What it prints.
+pub const TWICE_TEXT: &str =
+    "chain 1 ok layers=0 parts=0 drivers=1\ndriver 1 /etc/vulkan/icd.d/a.json libvulkan_a.so\nret 1 vkCreateInstance VK_SUCCESS born=1\nret 2 vkEnumeratePhysicalDevices VK_SUCCESS born=1\nret 3 vkCreateDevice VK_SUCCESS born=1\nret 4 vkDestroyDevice void\nreport 5 0 VUID-vkDestroyDevice-device-parameter %1.3\nret 5 vkDestroyDevice void\nend calls=5 skipped=1 reports=1\n";
+
+/// The words of a command line that spaces part.
+pub fn words_of(alloc: Global, text: &str) -> Result<Vec<String>, Fail> {
+    let mut words = Vec::new(alloc);
+    for word in text.split_whitespace() {
+        words.push(String::from_str(alloc, word)?)?;
+    }
+    Ok(words)
+}
+
+fn sink_of(alloc: Global, room: usize, fails: u64) -> Result<MemSink, NoMemory> {
+    MemSink::new(alloc, room, vec![in alloc; fails]?)
+}
+
+/// A sink with room for 4,096 bytes, whose call of this number fails, where it isn't 0.
+pub fn sink(alloc: Global, fails: u64) -> Result<MemSink, Fail> {
+    Ok(sink_of(alloc, 4096, fails).ok().ok_or("no memory")?)
+}
+
+/// What goes in and out of a run over memory.
+#[derive(Drop)]
+pub struct Streams {
+    pub tree: MemTree,
+    pub trace: MemSource,
+    pub out: MemSink,
+    pub errs: MemSink,
+}
+
+/// The streams of a run over this trace, whose output fails at the call of a number, where that isn't 0.
+pub fn streams_with(
+    alloc: Global,
+    files: Pairs,
+    trace: MemSource,
+    write_fails: u64,
+) -> Result<Streams, Fail> {
+    let tree = tree_of(alloc, files)?;
+    let out = sink(alloc, write_fails)?;
+    let errs = sink(alloc, 0)?;
+    Ok(Streams {
+        tree,
+        trace,
+        out,
+        errs,
+    })
+}
+
+/// The streams of a run that doesn't fail.
+pub fn streams_over(alloc: Global, files: Pairs, trace: &str) -> Result<Streams, Fail> {
+    let bytes = Vec::from_slice(alloc, trace.as_bytes())?;
+    streams_with(alloc, files, MemSource::new(bytes, Vec::new(alloc)), 0)
+}
+
+/// The same over one driver.
+pub fn streams_at(alloc: Global, trace: &str) -> Result<Streams, Fail> {
+    streams_over(alloc, &[DRIVER], trace)
+}
+
+/// Runs the program with a kit of the layers' own calls.
+pub fn finished_of<T: Tree, S: Source, K: Sink, L: Sink, D: Driver>(
+    alloc: Global,
+    words: &[String],
+    env: &EnvList,
+    tree: &mut T,
+    trace: &mut S,
+    out: &mut K,
+    errs: &mut L,
+    driver: &mut D,
+) -> Finished {
+    let kit = Kit::new(
+        UniqueState::enter,
+        UniqueState::leave,
+        LifeState::enter,
+        LifeState::leave,
+        UseState::enter,
+        UseState::leave,
+    );
+    replay_main(
+        alloc,
+        words,
+        env,
+        Session::new(alloc, &kit),
+        &kit,
+        tree,
+        trace,
+        out,
+        errs,
+        driver,
+    )
+}
+
+// Runs the program over memory.
+fn run_of<D: Driver>(
+    alloc: Global,
+    words: &[String],
+    env: &EnvList,
+    streams: &mut Streams,
+    driver: &mut D,
+) -> Finished {
+    finished_of(
+        alloc,
+        words,
+        env,
+        &mut streams.tree,
+        &mut streams.trace,
+        &mut streams.out,
+        &mut streams.errs,
+        driver,
+    )
+}
+
+/// The same with words and variables that are made first.
+pub fn run_set<D: Driver>(
+    alloc: Global,
+    words: &str,
+    env: Pairs,
+    streams: &mut Streams,
+    driver: &mut D,
+) -> Result<Finished, Fail> {
+    let env = variables(alloc, env)?;
+    Ok(run_of(alloc, &words_of(alloc, words)?, &env, streams, driver))
+}
+
+/// The same without variables.
+pub fn run_with<D: Driver>(
+    alloc: Global,
+    words: &str,
+    streams: &mut Streams,
+    driver: &mut D,
+) -> Result<Finished, Fail> {
+    run_set(alloc, words, &[], streams, driver)
+}
