@@ -1,10 +1,10 @@
 // Names with their objects.
-ghost use Rattle.std.specs.Prelude.{◌≡◌, ◌<◌, ◌^◌, ◌++◌, ◌∷◌, [], length, None, Some, OnOk, OnErr, if◌then◌else◌};
+ghost use Rattle.std.specs.Prelude.{◌≡◌, ◌<◌, ◌^◌, ◌++◌, ◌∷◌, [], length, None, Some, IfOk, OnOk, OnErr, if◌then◌else◌};
 ghost use Rattle.std.specs.Option.{option_or};
 ghost use Rattle.trace_format.specs.declared.event.Name.{Name};
 ghost use Rattle.trace_format.specs.Accepting.{same_name};
 ghost use Rattle.replay_model.specs.Past.{object_in};
-ghost use Rattle.session_tables.specs.Shown.{named_at};
+ghost use Rattle.session_tables.specs.Shown.{place_at};
 
 use crate::dense::{put_value, value_at};
 use object_model::Object;
@@ -13,11 +13,12 @@ use std::alloc::{AllocError, Global};
 use std::marker::Model;
 use trace_format::Name;
 
-/// The names that stand for objects, the oldest first. The first object of a name stands in the row of its thread, at its number.
+/// The names that stand for objects, the oldest first; 4,294,967,296 at most.
 #[derive(Drop)]
 pub struct NameTable {
     list: Vec<Named>,
-    objects: Vec<Vec<Option<Object>>>,
+    // The place of a name's first object in the list: in the row of the name's thread, at its number.
+    places: Vec<Vec<Option<u32>>>,
     alloc: Global,
 }
 
@@ -25,31 +26,38 @@ impl Model for NameTable {
     ghost use Rattle.std.specs.Prelude.{◌≡◌, List};
     ghost use Rattle.trace_format.specs.declared.event.Name.{Name};
     ghost use Rattle.replay_model.specs.declared.Named.{Named};
-    ghost use Rattle.replay_model.specs.Past.{object_in};
-    ghost use Rattle.session_tables.specs.Shown.{named_at};
+    ghost use Rattle.session_tables.specs.Shown.{first_at, place_at};
 
     ghost Value = { List Named };
 
     ghost view = { λ t. t.list.items };
 
-    ghost invariant = { λ t. (name : Name) → named_at t.objects.items name ≡ object_in t.list.items name };
+    ghost invariant = { λ t. (name : Name) → place_at t.places.items name ≡ first_at t.list.items name };
 }
 
-// A name that stands for nothing yet has its object.
+// The place behind so many. Places have 32 bits.
+fn place_of(count: usize) -> Result<u32, AllocError>
+    ensures { IfOk result (λ place. place ≡ count) }
+{
+    u32::try_from(count).ok().ok_or(AllocError)
+}
+
+// A name that stands for nothing yet has its place.
 fn keep_first(
     alloc: Global,
-    objects: &mut Vec<Vec<Option<Object>>>,
-    named: Named,
+    places: &mut Vec<Vec<Option<u32>>>,
+    name: Name,
+    place: u32,
 ) -> Result<(), AllocError>
-    ensures ok { OnOk result ((q : Name) → named_at objects.new.items q ≡ option_or (named_at objects.old.items q) (if same_name named.name q then Some named.object else None)) }
-    ensures err { OnErr result ((q : Name) → named_at objects.new.items q ≡ named_at objects.old.items q) }
+    ensures ok { OnOk result ((q : Name) → place_at places.new.items q ≡ option_or (place_at places.old.items q) (if same_name name q then Some place else None)) }
+    ensures err { OnErr result ((q : Name) → place_at places.new.items q ≡ place_at places.old.items q) }
 {
-    let row = named.name.thread as usize;
-    let at = named.name.number as usize;
-    match value_at(objects, row, at) {
+    let row = name.thread as usize;
+    let at = name.number as usize;
+    match value_at(places, row, at) {
         Some(_) => Ok(()),
         None => {
-            put_value(alloc, objects, row, at, named.object)?;
+            put_value(alloc, places, row, at, place)?;
             Ok(())
         }
     }
@@ -61,7 +69,7 @@ impl NameTable {
     {
         NameTable {
             list: Vec::new(alloc),
-            objects: Vec::new(alloc),
+            places: Vec::new(alloc),
             alloc,
         }
     }
@@ -78,16 +86,20 @@ impl NameTable {
     pub fn object_named(&self, name: Name) -> Option<Object>
         ensures { result ≡ object_in self.now name }
     {
-        value_at(&self.objects, name.thread as usize, name.number as usize).copied()
+        match value_at(&self.places, name.thread as usize, name.number as usize) {
+            None => None,
+            Some(place) => Some(self.list[*place as usize].object),
+        }
     }
 
-    /// Adds a name, in memory up to its number. The first object of a name stays.
+    /// Adds a name, in memory up to its number. The first object of a name stays. `AllocError` comes too where there are 2^32 names.
     pub fn push(&mut self, named: Named) -> Result<(), AllocError>
         ensures ok { OnOk result (self.new ≡ self.old ++ named ∷ []) }
         ensures err { OnErr result (self.new ≡ self.old) }
     {
         self.list.reserve(1)?;
-        keep_first(self.alloc, &mut self.objects, named)?;
+        let place = place_of(self.list.len())?;
+        keep_first(self.alloc, &mut self.places, named.name, place)?;
         self.list.push(named)?;
         Ok(())
     }

@@ -255,14 +255,14 @@ pub record IsAdded (es : List IdEntry) (flat vs : List DriverValue) (e : IdEntry
   pub routes : routes_from 1 (es ++ e ∷ []) ≡ add_route (routes_from 1 es) (record { ty = e.ty; number = id }) e.driver
   pub table : IsTable (es ++ e ∷ []) (flat ++ vs)
 
-pub added : (es : List IdEntry) (flat vs : List DriverValue) (e : IdEntry) (id : ℕ) → IsTable es flat → e.start ≡ length flat → e.len ≡ length vs → id ≡ length es + 1 → IsAdded es flat vs e id
-added es flat vs e id table start len is = record {
+pub added : (es : List IdEntry) (flat vs : List DriverValue) (e : IdEntry) (id : ℕ) → IsTable es flat → length flat + length vs ≤ 4294967295 → e.start ≡ length flat → e.len ≡ length vs → id ≡ length es + 1 → IsAdded es flat vs e id
+added es flat vs e id table short start len is = record {
   entries = ids_more es (flat ++ vs) e 1 id (omega (arith, is))
       ∙ (ap (λ (xs : List (MapEntry (List Value))). xs ++ (let x : MapEntry (List Value) = record { ty = e.ty; id = id; values = map value_of (values_at (flat ++ vs) e) } in x) ∷ []) (ids_stay es flat vs 1 table.inside)
       ∙ (ap (λ (ys : List DriverValue). ids_from 1 flat es ++ (let x : MapEntry (List Value) = record { ty = e.ty; id = id; values = map value_of ys } in x) ∷ []) own
       ∙ sym (put_absent (ids_from 1 flat es) e.ty id (map value_of vs) none)));
   routes = routes_more es e 1 id (omega (arith, is)) ∙ sym (new_route (is_routed e.ty));
-  table = record { inside = within; apart = apart };
+  table = record { short = omega (arith, short, long); inside = within; apart = apart };
 }
   where
     own : values_at (flat ++ vs) e ≡ vs
@@ -348,11 +348,11 @@ pub record IsRenewed (es : List IdEntry) (flat flat2 vs : List DriverValue) (e :
 
 renewed : (es : List IdEntry) (flat flat2 vs : List DriverValue) (e d : IdEntry) (id : ℕ) (t : ObjectType) → IsPlace es t id (id - 1) → IsTable es flat → e.ty ≡ (get_or es (id - 1) d).ty → e.driver ≡ (get_or es (id - 1) d).driver → values_at flat2 e ≡ vs
     → ((p : ℕ) (x : IdEntry) → p < length es → p ≢ id - 1 → (values_at flat2 (get_or es p x) ≡ values_at flat (get_or es p x)) × AreApart e (get_or es p x) × AreApart (get_or es p x) e) → IsInside flat2 e → length flat ≤ length flat2
-    → IsRenewed es flat flat2 vs e id t
-renewed es flat flat2 vs e d id t is table type driver own others inside long = record {
+    → length flat2 ≤ 4294967295 → IsRenewed es flat flat2 vs e id t
+renewed es flat flat2 vs e d id t is table type driver own others inside long short = record {
   entries = ids_put es flat flat2 vs e 1 (id - 1) id t d is.within (omega (arith, is.number)) (is.type d) (type ∙ is.type d) own (λ (p : ℕ) (x : IdEntry) (l : p < length es) (ne : p ≢ id - 1). (others p x l ne).0);
   routes = routes_put es e 1 (id - 1) d is.within type driver;
-  table = record { inside = within; apart = apart };
+  table = record { short = short; inside = within; apart = apart };
 }
   where
     count : length (set es (id - 1) e) ≡ length es
@@ -396,7 +396,7 @@ renewed_here es flat vs e d id t is table type driver start len few =
     let long : length (written flat here.start vs) ≡ length flat = length-written flat here.start vs in
     renewed es flat (written flat here.start vs) vs e d id t is table type driver
     (ap (λ (n : ℕ). take n (drop e.start (written flat here.start vs))) len ∙ (ap (λ (n : ℕ). take (length vs) (drop n (written flat here.start vs))) start ∙ written_own flat vs here.start (omega (arith, inside, few))))
-    others (omega (arith, inside, few, len, start, long)) (omega (arith, long))
+    others (omega (arith, inside, few, len, start, long)) (omega (arith, long)) (omega (arith, long, table.short))
   where
     others : (p : ℕ) (x : IdEntry) → p < length es → p ≢ id - 1 → (values_at (written flat (get_or es (id - 1) d).start vs) (get_or es p x) ≡ values_at flat (get_or es p x)) × AreApart e (get_or es p x) × AreApart (get_or es p x) e
     others p x less ne =
@@ -409,12 +409,12 @@ renewed_here es flat vs e d id t is table type driver start len few =
 
 -- values behind the others
 pub renewed_behind : (es : List IdEntry) (flat vs : List DriverValue) (e d : IdEntry) (id : ℕ) (t : ObjectType) → IsPlace es t id (id - 1) → IsTable es flat → e.ty ≡ (get_or es (id - 1) d).ty → e.driver ≡ (get_or es (id - 1) d).driver → e.start ≡ length flat → e.len ≡ length vs
-    → IsRenewed es flat (flat ++ vs) vs e id t
-renewed_behind es flat vs e d id t is table type driver start len =
+    → length flat + length vs ≤ 4294967295 → IsRenewed es flat (flat ++ vs) vs e id t
+renewed_behind es flat vs e d id t is table type driver start len short =
     let long : length (flat ++ vs) ≡ length flat + length vs = length-append flat vs in
     renewed es flat (flat ++ vs) vs e d id t is table type driver
     (ap (λ (n : ℕ). take n (drop e.start (flat ++ vs))) len ∙ (ap (λ (n : ℕ). take (length vs) (drop n (flat ++ vs))) start ∙ added_own flat vs))
-    others (omega (arith, len, start, long)) (omega (arith, long))
+    others (omega (arith, len, start, long)) (omega (arith, long)) (omega (arith, long, short))
   where
     others : (p : ℕ) (x : IdEntry) → p < length es → p ≢ id - 1 → (values_at (flat ++ vs) (get_or es p x) ≡ values_at flat (get_or es p x)) × AreApart e (get_or es p x) × AreApart (get_or es p x) e
     others p x less ne =
@@ -423,10 +423,10 @@ renewed_behind es flat vs e d id t is table type driver start len =
 
 -- ---- as the code has it, with what it wrote
 
-pub added_as : (es es2 : List IdEntry) (flat flat2 vs : List DriverValue) (e : IdEntry) (id : ℕ) → IsTable es flat → e.start ≡ length flat → e.len ≡ length vs → id ≡ length es + 1 → es2 ≡ es ++ e ∷ [] → flat2 ≡ flat ++ vs
+pub added_as : (es es2 : List IdEntry) (flat flat2 vs : List DriverValue) (e : IdEntry) (id : ℕ) → IsTable es flat → length flat + length vs ≤ 4294967295 → e.start ≡ length flat → e.len ≡ length vs → id ≡ length es + 1 → es2 ≡ es ++ e ∷ [] → flat2 ≡ flat ++ vs
     → (ids_from 1 flat2 es2 ≡ with_values (ids_from 1 flat es) e.ty id (map value_of vs)) × (routes_from 1 es2 ≡ add_route (routes_from 1 es) (record { ty = e.ty; number = id }) e.driver) × IsTable es2 flat2
-added_as es es2 flat flat2 vs e id table start len is entries values =
-    let all : IsAdded es flat vs e id = added es flat vs e id table start len is in (
+added_as es es2 flat flat2 vs e id table short start len is entries values =
+    let all : IsAdded es flat vs e id = added es flat vs e id table short start len is in (
       ap (λ (xs : List IdEntry). ids_from 1 flat2 xs) entries ∙ (ap (λ (ys : List DriverValue). ids_from 1 ys (es ++ e ∷ [])) values ∙ all.entries),
       ap (λ (xs : List IdEntry). routes_from 1 xs) entries ∙ all.routes,
       subst (λ (xs : List IdEntry). IsTable xs flat2) (sym entries) (subst (λ (ys : List DriverValue). IsTable (es ++ e ∷ []) ys) (sym values) all.table),
@@ -439,11 +439,11 @@ put_here es flat flat2 vs x id t has table at few wrote =
     subst (λ (f : List DriverValue). IsRenewed es flat f vs (record x { len = length vs }) id t) (sym (wrote ∙ ap (λ (y : IdEntry). written flat y.start vs) at))
     (renewed_here es flat vs (record x { len = length vs }) x id t (place_is es flat t id has) table (ap (λ (y : IdEntry). y.ty) at) (ap (λ (y : IdEntry). y.driver) at) (ap (λ (y : IdEntry). y.start) at) refl few_there)
 
-pub put_behind : (es : List IdEntry) (flat flat2 vs : List DriverValue) (x : IdEntry) (start id : ℕ) (t : ObjectType) → has_pair (ids_from 1 flat es) t id ≡ true → IsTable es flat → x ≡ get_or es (id - 1) x → start ≡ length flat → flat2 ≡ flat ++ vs
+pub put_behind : (es : List IdEntry) (flat flat2 vs : List DriverValue) (x : IdEntry) (start id : ℕ) (t : ObjectType) → has_pair (ids_from 1 flat es) t id ≡ true → IsTable es flat → x ≡ get_or es (id - 1) x → length flat + length vs ≤ 4294967295 → start ≡ length flat → flat2 ≡ flat ++ vs
     → IsRenewed es flat flat2 vs (record x { start = start; len = length vs }) id t
-put_behind es flat flat2 vs x start id t has table at from wrote =
+put_behind es flat flat2 vs x start id t has table at short from wrote =
     subst (λ (f : List DriverValue). IsRenewed es flat f vs (record x { start = start; len = length vs }) id t) (sym wrote)
-    (renewed_behind es flat vs (record x { start = start; len = length vs }) x id t (place_is es flat t id has) table (ap (λ (y : IdEntry). y.ty) at) (ap (λ (y : IdEntry). y.driver) at) from refl)
+    (renewed_behind es flat vs (record x { start = start; len = length vs }) x id t (place_is es flat t id has) table (ap (λ (y : IdEntry). y.ty) at) (ap (λ (y : IdEntry). y.driver) at) from refl short)
 
 pub is_place : (es : List IdEntry) (t : ObjectType) (id : ℕ) (d : IdEntry) → (id ≡ 0 → ⊥) → id - 1 < length es → same_type (get_or es (id - 1) d).ty t ≡ true → IsPlace es t id (id - 1)
 is_place es t zero d some less same = absurd (some refl)

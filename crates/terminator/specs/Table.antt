@@ -44,8 +44,9 @@ IsInside flat e = e.start + e.len ≤ length flat
 abbrev pub AreApart : IdEntry → IdEntry → Type 0
 AreApart a b = (a.start + a.len ≤ b.start) ⊎ (b.start + b.len ≤ a.start)
 
--- the entries and their values fit together
+-- the entries and their values fit together, and a place of a value has 32 bits
 pub record IsTable (entries : List IdEntry) (flat : List DriverValue) : Type 0 where
+  pub short : length flat ≤ 4294967295
   pub inside : (place : ℕ) (other : IdEntry) → place < length entries → IsInside flat (slice_index_or entries place other)
   pub apart : (a b : ℕ) (other : IdEntry) → a < length entries → b < length entries → a ≢ b → AreApart (slice_index_or entries a other) (slice_index_or entries b other)
 

@@ -8,15 +8,16 @@ ghost use Rattle.object_model.specs.Routes.{driver_in};
 ghost use Rattle.terminator.specs.Table.{HasNoPlace, IsPlace, value_of};
 
 use crate::bare::is_routed;
-use crate::entry::IdEntry;
+use crate::entry::{IdEntry, entry_at, with_len};
 use crate::value::DriverValue;
-use crate::values::{span, write};
+use crate::values::{make_room, span, write};
 use command_tables::{NoMemory, ObjectType};
 use object_model::Object;
 use std::alloc::Global;
 use std::marker::Model;
 
-/// The ids that were issued, over all types together, in order from 1; for each its values, and the driver behind it.
+/// The ids that were issued, over all types together, in order from 1; for each its values, and the driver behind it. At most 4,294,967,295
+/// values in all.
 #[derive(Drop)]
 pub struct IdTable {
     entries: Vec<IdEntry>,
@@ -24,12 +25,12 @@ pub struct IdTable {
 }
 
 impl Model for IdTable {
-    ghost use Rattle.std.specs.Prelude.{◌-◌, length, vec_capacity};
+    ghost use Rattle.std.specs.Prelude.{◌-◌, length, min, vec_capacity};
     ghost use Rattle.terminator.specs.Table.{IsTable, TableState, ids_from, routes_from};
 
     ghost Value = { TableState };
 
-    ghost view = { λ t. record { entries = ids_from 1 t.values.items t.entries.items; routes = routes_from 1 t.entries.items; spare = vec_capacity t.entries - length t.entries.items; room = vec_capacity t.values - length t.values.items } };
+    ghost view = { λ t. record { entries = ids_from 1 t.values.items t.entries.items; routes = routes_from 1 t.entries.items; spare = vec_capacity t.entries - length t.entries.items; room = min (vec_capacity t.values) 4294967295 - length t.values.items } };
 
     ghost invariant = { λ t. IsTable t.entries.items t.values.items };
 }
@@ -80,7 +81,7 @@ impl IdTable {
             None => &[],
             Some(place) => {
                 let entry = self.entries[place];
-                span(&self.values, entry.start, entry.len)
+                span(&self.values, entry.start as usize, entry.len as usize)
             }
         }
     }
@@ -125,8 +126,7 @@ impl IdTable {
         ensures succeeds { ids ≤ self.old.spare → values ≤ self.old.room → IsOk result }
     {
         self.entries.reserve(ids)?;
-        self.values.reserve(values)?;
-        Ok(())
+        make_room(&mut self.values, values)
     }
 
     /// Issues the next id. After `NoMemory`, which comes only where there was no room, all is as before.
@@ -146,13 +146,8 @@ impl IdTable {
         ensures room { self.old.room ≤ self.new.room + length values.now }
     {
         self.entries.reserve(1)?;
-        self.values.reserve(values.len())?;
-        let entry = IdEntry {
-            ty,
-            driver,
-            start: self.values.len(),
-            len: values.len(),
-        };
+        make_room(&mut self.values, values.len())?;
+        let entry = entry_at(ty, driver, self.values.len(), values.len());
         self.values.extend_from_slice(values).unwrap();
         self.entries.push(entry).unwrap();
         Ok(self.entries.len() as u64)
@@ -174,18 +169,14 @@ impl IdTable {
         let place = (id - 1) as usize;
         let entry = self.entries[place];
         let len = values.len();
-        if len <= entry.len {
-            write(&mut self.values, entry.start, values);
-            self.entries[place] = IdEntry { len, ..entry };
+        if len <= entry.len as usize {
+            write(&mut self.values, entry.start as usize, values);
+            self.entries[place] = with_len(entry, len);
         } else {
-            self.values.reserve(len)?;
+            make_room(&mut self.values, len)?;
             let start = self.values.len();
             self.values.extend_from_slice(values).unwrap();
-            self.entries[place] = IdEntry {
-                start,
-                len,
-                ..entry
-            };
+            self.entries[place] = entry_at(entry.ty, entry.driver, start, len);
         }
         Ok(())
     }

@@ -5,3 +5,4 @@ pub mod Issued
 pub mod FirstRead
 pub mod Payloads
 pub mod Room
+pub mod Zipping

@@ -25,6 +25,6 @@ found_up_to most (r ∷ rs) k (here, h) = go (has_key k r) (found_up_to most rs 
     go true ih = here
     go false ih = ih
 
--- what is the least of four numbers falls by no more than each
-pub least_falls : (by a b c d e f g h : ℕ) → a ≤ e + by → b ≤ f + by → c ≤ g + by → d ≤ h + by → min (min (min a b) c) d ≤ min (min (min e f) g) h + by
-least_falls by a b c d e f g h ae bf cg dh = omega (arith, ae, bf, cg, dh)
+-- what is the least of three numbers falls by no more than each
+pub least_falls : (by a b c d e f : ℕ) → a ≤ d + by → b ≤ e + by → c ≤ f + by → min (min a b) c ≤ min (min d e) f + by
+least_falls by a b c d e f ad be cf = omega (arith, ad, be, cf)

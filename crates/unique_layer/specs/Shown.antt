@@ -1,6 +1,5 @@
 -- What a unique part's lists say. Source: this project.
 use Rattle.std.specs.Prelude.{ℕ, ◌≤◌, Option, Some, None, List, [], ◌∷◌, ◌++◌, map, take, drop, slice_index_or}
-use Rattle.handle_map.specs.Pairs.{MapEntry}
 use Rattle.command_tables.specs.declared.types.Effect.{Effect}
 use Rattle.command_tables.specs.declared.types.Effect.TheVariants as eff
 use Rattle.command_tables.specs.Table.{ParamSpec}
@@ -10,13 +9,9 @@ use Rattle.layer_model.specs.Parts.{below_params, owner_read}
 use Rattle.unique_layer.specs.declared.key.RetrievedKey.{RetrievedKey}
 use Rattle.unique_layer.specs.declared.entry.KeptEntry.{KeptEntry}
 
--- the handle below an id: the first value of its entry
+-- the first value of an entry
 abbrev pub first_of : List ℕ → ℕ
 first_of values = slice_index_or values 0 0
-
--- an entry with the handle below
-abbrev pub id_of : MapEntry (List ℕ) → MapEntry ℕ
-id_of e = record { ty = e.ty; id = e.id; values = first_of e.values }
 
 -- the ids that are kept of retrieved objects, and how many further ones can be kept with no further memory
 pub record KeptState : Type 0 where
@@ -32,10 +27,6 @@ pub record UniqueKept : Type 0 where
 abbrev pub AreUpTo : ℕ → List KeptId → Type 0
 AreUpTo most [] = Unit {0}
 AreUpTo most (r ∷ rs) = (r.id ≤ most) × AreUpTo most rs
-
--- all entries
-abbrev pub ids_of : List (MapEntry (List ℕ)) → List (MapEntry ℕ)
-ids_of entries = map id_of entries
 
 -- a key; no payload is part of it
 abbrev pub key_of : RetrievedKey → Key

@@ -10,6 +10,7 @@ mod key;
 mod reading;
 mod state;
 mod value;
+mod value_map;
 mod wrapped;
 
 pub use state::UniqueState;

@@ -11,10 +11,9 @@ ghost use Rattle.unique_layer.specs.Shown.{key_asked};
 use crate::kept::KeptIds;
 use crate::key::{RetrievedKey, key_at};
 use crate::reading::key_of;
-use crate::value::first_value;
+use crate::value_map::ValueMap;
 use crate::wrapped::wraps;
 use command_tables::{HandleArgs, LayerCall, NoMemory, ObjectType, Param, row};
-use handle_map::HandleMap;
 use std::alloc::Global;
 use std::marker::Model;
 
@@ -22,7 +21,7 @@ use std::marker::Model;
 /// first. Contracts see besides how many objects can be born to it with no further memory.
 #[derive(Drop)]
 pub struct UniqueState {
-    ids: HandleMap<64>,
+    ids: ValueMap<64>,
     // The greatest id, whatever its type; 0 where there is none.
     greatest: u64,
     kept: KeptIds,
@@ -31,11 +30,11 @@ pub struct UniqueState {
 impl Model for UniqueState {
     ghost use Rattle.std.specs.Prelude.{◌≡◌, ◌-◌, min};
     ghost use Rattle.handle_map.specs.Pairs.{greatest_id};
-    ghost use Rattle.unique_layer.specs.Shown.{AreUpTo, UniqueKept, ids_of};
+    ghost use Rattle.unique_layer.specs.Shown.{AreUpTo, UniqueKept};
 
     ghost Value = { UniqueKept };
 
-    ghost view = { λ s. record { ids = record { entries = ids_of s.ids.entries; kept = s.kept.ids }; spare = min (min (min s.ids.spare s.ids.room) s.kept.spare) (18446744073709551615 - s.greatest) } };
+    ghost view = { λ s. record { ids = record { entries = s.ids.entries; kept = s.kept.ids }; spare = min (min s.ids.spare s.kept.spare) (18446744073709551615 - s.greatest) } };
 
     ghost invariant = { λ s. (s.greatest ≡ greatest_id s.ids.entries) × AreUpTo s.greatest s.kept.ids };
 }
@@ -46,7 +45,7 @@ impl UniqueState {
         ensures { result.ids ≡ no_ids }
     {
         UniqueState {
-            ids: HandleMap::new(alloc),
+            ids: ValueMap::new(alloc),
             greatest: 0,
             kept: KeptIds::new(alloc),
         }
@@ -87,19 +86,15 @@ impl UniqueState {
         if u64::MAX - self.greatest < births as u64 {
             return Err(NoMemory);
         }
-        self.ids.reserve(births, 1)?;
+        self.ids.reserve(births)?;
         self.kept.make_room(births)
     }
 
     // The handle below an id, and 0 below an unknown one.
-    #[tactic(auto, using(crate::proofs::Found::found_below))]
     fn value_below(&self, ty: ObjectType, id: u64) -> u64
         ensures { result ≡ unwrap_or (values_of self.now.ids.entries ty id) 0 }
     {
-        match self.ids.get(ty, id) {
-            None => 0,
-            Some(values) => first_value(values),
-        }
+        self.ids.get(ty, id).unwrap_or(0)
     }
 
     // The handles of one parameter are replaced by those below.
@@ -144,7 +139,7 @@ impl UniqueState {
     }
 
     // The id kept for a result, where the call retrieves. It was issued.
-    #[tactic(auto, using(crate::proofs::Room::found_up_to, crate::proofs::Found::greatest_is))]
+    #[tactic(auto, using(crate::proofs::Room::found_up_to))]
     fn kept_for(&self, key: Option<RetrievedKey>) -> Option<u64>
         ensures id { result ≡ kept_for self.now.ids.kept (key_asked key) }
         ensures known { IfSome result (λ id. id ≤ greatest_id self.now.ids.entries) }
@@ -156,7 +151,7 @@ impl UniqueState {
     }
 
     // A known id, which is at most the greatest, gets the new value.
-    #[tactic(auto, using(crate::proofs::Found::put_found, crate::proofs::Found::greatest_is, crate::proofs::Room::least_falls))]
+    #[tactic(auto, using(crate::proofs::Room::least_falls))]
     fn put_known(&mut self, ty: ObjectType, id: u64, value: u64) -> Result<(), NoMemory>
         requires { id ≤ greatest_id self.old.ids.entries }
         ensures ids { OnOk result (record { id = id; ids = self.new.ids } ≡ known self.old.ids ty id value) }
@@ -164,11 +159,11 @@ impl UniqueState {
         ensures succeeds { 1 ≤ self.old.spare → IsOk result }
         ensures spare { self.old.spare ≤ self.new.spare + 1 }
     {
-        self.ids.insert(ty, id, &[value])
+        self.ids.insert(ty, id, value)
     }
 
     // A new id, kept by its key where the call retrieves.
-    #[tactic(auto, using(crate::proofs::Found::put_found, crate::proofs::Found::next_is, crate::proofs::Room::up_to_more, crate::proofs::Room::up_to_last, crate::proofs::Room::least_falls))]
+    #[tactic(auto, using(crate::proofs::Room::up_to_more, crate::proofs::Room::up_to_last, crate::proofs::Room::least_falls))]
     fn put_new(
         &mut self,
         key: Option<RetrievedKey>,
@@ -184,7 +179,7 @@ impl UniqueState {
         if key.is_some() {
             self.kept.make_room(1)?;
         }
-        self.ids.insert(ty, id, &[value])?;
+        self.ids.insert(ty, id, value)?;
         self.greatest = id;
         if let Some(key) = key {
             self.kept.add(key, id).unwrap();
