@@ -1,4 +1,5 @@
 // A trace of sixteen calls through the validation layer that is cut behind each byte, and one whose source fails behind each.
+use crate::kit::{fresh, kit};
 use crate::row_table::{Row, SECOND_ROWS};
 use crate::row_tests::{lines_of, trace_of};
 use model_driver::ModelDriver;
@@ -28,6 +29,8 @@ fn ended_by<S: Source>(alloc: Global, row: &Row, trace: &mut S) -> Result<(Statu
     let mut errs = sink(alloc, 0)?;
     let mut driver = ModelDriver::new(alloc);
     let status = finished_of(
+        &kit(),
+        fresh(alloc),
         alloc,
         &words,
         &env,

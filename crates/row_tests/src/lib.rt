@@ -5,6 +5,8 @@
 #[cfg(test)]
 mod cut_tests;
 #[cfg(test)]
+mod kit;
+#[cfg(test)]
 mod refusal_tests;
 #[cfg(test)]
 mod row_table;

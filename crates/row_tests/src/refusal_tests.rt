@@ -1,5 +1,6 @@
 // What stands after each refusal: of trees that fail at each of their calls, of sinks that fail at each of their writes, and of chains
 // that are too long.
+use crate::kit::{fresh, kit};
 use crate::row_table::{FIRST_ROWS, LAST_ROWS, Row, SECOND_ROWS, THIRD_ROWS};
 use crate::row_tests::{lines_of, trace_of};
 use crate::size_tests::{is_limited, names, plain, plain_seen, plain_text};
@@ -34,7 +35,15 @@ fn run_of_streams(
     mut streams: Streams,
 ) -> Result<Ran, Fail> {
     let mut driver = RecordingDriver::new(alloc, ModelDriver::new(alloc));
-    let finished = run_set(alloc, words, env, &mut streams, &mut driver)?;
+    let finished = run_set(
+        &kit(),
+        fresh(alloc),
+        alloc,
+        words,
+        env,
+        &mut streams,
+        &mut driver,
+    )?;
     let told = all_calls(alloc, driver.log())?;
     Ok(Ran {
         status: finished.status,
@@ -290,7 +299,15 @@ fn plain_trace(alloc: Global, count: u32, next: &str) -> Result<String, AllocErr
 fn plain_trace_seen(alloc: Global, count: u32, next: &str) -> Result<Seen, Fail> {
     let trace = plain_trace(alloc, count, next)?;
     let env = variables(alloc, &[HOME])?;
-    seen_over(alloc, "run", &env, &mut plain(alloc, 65)?, trace.as_str())
+    seen_over(
+        &kit(),
+        fresh(alloc),
+        alloc,
+        "run",
+        &env,
+        &mut plain(alloc, 65)?,
+        trace.as_str(),
+    )
 }
 
 // What stops the trace at its fourth line leaves the lines of the first instance.

@@ -2,6 +2,7 @@
 ghost use Rattle.std.specs.Prelude.{IsTrue};
 ghost use Rattle.model_driver.specs.Driver.{are_handles};
 
+use crate::kit::{fresh, kit};
 use crate::row_table::{FIRST_ROWS, LAST_ROWS, Row, SECOND_ROWS, THIRD_ROWS};
 use model_driver::{AdverseDriver, Driver, ModelDriver, RecordingDriver};
 use run_fixtures::{all_calls, run_set, streams_over};
@@ -53,7 +54,15 @@ fn prints<D: Driver>(
     let trace = trace_of(alloc, row)?;
     let text = lines_of(alloc, row.start.text, row.text)?;
     let mut streams = streams_over(alloc, row.files, trace.as_str())?;
-    let finished = run_set(alloc, row.words, row.env, &mut streams, driver)?;
+    let finished = run_set(
+        &kit(),
+        fresh(alloc),
+        alloc,
+        row.words,
+        row.env,
+        &mut streams,
+        driver,
+    )?;
     assert_eq!(rt; finished.status, row.status);
     assert!(rt; streams.out.bytes() == text.as_bytes(), "{text}");
     assert!(rt; streams.errs.bytes().is_empty(), "{text}");

@@ -1,4 +1,5 @@
 // Chains of the most layers, meta-layers of the most levels, and searches of the most and the largest manifest files.
+use crate::kit::{fresh, kit};
 use env_filters::EnvList;
 use replay_base::MemTree;
 use replay_core::Status;
@@ -75,7 +76,14 @@ fn nested(alloc: Global) -> Result<MemTree, Fail> {
 fn nested_seen(alloc: Global, layer: &str) -> Result<Seen, Fail> {
     let words = format!(in alloc; "chain --layers {layer}")?;
     let env = variables(alloc, &[HOME])?;
-    seen_at(alloc, words.as_str(), &env, &mut nested(alloc)?)
+    seen_at(
+        &kit(),
+        fresh(alloc),
+        alloc,
+        words.as_str(),
+        &env,
+        &mut nested(alloc)?,
+    )
 }
 
 fn nested_shows(rt: &impl Abort, alloc: Global, layer: &str, out: &str) -> Result<(), Fail> {
@@ -152,7 +160,7 @@ fn plain_variables(alloc: Global, count: u32) -> Result<EnvList, Fail> {
 pub fn plain_seen(alloc: Global, count: u32, words: &str, trace: &str) -> Result<Seen, Fail> {
     let env = plain_variables(alloc, count)?;
     let mut tree = plain(alloc, count)?;
-    seen_over(alloc, words, &env, &mut tree, trace)
+    seen_over(&kit(), fresh(alloc), alloc, words, &env, &mut tree, trace)
 }
 
 // A limit was reached, and nothing was shown.
@@ -206,7 +214,14 @@ fn empty_manifests(alloc: Global, count: u32) -> Result<MemTree, Fail> {
 // What a command makes of them.
 fn empty_seen(alloc: Global, count: u32, words: &str) -> Result<Seen, Fail> {
     let env = variables(alloc, &[HOME])?;
-    seen_at(alloc, words, &env, &mut empty_manifests(alloc, count)?)
+    seen_at(
+        &kit(),
+        fresh(alloc),
+        alloc,
+        words,
+        &env,
+        &mut empty_manifests(alloc, count)?,
+    )
 }
 
 // What is shown of them.
@@ -245,7 +260,14 @@ fn blank_seen(alloc: Global, size: usize) -> Result<Seen, Fail> {
     let mut tree = tree_of(alloc, &[DRIVER])?;
     let large = vec![in alloc; b' '; size]?;
     put(&mut tree, "/etc/vulkan/icd.d/b.json", &large)?;
-    seen_at(alloc, "chain", &variables(alloc, &[HOME])?, &mut tree)
+    seen_at(
+        &kit(),
+        fresh(alloc),
+        alloc,
+        "chain",
+        &variables(alloc, &[HOME])?,
+        &mut tree,
+    )
 }
 
 fn blank_text(alloc: Global) -> Result<String, AllocError> {

@@ -1,15 +1,15 @@
+ghost use Rattle.std.specs.Prelude.{◌≡◌, None};
+ghost use Rattle.std.specs.Option.{option_map};
+
 use crate::files::{DRIVER, Pairs, tree_of, variables};
 use dispatch_chain::Kit;
 use env_filters::EnvList;
-use lifetime_layer::LifeState;
 use model_driver::Driver;
 use replay_base::{MemSink, MemSource, MemTree, NoMemory, Sink, Source, Tree};
 use replay_core::Session;
 use replay_tool::{Finished, replay_main};
 use std::alloc::Global;
 use std::test::Fail;
-use thread_layer::UseState;
-use unique_layer::UniqueState;
 
 /// A device that is destroyed twice.
 pub const TWICE: &str =
@@ -75,8 +75,10 @@ pub fn streams_at(alloc: Global, trace: &str) -> Result<Streams, Fail> {
     streams_over(alloc, &[DRIVER], trace)
 }
 
-/// Runs the program with a kit of the layers' own calls.
+/// Runs the program with a kit of the layers' calls, and a session that is made with it.
 pub fn finished_of<T: Tree, S: Source, K: Sink, L: Sink, D: Driver>(
+    kit: &Kit,
+    session: Session,
     alloc: Global,
     words: &[String],
     env: &EnvList,
@@ -85,38 +87,29 @@ pub fn finished_of<T: Tree, S: Source, K: Sink, L: Sink, D: Driver>(
     out: &mut K,
     errs: &mut L,
     driver: &mut D,
-) -> Finished {
-    let kit = Kit::new(
-        UniqueState::enter,
-        UniqueState::leave,
-        LifeState::enter,
-        LifeState::leave,
-        UseState::enter,
-        UseState::leave,
-    );
+) -> Finished
+    requires fresh { option_map (λ x. x.kept) session.started ≡ None }
+{
     replay_main(
-        alloc,
-        words,
-        env,
-        Session::new(alloc, &kit),
-        &kit,
-        tree,
-        trace,
-        out,
-        errs,
-        driver,
+        alloc, words, env, session, kit, tree, trace, out, errs, driver,
     )
 }
 
 // Runs the program over memory.
 fn run_of<D: Driver>(
+    kit: &Kit,
+    session: Session,
     alloc: Global,
     words: &[String],
     env: &EnvList,
     streams: &mut Streams,
     driver: &mut D,
-) -> Finished {
+) -> Finished
+    requires fresh { option_map (λ x. x.kept) session.started ≡ None }
+{
     finished_of(
+        kit,
+        session,
         alloc,
         words,
         env,
@@ -130,22 +123,31 @@ fn run_of<D: Driver>(
 
 /// The same with words and variables that are made first.
 pub fn run_set<D: Driver>(
+    kit: &Kit,
+    session: Session,
     alloc: Global,
     words: &str,
     env: Pairs,
     streams: &mut Streams,
     driver: &mut D,
-) -> Result<Finished, Fail> {
+) -> Result<Finished, Fail>
+    requires fresh { option_map (λ x. x.kept) session.started ≡ None }
+{
     let env = variables(alloc, env)?;
-    Ok(run_of(alloc, &words_of(alloc, words)?, &env, streams, driver))
+    let words = words_of(alloc, words)?;
+    Ok(run_of(kit, session, alloc, &words, &env, streams, driver))
 }
 
 /// The same without variables.
 pub fn run_with<D: Driver>(
+    kit: &Kit,
+    session: Session,
     alloc: Global,
     words: &str,
     streams: &mut Streams,
     driver: &mut D,
-) -> Result<Finished, Fail> {
-    run_set(alloc, words, &[], streams, driver)
+) -> Result<Finished, Fail>
+    requires fresh { option_map (λ x. x.kept) session.started ≡ None }
+{
+    run_set(kit, session, alloc, words, &[], streams, driver)
 }

@@ -1,8 +1,12 @@
+ghost use Rattle.std.specs.Prelude.{◌≡◌, None};
+ghost use Rattle.std.specs.Option.{option_map};
+
 use crate::runs::{finished_of, sink, words_of};
+use dispatch_chain::Kit;
 use env_filters::EnvList;
 use model_driver::ModelDriver;
 use replay_base::{MemSink, MemSource, MemTree};
-use replay_core::Status;
+use replay_core::{Session, Status};
 use std::alloc::Global;
 use std::test::Fail;
 
@@ -20,6 +24,8 @@ pub struct Seen {
 
 // Runs the program over a tree with this trace.
 fn run_over(
+    kit: &Kit,
+    session: Session,
     alloc: Global,
     words: &[String],
     env: &EnvList,
@@ -27,9 +33,23 @@ fn run_over(
     trace: &mut MemSource,
     out: &mut MemSink,
     errs: &mut MemSink,
-) -> Status {
+) -> Status
+    requires fresh { option_map (λ x. x.kept) session.started ≡ None }
+{
     let mut driver = ModelDriver::new(alloc);
-    finished_of(alloc, words, env, tree, trace, out, errs, &mut driver).status
+    finished_of(
+        kit,
+        session,
+        alloc,
+        words,
+        env,
+        tree,
+        trace,
+        out,
+        errs,
+        &mut driver,
+    )
+    .status
 }
 
 fn seen_of(alloc: Global, status: Status, out: &MemSink, errs: &MemSink) -> Result<Seen, Fail> {
@@ -41,15 +61,21 @@ fn seen_of(alloc: Global, status: Status, out: &MemSink, errs: &MemSink) -> Resu
 }
 
 fn seen_with(
+    kit: &Kit,
+    session: Session,
     alloc: Global,
     words: &[String],
     env: &EnvList,
     tree: &mut MemTree,
     trace: &mut MemSource,
-) -> Result<Seen, Fail> {
+) -> Result<Seen, Fail>
+    requires fresh { option_map (λ x. x.kept) session.started ≡ None }
+{
     let mut out = sink_of(alloc, 1_048_576)?;
     let mut errs = sink(alloc, 0)?;
-    let status = run_over(alloc, words, env, tree, trace, &mut out, &mut errs);
+    let status = run_over(
+        kit, session, alloc, words, env, tree, trace, &mut out, &mut errs,
+    );
     seen_of(alloc, status, &out, &errs)
 }
 
@@ -64,23 +90,39 @@ fn sink_of(alloc: Global, room: usize) -> Result<MemSink, Fail> {
 
 /// What a command shows of a tree.
 pub fn seen_at(
+    kit: &Kit,
+    session: Session,
     alloc: Global,
     words: &str,
     env: &EnvList,
     tree: &mut MemTree,
-) -> Result<Seen, Fail> {
-    seen_over(alloc, words, env, tree, "")
+) -> Result<Seen, Fail>
+    requires fresh { option_map (λ x. x.kept) session.started ≡ None }
+{
+    seen_over(kit, session, alloc, words, env, tree, "")
 }
 
 /// The same with a trace.
 pub fn seen_over(
+    kit: &Kit,
+    session: Session,
     alloc: Global,
     words: &str,
     env: &EnvList,
     tree: &mut MemTree,
     trace: &str,
-) -> Result<Seen, Fail> {
+) -> Result<Seen, Fail>
+    requires fresh { option_map (λ x. x.kept) session.started ≡ None }
+{
     let bytes = Vec::from_slice(alloc, trace.as_bytes())?;
     let mut trace = MemSource::new(bytes, Vec::new(alloc));
-    seen_with(alloc, &words_of(alloc, words)?, env, tree, &mut trace)
+    seen_with(
+        kit,
+        session,
+        alloc,
+        &words_of(alloc, words)?,
+        env,
+        tree,
+        &mut trace,
+    )
 }

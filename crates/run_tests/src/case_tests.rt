@@ -1,4 +1,5 @@
 // Stored runs with all that the driver was told and answered.
+use crate::kit::{fresh, kit};
 use model_driver::{DriverCall, DriverReply, ModelDriver, RecordingDriver};
 use replay_core::Status;
 use run_fixtures::{Streams, all_calls, run_with, streams_at};
@@ -107,7 +108,14 @@ static CASES: [Case; 12] = [
 fn runs_as_stored(rt: &impl Abort, alloc: Global, case: &Case) -> Result<(), Fail> {
     let mut streams = streams_at(alloc, case.trace)?;
     let mut driver = RecordingDriver::new(alloc, ModelDriver::new(alloc));
-    let finished = run_with(alloc, "run", &mut streams, &mut driver)?;
+    let finished = run_with(
+        &kit(),
+        fresh(alloc),
+        alloc,
+        "run",
+        &mut streams,
+        &mut driver,
+    )?;
     assert_eq!(rt; finished.status, case.status);
     is_written(rt, &streams, case);
     is_told(rt, alloc, driver.log(), case)

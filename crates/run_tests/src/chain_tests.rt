@@ -1,4 +1,5 @@
 // Chains that are shown: what each tree with its variables prints, says and answers.
+use crate::kit::{fresh, kit};
 use replay_core::Status;
 use run_fixtures::{
     DRIVER, HOME, LIFETIMES, Pairs, Seen, VALIDATION, VALIDATION_TEXT, seen_at, seen_over, tree_of,
@@ -130,7 +131,7 @@ static CASES: [Shown; 11] = [
 fn shown_of(alloc: Global, case: &Shown) -> Result<Seen, Fail> {
     let env = variables(alloc, case.env)?;
     let mut tree = tree_of(alloc, case.files)?;
-    seen_at(alloc, case.words, &env, &mut tree)
+    seen_at(&kit(), fresh(alloc), alloc, case.words, &env, &mut tree)
 }
 
 fn is_shown(rt: &impl Abort, alloc: Global, case: &Shown) -> Result<(), Fail> {
@@ -158,7 +159,15 @@ fn failed_at(alloc: Global, words: &str, call: u64) -> Result<Seen, Fail> {
     let mut tree = tree_of(alloc, &[DRIVER, VALIDATION])?;
     tree.fail_at(call).ok().ok_or("no memory")?;
     let env = variables(alloc, &[HOME])?;
-    seen_over(alloc, words, &env, &mut tree, "vktrace 1")
+    seen_over(
+        &kit(),
+        fresh(alloc),
+        alloc,
+        words,
+        &env,
+        &mut tree,
+        "vktrace 1",
+    )
 }
 
 fn shows_nothing(rt: &impl Abort, seen: &Seen) {

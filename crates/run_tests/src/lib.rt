@@ -11,4 +11,6 @@ mod chain_tests;
 #[cfg(test)]
 mod environment_tests;
 #[cfg(test)]
+mod kit;
+#[cfg(test)]
 mod tests;

@@ -1,4 +1,5 @@
 // Whole runs over memory: what each prints, says and asks the driver.
+use crate::kit::{fresh, kit};
 use command_tables::CommandId;
 use model_driver::{AdverseDriver, Driver, DriverCall, DriverReply, ModelDriver, RecordingDriver};
 use replay_base::MemSource;
@@ -350,7 +351,15 @@ fn is_written(rt: &impl Abort, streams: &Streams, run: &Run) {
 fn ends_as_it_must(rt: &impl Abort, alloc: Global, run: &Run) -> Result<(), Fail> {
     let mut streams = streams_of(alloc, run)?;
     let mut driver = ModelDriver::new(alloc);
-    let finished = run_set(alloc, run.words, run.env, &mut streams, &mut driver)?;
+    let finished = run_set(
+        &kit(),
+        fresh(alloc),
+        alloc,
+        run.words,
+        run.env,
+        &mut streams,
+        &mut driver,
+    )?;
     assert_eq!(rt; finished.status, run.status);
     is_written(rt, &streams, run);
     let ended = run.status == Status::Clean || run.status == Status::Reported;
@@ -405,7 +414,14 @@ fn told_by<D: Driver + Drop>(
 ) -> Result<Vec<(CommandId, u64)>, Fail> {
     let mut streams = streams_at(alloc, trace)?;
     let mut driver = RecordingDriver::new(alloc, inner);
-    run_with(alloc, "run", &mut streams, &mut driver)?;
+    run_with(
+        &kit(),
+        fresh(alloc),
+        alloc,
+        "run",
+        &mut streams,
+        &mut driver,
+    )?;
     assert!(rt; streams.out.bytes().ends_with(end.as_bytes()), "{end}");
     Ok(all_told(alloc, driver.log())?)
 }
@@ -459,7 +475,15 @@ fn a_second_device_is_a_sixth_call(rt: HostRuntime) -> Result<(), Fail> {
 fn answers_one_handle(rt: &impl Abort, alloc: Global, run: &Run) -> Result<(), Fail> {
     let mut streams = streams_of(alloc, run)?;
     let mut driver = AdverseDriver::new(Vec::from_slice(alloc, &[1])?);
-    run_set(alloc, run.words, run.env, &mut streams, &mut driver)?;
+    run_set(
+        &kit(),
+        fresh(alloc),
+        alloc,
+        run.words,
+        run.env,
+        &mut streams,
+        &mut driver,
+    )?;
     is_written(rt, &streams, run);
     Ok(())
 }

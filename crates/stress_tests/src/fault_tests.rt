@@ -1,6 +1,7 @@
 // Runs over a source and a sink that move one byte a call and fail at one of their calls.
 ghost use Rattle.std.specs.Prelude.{None};
 
+use crate::kit::{fresh, kit};
 use env_filters::EnvList;
 use model_driver::{Driver, ModelDriver, RecordingDriver};
 use replay_base::{Failed, MemSink, MemSource, MemTree, Sink, Source};
@@ -67,6 +68,8 @@ fn cut_with<D: Driver>(
     driver: &mut D,
 ) -> Status {
     finished_of(
+        &kit(),
+        fresh(alloc),
         alloc,
         words,
         &EnvList::new(alloc),
@@ -219,6 +222,8 @@ fn pieces_of<S: Source>(alloc: Global, trace: &mut S) -> Result<usize, Fail> {
     let mut out = BlockSink::new(PieceSink { pieces: 0 }, Vec::with_capacity(alloc, 4096)?);
     let mut driver = ModelDriver::new(alloc);
     let _finished = finished_of(
+        &kit(),
+        fresh(alloc),
         alloc,
         &words,
         &EnvList::new(alloc),

@@ -2,6 +2,7 @@
 ghost use Rattle.std.specs.Prelude.{IsTrue};
 ghost use Rattle.model_driver.specs.Driver.{are_handles};
 
+use crate::kit::{fresh, kit};
 use model_driver::{AdverseDriver, Driver, ModelDriver};
 use replay_base::{MemSink, MemSource, MemTree};
 use replay_core::Status;
@@ -118,7 +119,16 @@ fn came_under<D: Driver>(
         .ok_or("no memory")?;
     let mut errs = sink(alloc, 0)?;
     let status = finished_of(
-        alloc, &words, &env, &mut tree, &mut trace, &mut out, &mut errs, driver,
+        &kit(),
+        fresh(alloc),
+        alloc,
+        &words,
+        &env,
+        &mut tree,
+        &mut trace,
+        &mut out,
+        &mut errs,
+        driver,
     )
     .status;
     Ok(Came { status, out, errs })

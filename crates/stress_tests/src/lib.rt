@@ -7,4 +7,6 @@ mod fault_tests;
 #[cfg(test)]
 mod fuzz_tests;
 #[cfg(test)]
+mod kit;
+#[cfg(test)]
 mod soak_tests;

@@ -1,6 +1,7 @@
 // Generated traces, as they are written and replayed.
 ghost use Rattle.std.specs.Prelude.{None};
 
+use crate::kit::{fresh, kit};
 use env_filters::EnvList;
 use model_driver::{AdverseDriver, ModelDriver, RecordingDriver};
 use replay_base::{Failed, MemSink, MemSource, Sink};
@@ -65,6 +66,8 @@ fn done_over(
     let mut errs = sink(alloc, 0)?;
     let mut driver = RecordingDriver::new(alloc, ModelDriver::new(alloc));
     let finished = finished_of(
+        &kit(),
+        fresh(alloc),
         alloc,
         &words,
         &env,
@@ -209,6 +212,8 @@ fn fails_at_its_end(rt: &impl Abort, alloc: Global, words: &str, text: &str) -> 
     let mut errs = sink(alloc, 0)?;
     let mut driver = AdverseDriver::new(Vec::new(alloc));
     let finished = finished_of(
+        &kit(),
+        fresh(alloc),
         alloc,
         &words,
         &EnvList::new(alloc),
