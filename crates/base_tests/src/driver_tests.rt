@@ -18,27 +18,23 @@ pub struct Step {
     pub gives: &'static [u64],
 }
 
-pub const fn create(driver: u32, gives: &'static [u64]) -> Step {
-    Step {
-        driver,
-        cmd: CommandId::CreateBuffer,
-        args: &[&[9]],
-        asked: 1,
-        code: Some(Code::Success),
-        gives,
-    }
-}
+pub const CREATE: Step = Step {
+    driver: 0,
+    cmd: CommandId::CreateBuffer,
+    args: &[&[9]],
+    asked: 1,
+    code: Some(Code::Success),
+    gives: &[],
+};
 
-pub const fn destroy(driver: u32, args: &'static [&'static [u64]]) -> Step {
-    Step {
-        driver,
-        cmd: CommandId::DestroyBuffer,
-        args,
-        asked: 0,
-        code: None,
-        gives: &[],
-    }
-}
+pub const DESTROY: Step = Step {
+    driver: 0,
+    cmd: CommandId::DestroyBuffer,
+    args: &[&[9], &[1]],
+    asked: 0,
+    code: None,
+    gives: &[],
+};
 
 // One parameter more.
 fn add(args: &mut HandleArgs<6>, handles: &[u64]) -> Result<(), Fail> {
@@ -115,81 +111,177 @@ fn play<D: Driver>(
     Ok(())
 }
 
+const ALLOCATE: Step = Step {
+    cmd: CommandId::AllocateCommandBuffers,
+    args: &[&[9], &[5]],
+    asked: 3,
+    gives: &[3, 4, 5],
+    ..CREATE
+};
+
+const FREE: Step = Step {
+    cmd: CommandId::FreeCommandBuffers,
+    args: &[&[9], &[5], &[0, 4, 77, 3, 4, 0]],
+    ..DESTROY
+};
+
+const FAILS: Step = Step {
+    code: Some(Code::ErrorOutOfDeviceMemory),
+    ..CREATE
+};
+
+static REUSED: [Step; 14] = [
+    Step {
+        gives: &[1],
+        ..CREATE
+    },
+    Step {
+        gives: &[2],
+        ..CREATE
+    },
+    DESTROY,
+    Step {
+        gives: &[1],
+        ..CREATE
+    },
+    Step {
+        driver: 1,
+        gives: &[1],
+        ..CREATE
+    },
+    ALLOCATE,
+    FREE,
+    Step {
+        driver: 1,
+        args: &[&[9], &[2]],
+        ..DESTROY
+    },
+    FAILS,
+    Step {
+        gives: &[3, 4, 6],
+        ..ALLOCATE
+    },
+    Step {
+        args: &[&[9], &[8]],
+        ..DESTROY
+    },
+    Step {
+        args: &[&[9], &[0]],
+        ..DESTROY
+    },
+    Step {
+        driver: 1,
+        gives: &[2],
+        ..CREATE
+    },
+    Step {
+        gives: &[7],
+        ..CREATE
+    },
+];
+
 #[test]
 fn a_value_that_came_back_is_given_again(rt: HostRuntime) -> Result<(), Fail> {
     let alloc = rt.alloc();
-    let allocate = Step {
-        cmd: CommandId::AllocateCommandBuffers,
-        args: &[&[9], &[5]],
-        asked: 3,
-        gives: &[3, 4, 5],
-        ..create(0, &[])
-    };
-    let free = Step {
-        cmd: CommandId::FreeCommandBuffers,
-        args: &[&[9], &[5], &[0, 4, 77, 3, 4, 0]],
-        ..destroy(0, &[])
-    };
-    let fails = Step {
-        code: Some(Code::ErrorOutOfDeviceMemory),
-        ..create(0, &[])
-    };
-    let steps = [
-        create(0, &[1]),
-        create(0, &[2]),
-        destroy(0, &[&[9], &[1]]),
-        create(0, &[1]),
-        create(1, &[1]),
-        allocate,
-        free,
-        destroy(1, &[&[9], &[2]]),
-        fails,
-        Step {
-            gives: &[3, 4, 6],
-            ..allocate
-        },
-        destroy(0, &[&[9], &[8]]),
-        destroy(0, &[&[9], &[0]]),
-        create(1, &[2]),
-        create(0, &[7]),
-    ];
     let mut driver = ModelDriver::new(alloc);
     driver.prepare(Policy::Reuse);
-    play(&rt, alloc, &mut driver, &steps)
+    play(&rt, alloc, &mut driver, &REUSED)
 }
+
+static FIRST_FRESH: [Step; 5] = [
+    Step {
+        gives: &[1],
+        ..CREATE
+    },
+    Step {
+        driver: 1,
+        gives: &[1],
+        ..CREATE
+    },
+    DESTROY,
+    Step {
+        gives: &[2],
+        ..CREATE
+    },
+    Step {
+        driver: 1,
+        gives: &[2],
+        ..CREATE
+    },
+];
+
+static THEN_SHARED: [Step; 5] = [
+    Step {
+        driver: 2,
+        gives: &[1],
+        ..CREATE
+    },
+    Step {
+        driver: 2,
+        gives: &[1],
+        ..CREATE
+    },
+    Step {
+        driver: 2,
+        ..DESTROY
+    },
+    Step {
+        driver: 2,
+        gives: &[1],
+        ..CREATE
+    },
+    Step {
+        driver: 1,
+        gives: &[1],
+        ..CREATE
+    },
+];
+
+static THEN_REUSED: [Step; 4] = [
+    Step {
+        gives: &[1],
+        ..CREATE
+    },
+    Step {
+        gives: &[3],
+        ..CREATE
+    },
+    Step {
+        driver: 1,
+        gives: &[3],
+        ..CREATE
+    },
+    Step {
+        driver: 2,
+        gives: &[2],
+        ..CREATE
+    },
+];
+
+static LAST_FRESH: [Step; 2] = [
+    Step {
+        gives: &[4],
+        ..CREATE
+    },
+    Step {
+        driver: 2,
+        gives: &[3],
+        ..CREATE
+    },
+];
 
 // What was given by one policy is out under the next.
 #[test]
 fn values_by_each_policy(rt: HostRuntime) -> Result<(), Fail> {
     let alloc = rt.alloc();
     let mut driver = ModelDriver::new(alloc);
-    let fresh = [
-        create(0, &[1]),
-        create(1, &[1]),
-        destroy(0, &[&[9], &[1]]),
-        create(0, &[2]),
-        create(1, &[2]),
-    ];
-    play(&rt, alloc, &mut driver, &fresh)?;
+    play(&rt, alloc, &mut driver, &FIRST_FRESH)?;
     driver.prepare(Policy::Share);
-    let share = [
-        create(2, &[1]),
-        create(2, &[1]),
-        destroy(2, &[&[9], &[1]]),
-        create(2, &[1]),
-        create(1, &[1]),
-    ];
-    play(&rt, alloc, &mut driver, &share)?;
+    play(&rt, alloc, &mut driver, &THEN_SHARED)?;
     driver.prepare(Policy::Reuse);
-    let reuse = [
-        create(0, &[1]),
-        create(0, &[3]),
-        create(1, &[3]),
-        create(2, &[2]),
-    ];
-    play(&rt, alloc, &mut driver, &reuse)?;
+    play(&rt, alloc, &mut driver, &THEN_REUSED)?;
     driver.prepare(Policy::Fresh);
-    play(&rt, alloc, &mut driver, &[create(0, &[4]), create(2, &[3])])
+    play(&rt, alloc, &mut driver, &LAST_FRESH)
 }
 
 // Makes of an empty call the one for the most handles that a call can ask for.
@@ -266,10 +358,35 @@ pub fn play_one<D: Driver>(
     value: u64,
 ) -> Result<(), Fail> {
     let mut reply = reply_with(alloc, 0)?;
-    tell_step(alloc, driver, &create(0, &[]), &mut reply)?;
+    tell_step(alloc, driver, &CREATE, &mut reply)?;
     assert_eq!(rt; reply.handles.as_slice(), [value].as_slice());
     Ok(())
 }
+
+static RECORDED: [Step; 5] = [
+    Step {
+        driver: 3,
+        gives: &[7],
+        ..CREATE
+    },
+    Step {
+        driver: 1,
+        args: &[&[9], &[7]],
+        ..DESTROY
+    },
+    Step {
+        gives: &[7],
+        ..CREATE
+    },
+    Step {
+        gives: &[u64::MAX],
+        ..CREATE
+    },
+    Step {
+        gives: &[1],
+        ..CREATE
+    },
+];
 
 #[test]
 fn what_is_recorded(rt: HostRuntime) -> Result<(), Fail> {
@@ -277,15 +394,8 @@ fn what_is_recorded(rt: HostRuntime) -> Result<(), Fail> {
     let adverse = AdverseDriver::new(vec![in alloc; 7, 7, u64::MAX]?);
     let mut driver = RecordingDriver::new(alloc, adverse);
     driver.prepare(Policy::Share);
-    let steps = [
-        create(3, &[7]),
-        destroy(1, &[&[9], &[7]]),
-        create(0, &[7]),
-        create(0, &[u64::MAX]),
-        create(0, &[1]),
-    ];
-    play(&rt, alloc, &mut driver, &steps)?;
-    are_recorded(&rt, driver.log(), &steps);
+    play(&rt, alloc, &mut driver, &RECORDED)?;
+    are_recorded(&rt, driver.log(), &RECORDED);
     Ok(())
 }
 

@@ -1,6 +1,6 @@
 //! What the seats of shared drivers answer, call by call.
 use crate::driver_tests::{
-    Step, are_recorded, ask_for_most, call_of, call_with, create, destroy, has_most,
+    CREATE, DESTROY, Step, are_recorded, ask_for_most, call_of, call_with, has_most,
     is_that_answer, play_one, reply_with, tell,
 };
 use model_driver::{
@@ -32,6 +32,64 @@ fn play_at<D: SharedDriver>(
     Ok(at.into_seat())
 }
 
+static FRESH: [Step; 4] = [
+    Step {
+        gives: &[1],
+        ..CREATE
+    },
+    Step {
+        driver: 1,
+        gives: &[2],
+        ..CREATE
+    },
+    DESTROY,
+    Step {
+        gives: &[3],
+        ..CREATE
+    },
+];
+
+static REUSED: [Step; 5] = [
+    Step {
+        gives: &[1],
+        ..CREATE
+    },
+    Step {
+        driver: 1,
+        gives: &[2],
+        ..CREATE
+    },
+    Step {
+        driver: 1,
+        ..DESTROY
+    },
+    Step {
+        gives: &[1],
+        ..CREATE
+    },
+    Step {
+        gives: &[3],
+        ..CREATE
+    },
+];
+
+static SHARED: [Step; 2] = [
+    Step {
+        gives: &[1],
+        ..CREATE
+    },
+    Step {
+        driver: 1,
+        gives: &[1],
+        ..CREATE
+    },
+];
+
+static FRESH_STILL: [Step; 1] = [Step {
+    gives: &[4],
+    ..CREATE
+}];
+
 // Each counts over all drivers of the chain, and none sees what another gave.
 #[test]
 fn each_seat_counts_for_itself(rt: HostRuntime) -> Result<(), Fail> {
@@ -40,29 +98,10 @@ fn each_seat_counts_for_itself(rt: HostRuntime) -> Result<(), Fail> {
     let fresh = new_seat(alloc, &driver, Policy::Fresh)?;
     let reuse = new_seat(alloc, &driver, Policy::Reuse)?;
     let share = new_seat(alloc, &driver, Policy::Share)?;
-    let steps = [
-        create(0, &[1]),
-        create(1, &[2]),
-        destroy(0, &[&[9], &[1]]),
-        create(0, &[3]),
-    ];
-    let fresh = play_at(&rt, alloc, &driver, fresh, &steps)?;
-    let steps = [
-        create(0, &[1]),
-        create(1, &[2]),
-        destroy(1, &[&[9], &[1]]),
-        create(0, &[1]),
-        create(0, &[3]),
-    ];
-    play_at(&rt, alloc, &driver, reuse, &steps)?;
-    play_at(
-        &rt,
-        alloc,
-        &driver,
-        share,
-        &[create(0, &[1]), create(1, &[1])],
-    )?;
-    play_at(&rt, alloc, &driver, fresh, &[create(0, &[4])])?;
+    let fresh = play_at(&rt, alloc, &driver, fresh, &FRESH)?;
+    play_at(&rt, alloc, &driver, reuse, &REUSED)?;
+    play_at(&rt, alloc, &driver, share, &SHARED)?;
+    play_at(&rt, alloc, &driver, fresh, &FRESH_STILL)?;
     Ok(())
 }
 
@@ -77,26 +116,47 @@ fn logged(
     Ok(out)
 }
 
+static RECORDED: [Step; 6] = [
+    Step {
+        driver: 3,
+        gives: &[1],
+        ..CREATE
+    },
+    Step {
+        driver: 1,
+        ..DESTROY
+    },
+    Step {
+        gives: &[2],
+        ..CREATE
+    },
+    Step {
+        args: &[&[9], &[0]],
+        ..DESTROY
+    },
+    Step {
+        gives: &[3],
+        ..CREATE
+    },
+    Step {
+        driver: 2,
+        gives: &[1],
+        ..CREATE
+    },
+];
+
 #[test]
 fn what_each_seat_records(rt: HostRuntime) -> Result<(), Fail> {
     let alloc = rt.alloc();
     let driver = RecordingShared::new(SharedModel::new());
     let first = new_seat(alloc, &driver, Policy::Fresh)?;
     let second = new_seat(alloc, &driver, Policy::Reuse)?;
-    let steps = [
-        create(3, &[1]),
-        destroy(1, &[&[9], &[1]]),
-        create(0, &[2]),
-        destroy(0, &[&[9], &[0]]),
-        create(0, &[3]),
-        create(2, &[1]),
-    ];
-    let (front, back) = steps.split_at(5);
+    let (front, back) = RECORDED.split_at(5);
     let first = play_at(&rt, alloc, &driver, first, front)?;
     let second = play_at(&rt, alloc, &driver, second, back)?;
     let seats = vec![in alloc; first, second]?;
     let log = logged(alloc, &seats)?;
-    are_recorded(&rt, &log, &steps);
+    are_recorded(&rt, &log, &RECORDED);
     Ok(())
 }
 
