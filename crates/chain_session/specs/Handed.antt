@@ -1,20 +1,17 @@
--- The entries of the table of handles as the list of the definitions, and the place of an object among them. Source: this project.
-use Rattle.std.specs.Prelude.{ℕ, suc, if◌then◌else◌, Option, Some, None, List, [], ◌∷◌, map}
+-- The columns of the table of handles as the list of the definitions, and the place of an object among them. Source: this project.
+use Rattle.std.specs.Prelude.{ℕ, suc, if◌then◌else◌, Option, Some, None, List, [], ◌∷◌}
 use Rattle.std.specs.Option.{option_map}
 use Rattle.object_model.specs.declared.Object.{Object}
 use Rattle.object_model.specs.Objects.{same}
 use Rattle.chain_model.specs.Handed.{Handed}
-use Rattle.chain_session.specs.declared.handed.HandedEntry.{HandedEntry}
 
--- an object with its handle
-abbrev pub handed_of : HandedEntry → Handed
-handed_of e = record { object = e.object; handle = e.handle }
+-- each object with the handle in its place
+abbrev pub handed_shown : List Object → List ℕ → List Handed
+handed_shown [] handles = []
+handed_shown (o ∷ objects) [] = []
+handed_shown (o ∷ objects) (h ∷ handles) = record { object = o; handle = h } ∷ handed_shown objects handles
 
--- all entries
-abbrev pub handed_shown : List HandedEntry → List Handed
-handed_shown entries = map handed_of entries
-
--- the place of the first entry of an object
-abbrev pub place_in : List HandedEntry → Object → Option ℕ
+-- the place where an object stands first
+abbrev pub place_in : List Object → Object → Option ℕ
 place_in [] o = None
-place_in (e ∷ entries) o = if same e.object o then Some 0 else option_map (λ n. suc n) (place_in entries o)
+place_in (p ∷ objects) o = if same p o then Some 0 else option_map (λ n. suc n) (place_in objects o)

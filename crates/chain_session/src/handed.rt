@@ -1,29 +1,24 @@
 // The handles of objects above the first part of a chain.
-ghost use Rattle.std.specs.Prelude.{◌≡◌, [], IfOk, OnOk, OnErr};
+ghost use Rattle.std.specs.Prelude.{◌≡◌, [], OnOk, OnErr};
 ghost use Rattle.chain_model.specs.Handed.{hand_all, hand_one, handle_in};
 
 use object_model::Object;
 use replay_model::Born;
-use session_tables::ObjectMap;
+use session_tables::{ObjectList, ObjectPlaces, place_behind};
 use std::alloc::{AllocError, Global};
 use std::marker::Model;
-
-/// An object with its handle above the first part.
-#[derive(Clone, Copy)]
-pub struct HandedEntry {
-    pub object: Object,
-    pub handle: u64,
-}
 
 /// The handle above the first part for each object that is born, in the order of the births. An object is found by its number.
 #[derive(Drop)]
 pub struct HandedTable {
-    list: Vec<HandedEntry>,
-    places: ObjectMap<u32>,
+    objects: ObjectList,
+    // The handle of each object, at the object's place.
+    handles: Vec<u64>,
+    places: ObjectPlaces,
 }
 
 impl Model for HandedTable {
-    ghost use Rattle.std.specs.Prelude.{◌≡◌, List};
+    ghost use Rattle.std.specs.Prelude.{◌≡◌, List, length};
     ghost use Rattle.object_model.specs.declared.Object.{Object};
     ghost use Rattle.session_tables.specs.Filing.{kept};
     ghost use Rattle.chain_model.specs.Handed.{Handed};
@@ -31,16 +26,9 @@ impl Model for HandedTable {
 
     ghost Value = { List Handed };
 
-    ghost view = { λ t. handed_shown t.list.items };
+    ghost view = { λ t. handed_shown t.objects.objects t.handles.items };
 
-    ghost invariant = { λ t. (o : Object) → kept t.places o ≡ place_in t.list.items o };
-}
-
-// The place behind so many. Places have 32 bits.
-fn place_of(count: usize) -> Result<u32, AllocError>
-    ensures { IfOk result (λ place. place ≡ count) }
-{
-    u32::try_from(count).ok().ok_or(AllocError)
+    ghost invariant = { λ t. (length t.objects.objects ≡ length t.handles.items) × ((o : Object) → kept t.places o ≡ place_in t.objects.objects o) };
 }
 
 impl HandedTable {
@@ -49,8 +37,9 @@ impl HandedTable {
         ensures { result ≡ [] }
     {
         HandedTable {
-            list: Vec::new(alloc),
-            places: ObjectMap::new(alloc),
+            objects: ObjectList::new(alloc),
+            handles: Vec::new(alloc),
+            places: ObjectPlaces::new(alloc),
         }
     }
 
@@ -60,7 +49,7 @@ impl HandedTable {
     {
         match self.places.get(object) {
             None => 0,
-            Some(place) => self.list[place as usize].handle,
+            Some(place) => self.handles[place as usize],
         }
     }
 
@@ -72,14 +61,16 @@ impl HandedTable {
     {
         match self.places.get(object) {
             Some(place) => {
-                self.list[place as usize].handle = handle;
+                self.handles[place as usize] = handle;
                 Ok(())
             }
             None => {
-                self.list.reserve(1)?;
-                let place = place_of(self.list.len())?;
+                self.handles.reserve(1)?;
+                self.objects.reserve(1)?;
+                let place = place_behind(self.handles.len())?;
                 self.places.put(object, place)?;
-                self.list.push(HandedEntry { object, handle })?;
+                self.handles.push(handle)?;
+                self.objects.push(object)?;
                 Ok(())
             }
         }

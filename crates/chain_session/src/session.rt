@@ -1,5 +1,5 @@
 // The session.
-ghost use Rattle.std.specs.Prelude.{◌≡◌, ◌+◌, ◌<◌, ◌^◌, true, false, length, None, IfErr, OnErr, OnOk};
+ghost use Rattle.std.specs.Prelude.{◌≡◌, ◌+◌, ◌<◌, ◌^◌, true, false, length, None, IfErr, IsSomeAnd, OnErr, OnOk};
 ghost use Rattle.std.specs.Option.{option_map};
 ghost use Rattle.command_tables.specs.Tests.{same_command};
 ghost use Rattle.command_tables.specs.declared.types.CommandId.TheVariants as CommandId;
@@ -7,8 +7,10 @@ ghost use Rattle.trace_format.specs.Content.{Begin, content};
 ghost use Rattle.chain_build.specs.Setup.{setup_content};
 ghost use Rattle.report_text.specs.Setups.{trace_setup};
 ghost use Rattle.replay_model.specs.Stop.{exceeds_layers};
+ghost use Rattle.session_model.specs.Session.{nothing_kept};
 ghost use Rattle.chain_session.specs.Creation.{IsFault};
 ghost use Rattle.chain_session.specs.Opening.{begin_content};
+ghost use Rattle.chain_session.specs.Shown.{Shows};
 ghost use Rattle.chain_session.specs.Standing.{Advances, BeginsCall, CanCome, CanReturn, Counts, CutAt, CutBefore, Holds, IsFaultAt, ReturnsAs, calls_before};
 
 use crate::error::SessionError;
@@ -40,6 +42,15 @@ impl Session {
         }
     }
 
+    // Nothing is kept yet, under this setup.
+    fn start(&mut self, setup: &Setup, kit: &Kit) -> Result<(), NoMemory>
+        requires few { length (setup_content setup.now).drivers.list < 2 ^ 32 }
+        ensures { OnOk result (IsSomeAnd self.new.started (λ x. Shows (trace_setup (setup_content setup.now)) x.kept nothing_kept)) }
+    {
+        self.started = Some(Started::new(self.alloc, setup, kit)?);
+        Ok(())
+    }
+
     // The first begin of a trace.
     fn begin_first<D: Driver>(
         &mut self,
@@ -61,13 +72,13 @@ impl Session {
         ensures untold { OnErr result (exceeds_layers (trace_setup (setup_content setup.now)) (Begin (begin_content begin.entry)) ≡ true → D.log driver.new ≡ D.log driver.old) }
         ensures policy { D.answers_by driver.new ≡ D.answers_by driver.old }
     {
-        let mut started = Started::new(self.alloc, setup, kit)?;
-        match started.begin(number, begin, setup, driver, lines) {
-            Err(error) => Err(error),
-            Ok(()) => {
-                self.started = Some(started);
-                Ok(())
-            }
+        self.start(setup, kit)?;
+        match &mut self.started {
+            None => Err(SessionError::NoMemory),
+            Some(started) => match started.begin(number, begin, setup, driver, lines) {
+                Err(error) => Err(error),
+                Ok(()) => Ok(()),
+            },
         }
     }
 

@@ -5,7 +5,7 @@ use crate::row_tests::{lines_of, trace_of};
 use model_driver::ModelDriver;
 use replay_base::{MemSink, MemSource, Source};
 use replay_core::Status;
-use run_fixtures::{ByteSource, finished_of, lines_in, sink, tree_of, variables, words_of};
+use run_fixtures::{ByteSource, outcome_of, lines_in, sink, tree_of, variables, words_of};
 use std::alloc::{AllocError, Global};
 use std::process::Abort;
 use std::test::Fail;
@@ -28,7 +28,7 @@ fn ended_by<S: Source>(alloc: Global, row: &Row, trace: &mut S) -> Result<(Statu
     let mut out = sink(alloc, 0)?;
     let mut errs = sink(alloc, 0)?;
     let mut driver = ModelDriver::new(alloc);
-    let status = finished_of(
+    let status = outcome_of(
         &kit(),
         fresh(alloc),
         alloc,

@@ -35,7 +35,7 @@ fn run_of_streams(
     mut streams: Streams,
 ) -> Result<Ran, Fail> {
     let mut driver = RecordingDriver::new(alloc, ModelDriver::new(alloc));
-    let finished = run_set(
+    let outcome = run_set(
         &kit(),
         fresh(alloc),
         alloc,
@@ -46,8 +46,8 @@ fn run_of_streams(
     )?;
     let told = all_calls(alloc, driver.log())?;
     Ok(Ran {
-        status: finished.status,
-        comes_back: finished.session.is_some(),
+        status: outcome.status,
+        comes_back: outcome.comes_back,
         streams,
         told,
     })

@@ -54,7 +54,7 @@ fn prints<D: Driver>(
     let trace = trace_of(alloc, row)?;
     let text = lines_of(alloc, row.start.text, row.text)?;
     let mut streams = streams_over(alloc, row.files, trace.as_str())?;
-    let finished = run_set(
+    let outcome = run_set(
         &kit(),
         fresh(alloc),
         alloc,
@@ -63,7 +63,7 @@ fn prints<D: Driver>(
         &mut streams,
         driver,
     )?;
-    assert_eq!(rt; finished.status, row.status);
+    assert_eq!(rt; outcome.status, row.status);
     assert!(rt; streams.out.bytes() == text.as_bytes(), "{text}");
     assert!(rt; streams.errs.bytes().is_empty(), "{text}");
     Ok(())

@@ -6,8 +6,8 @@ use dispatch_chain::Kit;
 use env_filters::EnvList;
 use model_driver::Driver;
 use replay_base::{MemSink, MemSource, MemTree, NoMemory, Sink, Source, Tree};
-use replay_core::Session;
-use replay_tool::{Finished, replay_main};
+use replay_core::{Session, Status};
+use replay_tool::replay_main;
 use std::alloc::Global;
 use std::test::Fail;
 
@@ -75,8 +75,17 @@ pub fn streams_at(alloc: Global, trace: &str) -> Result<Streams, Fail> {
     streams_over(alloc, &[DRIVER], trace)
 }
 
-/// Runs the program with a kit of the layers' calls, and a session that is made with it.
-pub fn finished_of<T: Tree, S: Source, K: Sink, L: Sink, D: Driver>(
+/// How a run ended.
+#[derive(Clone, Copy)]
+pub struct Outcome {
+    pub status: Status,
+    /// Whether the session came back.
+    pub comes_back: bool,
+}
+
+/// Runs the program with a kit of the layers' calls, and a session that is made with it. The session that comes back is let go here, so
+/// that no test does: a crate that lets one go proves of each of its parts that it can.
+pub fn outcome_of<T: Tree, S: Source, K: Sink, L: Sink, D: Driver>(
     kit: &Kit,
     session: Session,
     alloc: Global,
@@ -87,12 +96,16 @@ pub fn finished_of<T: Tree, S: Source, K: Sink, L: Sink, D: Driver>(
     out: &mut K,
     errs: &mut L,
     driver: &mut D,
-) -> Finished
+) -> Outcome
     requires fresh { option_map (λ x. x.kept) session.started ≡ None }
 {
-    replay_main(
+    let finished = replay_main(
         alloc, words, env, session, kit, tree, trace, out, errs, driver,
-    )
+    );
+    Outcome {
+        status: finished.status,
+        comes_back: finished.session.is_some(),
+    }
 }
 
 // Runs the program over memory.
@@ -104,10 +117,10 @@ fn run_of<D: Driver>(
     env: &EnvList,
     streams: &mut Streams,
     driver: &mut D,
-) -> Finished
+) -> Outcome
     requires fresh { option_map (λ x. x.kept) session.started ≡ None }
 {
-    finished_of(
+    outcome_of(
         kit,
         session,
         alloc,
@@ -121,6 +134,13 @@ fn run_of<D: Driver>(
     )
 }
 
+// The words that spaces part, and the variables of these pairs.
+fn asked(alloc: Global, words: &str, env: Pairs) -> Result<(Vec<String>, EnvList), Fail> {
+    let env = variables(alloc, env)?;
+    let words = words_of(alloc, words)?;
+    Ok((words, env))
+}
+
 /// The same with words and variables that are made first.
 pub fn run_set<D: Driver>(
     kit: &Kit,
@@ -130,11 +150,10 @@ pub fn run_set<D: Driver>(
     env: Pairs,
     streams: &mut Streams,
     driver: &mut D,
-) -> Result<Finished, Fail>
+) -> Result<Outcome, Fail>
     requires fresh { option_map (λ x. x.kept) session.started ≡ None }
 {
-    let env = variables(alloc, env)?;
-    let words = words_of(alloc, words)?;
+    let (words, env) = asked(alloc, words, env)?;
     Ok(run_of(kit, session, alloc, &words, &env, streams, driver))
 }
 
@@ -146,7 +165,7 @@ pub fn run_with<D: Driver>(
     words: &str,
     streams: &mut Streams,
     driver: &mut D,
-) -> Result<Finished, Fail>
+) -> Result<Outcome, Fail>
     requires fresh { option_map (λ x. x.kept) session.started ≡ None }
 {
     run_set(kit, session, alloc, words, &[], streams, driver)

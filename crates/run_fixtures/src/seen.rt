@@ -1,7 +1,7 @@
 ghost use Rattle.std.specs.Prelude.{◌≡◌, None};
 ghost use Rattle.std.specs.Option.{option_map};
 
-use crate::runs::{finished_of, sink, words_of};
+use crate::runs::{outcome_of, sink, words_of};
 use dispatch_chain::Kit;
 use env_filters::EnvList;
 use model_driver::ModelDriver;
@@ -37,7 +37,7 @@ fn run_over(
     requires fresh { option_map (λ x. x.kept) session.started ≡ None }
 {
     let mut driver = ModelDriver::new(alloc);
-    finished_of(
+    outcome_of(
         kit,
         session,
         alloc,

@@ -108,7 +108,7 @@ static CASES: [Case; 12] = [
 fn runs_as_stored(rt: &impl Abort, alloc: Global, case: &Case) -> Result<(), Fail> {
     let mut streams = streams_at(alloc, case.trace)?;
     let mut driver = RecordingDriver::new(alloc, ModelDriver::new(alloc));
-    let finished = run_with(
+    let outcome = run_with(
         &kit(),
         fresh(alloc),
         alloc,
@@ -116,7 +116,7 @@ fn runs_as_stored(rt: &impl Abort, alloc: Global, case: &Case) -> Result<(), Fai
         &mut streams,
         &mut driver,
     )?;
-    assert_eq!(rt; finished.status, case.status);
+    assert_eq!(rt; outcome.status, case.status);
     is_written(rt, &streams, case);
     is_told(rt, alloc, driver.log(), case)
 }

@@ -351,7 +351,7 @@ fn is_written(rt: &impl Abort, streams: &Streams, run: &Run) {
 fn ends_as_it_must(rt: &impl Abort, alloc: Global, run: &Run) -> Result<(), Fail> {
     let mut streams = streams_of(alloc, run)?;
     let mut driver = ModelDriver::new(alloc);
-    let finished = run_set(
+    let outcome = run_set(
         &kit(),
         fresh(alloc),
         alloc,
@@ -360,10 +360,10 @@ fn ends_as_it_must(rt: &impl Abort, alloc: Global, run: &Run) -> Result<(), Fail
         &mut streams,
         &mut driver,
     )?;
-    assert_eq!(rt; finished.status, run.status);
+    assert_eq!(rt; outcome.status, run.status);
     is_written(rt, &streams, run);
     let ended = run.status == Status::Clean || run.status == Status::Reported;
-    assert_eq!(rt; finished.session.is_some(), ended);
+    assert_eq!(rt; outcome.comes_back, ended);
     Ok(())
 }
 

@@ -1,14 +1,16 @@
--- One value more in the places of objects.
-use Rattle.std.proofs.Common.{◌≡◌, ℕ, ◌==◌, ◌%◌, ◌/◌, ◌&&◌, Bool, true, false, cond, Option, Some, None, List, refl, sym, ap, ◌∙◌, arith}
-use Rattle.std.proofs.lemmas.Bool.{eqb-true, eq-eqb}
-use Rattle.std.specs.Prelude.{Vec, is_some}
+-- One place more for an object.
+use Rattle.std.proofs.Common.{◌≡◌, ◌≤◌, ℕ, ◌==◌, ◌%◌, ◌/◌, ◌&&◌, Bool, true, false, cond, Option, Some, None, List, length, refl, sym, ap, ◌∙◌, arith}
+use Rattle.std.proofs.lemmas.Bool.{eqb-true, eq-eqb, ltb-false}
+use Rattle.std.proofs.lemmas.Grind.{common_steps}
+use Rattle.std.specs.Prelude.{Vec, nat_lt, slice_get}
+use Rattle.std.specs.Option.{option_map_or}
 use Rattle.command_tables.specs.declared.types.ObjectType.{ObjectType}
 use Rattle.command_tables.specs.Tests.{same_type}
 use Rattle.object_model.specs.declared.Object.{Object}
 use Rattle.object_model.specs.Objects.{same}
-use Rattle.session_tables.specs.declared.object_map.Filed.{Filed}
-use Rattle.session_tables.specs.Dense.{cell}
-use Rattle.session_tables.specs.Filing.{filed, is_open, is_held_for}
+use Rattle.session_tables.specs.declared.object_places.Filed.{Filed}
+use Rattle.session_tables.specs.Dense.{cell, cell_in, has_cell}
+use Rattle.session_tables.specs.Filing.{filed, is_filed_for, is_open, no_place}
 use Rattle.session_tables.proofs.Objects.{same-true, type_is}
 
 and_true : (a b : Bool) → (a && b) ≡ true → (a ≡ true) × (b ≡ true)
@@ -33,54 +35,75 @@ split_number m n = go (m == n) refl (m % 2048 == n % 2048 && m / 2048 == n / 204
         f ∙ sym (eq-eqb m n is)
     go false e false f = f ∙ sym e
 
--- what stands in a place that was open holds no value of another type
-other_type : {X : Type 0} (f : Option (Filed X)) (ty tq : ObjectType) (other : Option X) → is_open f ty ≡ true → same_type ty tq ≡ false → filed f tq other ≡ other
-other_type None ty tq other free apart = refl
-other_type (Some f) ty tq other free apart = ap (λ t. cond t (Some f.value) other) (ap (λ t. same_type t tq) (type_is f.ty ty free) ∙ apart)
+-- what is filed where it was open is filed for no other type
+other_type : (f : Filed) (ty tq : ObjectType) (other : Option ℕ) → is_open f ty ≡ true → same_type ty tq ≡ false → filed f tq other ≡ other
+other_type f ty tq other free apart = go f.ty free
+  where
+    go : (t : Option ObjectType) → option_map_or (λ (u : ObjectType). same_type u ty) t true ≡ true → cond (option_map_or (λ (u : ObjectType). same_type u tq) t false) (Some f.place) other ≡ other
+    go None e = refl
+    go (Some u) e = ap (λ t. cond t (Some f.place) other) (ap (λ t. same_type t tq) (type_is u ty e) ∙ apart)
 
--- a value in a place that was open
-pub put_near : {X A : Type 0} (old new : List (Vec (Option (Filed X)) A)) (o : Object) (v : X) (other : Option X) (q : Object)
-    → is_open (cell old (o.number % 2048) (o.number / 2048)) o.ty ≡ true
-    → cell new (q.number % 2048) (q.number / 2048) ≡ cond (o.number % 2048 == q.number % 2048 && o.number / 2048 == q.number / 2048) (Some (record { ty = o.ty; value = v })) (cell old (q.number % 2048) (q.number / 2048))
-    → filed (cell new (q.number % 2048) (q.number / 2048)) q.ty other ≡ cond (same o q) (Some v) (filed (cell old (q.number % 2048) (q.number / 2048)) q.ty other)
-put_near {X = X} old new o v other q free is =
-    ap (λ (f : Option (Filed X)). filed f q.ty other) (is ∙ ap (λ t. cond t (Some (record { ty = o.ty; value = v })) (cell old (q.number % 2048) (q.number / 2048))) (split_number o.number q.number))
+abbrev pub filed_at : Object → ℕ → Filed
+filed_at o place = record { ty = Some o.ty; place = place }
+
+-- a place that is filed where it was open
+pub put_near : {A : Type 0} (old new : List (Vec Filed A)) (o : Object) (v : ℕ) (other : Option ℕ) (q : Object)
+    → is_open (cell no_place old (o.number % 2048) (o.number / 2048)) o.ty ≡ true
+    → cell no_place new (q.number % 2048) (q.number / 2048) ≡ cond (o.number % 2048 == q.number % 2048 && o.number / 2048 == q.number / 2048) (filed_at o v) (cell no_place old (q.number % 2048) (q.number / 2048))
+    → filed (cell no_place new (q.number % 2048) (q.number / 2048)) q.ty other ≡ cond (same o q) (Some v) (filed (cell no_place old (q.number % 2048) (q.number / 2048)) q.ty other)
+put_near old new o v other q free is =
+    ap (λ (f : Filed). filed f q.ty other) (is ∙ ap (λ t. cond t (filed_at o v) (cell no_place old (q.number % 2048) (q.number / 2048))) (split_number o.number q.number))
     ∙ go (o.number == q.number) refl (same_type o.ty q.ty) refl
   where
     go : (n : Bool) → (o.number == q.number) ≡ n → (t : Bool) → same_type o.ty q.ty ≡ t
-        → filed (cond n (Some (record { ty = o.ty; value = v })) (cell old (q.number % 2048) (q.number / 2048))) q.ty other ≡ cond (t && n) (Some v) (filed (cell old (q.number % 2048) (q.number / 2048)) q.ty other)
+        → filed (cond n (filed_at o v) (cell no_place old (q.number % 2048) (q.number / 2048))) q.ty other ≡ cond (t && n) (Some v) (filed (cell no_place old (q.number % 2048) (q.number / 2048)) q.ty other)
     go true e true f = ap (λ u. cond u (Some v) other) f
     go true e false f =
         let one : o.number ≡ q.number = eqb-true o.number q.number e in
         ap (λ u. cond u (Some v) other) f
-        ∙ sym (other_type (cell old (q.number % 2048) (q.number / 2048)) o.ty q.ty other (ap (λ n. is_open (cell old (n % 2048) (n / 2048)) o.ty) (sym one) ∙ free) f)
+        ∙ sym (other_type (cell no_place old (q.number % 2048) (q.number / 2048)) o.ty q.ty other (ap (λ n. is_open (cell no_place old (n % 2048) (n / 2048)) o.ty) (sym one) ∙ free) f)
     go false e true f = refl
     go false e false f = refl
 
--- a value beside a place that holds none of its type
-pub put_far : {X : Type 0} (f : Object → Option (Filed X)) (o : Object) (v : X) (old new : Option X) (q : Object) → is_held_for (f o) o.ty ≡ false → new ≡ cond (same o q) (Some v) old
+-- a place beside what is filed for another type
+pub put_far : (f : Object → Filed) (o : Object) (v : ℕ) (old new : Option ℕ) (q : Object) → is_filed_for (f o) o.ty ≡ false → new ≡ cond (same o q) (Some v) old
     → filed (f q) q.ty new ≡ cond (same o q) (Some v) (filed (f q) q.ty old)
-put_far {X = X} f o v old new q taken is = ap (λ (x : Option X). filed (f q) q.ty x) is ∙ go (same o q) refl
+put_far f o v old new q taken is = ap (λ (x : Option ℕ). filed (f q) q.ty x) is ∙ go (same o q) refl
   where
-    closed : (g : Option (Filed X)) (ty : ObjectType) → is_held_for g ty ≡ false → filed g ty (Some v) ≡ Some v
-    closed None ty e = refl
-    closed (Some g) ty e = ap (λ u. cond u (Some g.value) (Some v)) e
-
     go : (t : Bool) → same o q ≡ t → filed (f q) q.ty (cond t (Some v) old) ≡ cond t (Some v) (filed (f q) q.ty old)
-    go true e = closed (f q) q.ty (ap (λ (x : Object). is_held_for (f x) x.ty) (sym (same-true o q e)) ∙ taken)
+    go true e = ap (λ u. cond u (Some ((f q).place)) (Some v)) (ap (λ (x : Object). is_filed_for (f x) x.ty) (sym (same-true o q e)) ∙ taken)
     go false e = refl
 
--- a place that isn't open holds none of the type
-pub open_held : {X : Type 0} (f : Option (Filed X)) (ty : ObjectType) → is_open f ty ≡ false → is_held_for f ty ≡ false
-open_held None ty e = cc e
-open_held (Some f) ty e = e
+-- what isn't open isn't filed for the type
+pub open_held : (f : Filed) (ty : ObjectType) → is_open f ty ≡ false → is_filed_for f ty ≡ false
+open_held f ty e = go f.ty e
+  where
+    go : (t : Option ObjectType) → option_map_or (λ (u : ObjectType). same_type u ty) t true ≡ false → option_map_or (λ (u : ObjectType). same_type u ty) t false ≡ false
+    go None g = cc g
+    go (Some u) g = g
 
--- a place that holds one is open
-pub held_open : {X : Type 0} (f : Option (Filed X)) (ty : ObjectType) → is_held_for f ty ≡ true → (is_open f ty ≡ true) × (is_some f ≡ true)
-held_open None ty e = cc e
-held_open (Some f) ty e = (e, refl)
+-- what is filed for the type is open to it, and stands there
+pub held_open : {A : Type 0} (rows : List (Vec Filed A)) (row at : ℕ) (ty : ObjectType) → is_filed_for (cell no_place rows row at) ty ≡ true → (is_open (cell no_place rows row at) ty ≡ true) × (has_cell rows row at ≡ true)
+held_open {A = A} rows row at ty e = (open_for (cell no_place rows row at).ty e, there (slice_get rows row) e)
+  where
+    open_for : (t : Option ObjectType) → option_map_or (λ (u : ObjectType). same_type u ty) t false ≡ true → option_map_or (λ (u : ObjectType). same_type u ty) t true ≡ true
+    open_for None g = cc g
+    open_for (Some u) g = g
 
--- what is kept beside a place that holds none of the type stands in the map
-pub held_far : {X : Type 0} (f : Option (Filed X)) (ty : ObjectType) (other : Option X) → is_held_for f ty ≡ false → filed f ty other ≡ other
-held_far None ty other e = refl
-held_far (Some f) ty other e = ap (λ u. cond u (Some f.value) other) e
+    beyond : (cells : List Filed) → length cells ≤ at → cell_in no_place cells at ≡ no_place
+    beyond cells past = grind (arith, common_steps)
+
+    within : (cells : List Filed) (b : Bool) → nat_lt at (length cells) ≡ b → is_filed_for (cell_in no_place cells at) ty ≡ true → b ≡ true
+    within cells true f g = refl
+    within cells false f g =
+        let past : length cells ≤ at = ltb-false at (length cells) f in
+        let none : false ≡ true = ap (λ (x : Filed). is_filed_for x ty) (sym (beyond cells past)) ∙ g in
+        none
+
+    there : (r : Option (Vec Filed A)) → is_filed_for (option_map_or (λ (v : Vec Filed A). cell_in no_place v.items at) r no_place) ty ≡ true → option_map_or (λ (v : Vec Filed A). nat_lt at (length v.items)) r false ≡ true
+    there None g = cc g
+    there (Some v) g = within v.items (nat_lt at (length v.items)) refl g
+
+-- what isn't filed for the type stands in the map
+pub held_far : (f : Filed) (ty : ObjectType) (other : Option ℕ) → is_filed_for f ty ≡ false → filed f ty other ≡ other
+held_far f ty other e = ap (λ u. cond u (Some f.place) other) e

@@ -1,6 +1,5 @@
 pub mod Lists
 pub mod Objects
-pub mod Shown
 pub mod Same
 pub mod FilingLemmas
 pub mod Names

@@ -1,13 +1,63 @@
--- The place of the first object of each name.
-use Rattle.std.proofs.Common.{◌≡◌, ◌<◌, ◌∙◌, ℕ, suc, Bool, true, false, cond, Option, Some, None, List, [], ◌∷◌, ◌++◌, length, get_or, refl, sym, ap, arith}
-use Rattle.std.specs.Prelude.{find}
+-- The place where each name stands first, and the columns of names and objects.
+use Rattle.std.proofs.Common.{◌≡◌, ◌≢◌, ◌<◌, ◌-◌, ◌∙◌, ℕ, zero, suc, Bool, true, false, cond, Option, Some, None, List, [], ◌∷◌, ◌++◌, length, refl, sym, ap, arith}
+use Rattle.std.specs.Prelude.{find, slice_get}
 use Rattle.std.specs.Option.{option_map, option_or}
+use Rattle.std.proofs.lemmas.Grind.{common_steps}
 use Rattle.std.proofs.lemmas.Option.{same_Some}
+use Rattle.command_tables.specs.declared.types.ObjectType.{ObjectType}
+use Rattle.object_model.specs.declared.Object.{Object}
 use Rattle.trace_format.specs.declared.event.Name.{Name}
 use Rattle.trace_format.specs.Accepting.{same_name}
 use Rattle.replay_model.specs.declared.Named.{Named}
 use Rattle.replay_model.specs.Past.{object_in}
-use Rattle.session_tables.specs.Shown.{first_at}
+use Rattle.session_tables.specs.Columns.{named_shown, objects_shown}
+use Rattle.session_tables.specs.Shown.{first_at, place_before}
+
+-- ---- columns
+
+-- as many objects as types
+pub objects_len : (ts : List ObjectType) (ns : List ℕ) → length ts ≡ length ns → length (objects_shown ts ns) ≡ length ts
+objects_len [] ns all = refl
+objects_len (t ∷ ts) [] all = absurd (omega (arith, all))
+objects_len (t ∷ ts) (n ∷ ns) all = ap (λ (k : ℕ). suc k) (objects_len ts ns (omega (arith, all)))
+
+-- one object more
+pub objects_more : (ts : List ObjectType) (ns : List ℕ) (t : ObjectType) (n : ℕ) → length ts ≡ length ns → objects_shown (ts ++ t ∷ []) (ns ++ n ∷ []) ≡ objects_shown ts ns ++ record { ty = t; number = n } ∷ []
+objects_more [] [] t n all = refl
+objects_more [] (m ∷ ns) t n all = absurd (omega (arith, all))
+objects_more (s ∷ ts) [] t n all = absurd (omega (arith, all))
+objects_more (s ∷ ts) (m ∷ ns) t n all = ap (λ (os : List Object). record { ty = s; number = m } ∷ os) (objects_more ts ns t n (omega (arith, all)))
+
+-- the object in a place
+pub objects_at : (ts : List ObjectType) (ns : List ℕ) (p : ℕ) (t : ObjectType) (n : ℕ) → length ts ≡ length ns → slice_get ts p ≡ Some t → slice_get ns p ≡ Some n → slice_get (objects_shown ts ns) p ≡ Some (record { ty = t; number = n })
+objects_at [] ns p t n all at there = cc at
+objects_at (s ∷ ts) [] p t n all at there = absurd (omega (arith, all))
+objects_at (s ∷ ts) (m ∷ ns) zero t n all at there = ap (λ (u : ObjectType). Some (record { ty = u; number = m })) (same_Some s t at) ∙ ap (λ (k : ℕ). Some (record { ty = t; number = k })) (same_Some m n there)
+objects_at (s ∷ ts) (m ∷ ns) (suc p) t n all at there = objects_at ts ns p t n (omega (arith, all)) at there
+
+-- as many names as objects
+pub named_len : (ns : List Name) (os : List Object) → length ns ≡ length os → length (named_shown ns os) ≡ length ns
+named_len [] os all = refl
+named_len (n ∷ ns) [] all = absurd (omega (arith, all))
+named_len (n ∷ ns) (o ∷ os) all = ap (λ (k : ℕ). suc k) (named_len ns os (omega (arith, all)))
+
+-- one name more
+pub named_more : (ns : List Name) (os : List Object) (n : Name) (o : Object) → length ns ≡ length os → named_shown (ns ++ n ∷ []) (os ++ o ∷ []) ≡ named_shown ns os ++ record { name = n; object = o } ∷ []
+named_more [] [] n o all = refl
+named_more [] (p ∷ os) n o all = absurd (omega (arith, all))
+named_more (m ∷ ns) [] n o all = absurd (omega (arith, all))
+named_more (m ∷ ns) (p ∷ os) n o all = ap (λ (xs : List Named). record { name = m; object = p } ∷ xs) (named_more ns os n o (omega (arith, all)))
+
+-- and so they stay with one more of each
+pub longer : {X Y : Type 0} (xs : List X) (ys : List Y) (x : X) (y : Y) → length xs ≡ length ys → length (xs ++ x ∷ []) ≡ length (ys ++ y ∷ [])
+longer xs ys x y all = grind (arith, common_steps)
+
+-- ---- places
+
+-- what a link leads to that isn't 0
+pub before_is : (link : ℕ) → link ≢ 0 → place_before link ≡ Some (link - 1)
+before_is zero e = absurd (e refl)
+before_is (suc n) e = let same : n ≡ suc n - 1 = omega arith in ap (λ (k : ℕ). Some k) same
 
 after : (m : Option ℕ) (p : ℕ) → option_map (λ (n : ℕ). suc n) m ≡ Some p → (n : ℕ) × (m ≡ Some n) × (p ≡ suc n)
 after None p e = cc e
@@ -18,9 +68,9 @@ none_after None e = refl
 none_after (Some n) e = cc e
 
 -- it lies within the list
-pub first_within : (names : List Named) (q : Name) (p : ℕ) → first_at names q ≡ Some p → p < length names
+pub first_within : (names : List Name) (q : Name) (p : ℕ) → first_at names q ≡ Some p → p < length names
 first_within [] q p is = cc is
-first_within (x ∷ names) q p is = go (same_name x.name q) is (λ n. first_within names q n)
+first_within (x ∷ names) q p is = go (same_name x q) is (λ n. first_within names q n)
   where
     go : (t : Bool) → cond t (Some 0) (option_map (λ (n : ℕ). suc n) (first_at names q)) ≡ Some p → ((n : ℕ) → first_at names q ≡ Some n → n < length names) → p < suc (length names)
     go true e behind = let first : 0 ≡ p = same_Some 0 p e in omega arith
@@ -30,34 +80,35 @@ first_within (x ∷ names) q p is = go (same_name x.name q) is (λ n. first_with
         omega (arith, rest.2)
 
 -- a name stands for the object in its place
-pub first_found : (names : List Named) (q : Name) (p : ℕ) (e : Named) → first_at names q ≡ Some p → e ≡ get_or names p e → Some e.object ≡ object_in names q
-first_found [] q p e is at = cc is
-first_found (x ∷ names) q p e is at = go (same_name x.name q) is (λ n. first_found names q n e)
+pub first_found : (names : List Name) (os : List Object) (q : Name) (p : ℕ) (o : Object) → length names ≡ length os → first_at names q ≡ Some p → slice_get os p ≡ Some o → Some o ≡ object_in (named_shown names os) q
+first_found [] os q p o all is at = cc is
+first_found (x ∷ names) [] q p o all is at = absurd (omega (arith, all))
+first_found (x ∷ names) (y ∷ os) q p o all is at = go (same_name x q) is (λ n f. first_found names os q n o (omega (arith, all)) f)
   where
-    go : (t : Bool) → cond t (Some 0) (option_map (λ (n : ℕ). suc n) (first_at names q)) ≡ Some p → ((n : ℕ) → first_at names q ≡ Some n → e ≡ get_or names n e → Some e.object ≡ object_in names q)
-        → Some e.object ≡ option_map (λ (y : Named). y.object) (cond t (Some x) (find (λ (y : Named). same_name y.name q) names))
+    go : (t : Bool) → cond t (Some 0) (option_map (λ (n : ℕ). suc n) (first_at names q)) ≡ Some p → ((n : ℕ) → first_at names q ≡ Some n → slice_get os n ≡ Some o → Some o ≡ object_in (named_shown names os) q)
+        → Some o ≡ option_map (λ (e : Named). e.object) (cond t (Some (record { name = x; object = y })) (find (λ (e : Named). same_name e.name q) (named_shown names os)))
     go true f behind =
         let first : 0 ≡ p = same_Some 0 p f in
-        let there : e ≡ x = at ∙ ap (λ (k : ℕ). get_or (x ∷ names) k e) (sym first) in
-        ap (λ (y : Named). Some y.object) there
+        sym at ∙ ap (slice_get (y ∷ os)) (sym first)
     go false f behind =
         let rest = after (first_at names q) p f in
-        behind rest.0 rest.1 (at ∙ ap (λ (k : ℕ). get_or (x ∷ names) k e) rest.2)
+        behind rest.0 rest.1 (ap (slice_get (y ∷ os)) (sym rest.2) ∙ at)
 
 -- a name without a place stands for none
-pub first_missing : (names : List Named) (q : Name) → first_at names q ≡ None → None ≡ object_in names q
-first_missing [] q is = refl
-first_missing (x ∷ names) q is = go (same_name x.name q) is (first_missing names q)
+pub first_missing : (names : List Name) (os : List Object) (q : Name) → first_at names q ≡ None → None ≡ object_in (named_shown names os) q
+first_missing [] os q is = refl
+first_missing (x ∷ names) [] q is = refl
+first_missing (x ∷ names) (y ∷ os) q is = go (same_name x q) is (first_missing names os q)
   where
-    go : (t : Bool) → cond t (Some 0) (option_map (λ (n : ℕ). suc n) (first_at names q)) ≡ None → (first_at names q ≡ None → None ≡ object_in names q)
-        → None ≡ option_map (λ (y : Named). y.object) (cond t (Some x) (find (λ (y : Named). same_name y.name q) names))
+    go : (t : Bool) → cond t (Some 0) (option_map (λ (n : ℕ). suc n) (first_at names q)) ≡ None → (first_at names q ≡ None → None ≡ object_in (named_shown names os) q)
+        → None ≡ option_map (λ (e : Named). e.object) (cond t (Some (record { name = x; object = y })) (find (λ (e : Named). same_name e.name q) (named_shown names os)))
     go true e behind = cc e
     go false e behind = behind (none_after (first_at names q) e)
 
 -- the place of a name, in a list with one name more
-pub first_more : (names : List Named) (n : Named) (q : Name) → first_at (names ++ n ∷ []) q ≡ option_or (first_at names q) (cond (same_name n.name q) (Some (length names)) None)
+pub first_more : (names : List Name) (n q : Name) → first_at (names ++ n ∷ []) q ≡ option_or (first_at names q) (cond (same_name n q) (Some (length names)) None)
 first_more [] n q = refl
-first_more (x ∷ names) n q = go (same_name x.name q) (first_at names q) (same_name n.name q) (first_more names n q)
+first_more (x ∷ names) n q = go (same_name x q) (first_at names q) (same_name n q) (first_more names n q)
   where
     go : (t : Bool) (m : Option ℕ) (u : Bool) → first_at (names ++ n ∷ []) q ≡ option_or m (cond u (Some (length names)) None)
         → cond t (Some 0) (option_map (λ (k : ℕ). suc k) (first_at (names ++ n ∷ []) q)) ≡ option_or (cond t (Some 0) (option_map (λ (k : ℕ). suc k) m)) (cond u (Some (suc (length names))) None)

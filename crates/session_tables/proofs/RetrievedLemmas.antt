@@ -2,7 +2,7 @@
 use Rattle.std.proofs.Common.{◌≡◌, ℕ, suc, ◌&&◌, ◌==◌, Bool, true, false, cond, length, Option, Some, None, List, [], ◌∷◌, ◌++◌, refl, sym, ap, ◌∙◌, arith}
 use Rattle.std.specs.Prelude.{Vec, option_and_then, find, is_some}
 use Rattle.std.specs.Str.{bytes_eq}
-use Rattle.std.specs.Option.{option_map, option_or}
+use Rattle.std.specs.Option.{option_map, option_map_or, option_or}
 use Rattle.std.proofs.lemmas.Bool.{eqb-true, eq-eqb}
 use Rattle.std.proofs.lemmas.Option.{slice_get_past}
 use Rattle.std.proofs.lemmas.List.Folds.{find-append}
@@ -10,7 +10,7 @@ use Rattle.std.proofs.lemmas.Slice.Eq.{bytes_eq-Decides}
 use Rattle.command_tables.specs.Tests.{same_type}
 use Rattle.object_model.specs.declared.Object.{Object}
 use Rattle.object_model.specs.Objects.{same}
-use Rattle.session_tables.specs.declared.object_map.ObjectMap.{ObjectMap}
+use Rattle.session_tables.specs.declared.object_places.ObjectPlaces.{ObjectPlaces}
 use Rattle.session_tables.specs.declared.retrieved_map.RetrievedKey.{RetrievedKey}
 use Rattle.session_tables.specs.declared.retrieved_map.RetrievedPlace.{RetrievedPlace}
 use Rattle.session_tables.specs.declared.retrieved_table.RetrievedEntry.{RetrievedEntry}
@@ -28,15 +28,15 @@ and_true true b e = (refl, e)
 and_true false b e = cc e
 
 -- a row that is opened is empty
-pub opened_row : {A : Type 0} (rows : List (Vec (Option RetrievedPlace) A)) (old new : ObjectMap ℕ) (owner : Object) (k : RetrievedKey) → kept old owner ≡ None
-    → kept new k.owner ≡ cond (same owner k.owner) (Some (length rows)) (kept old k.owner) → near_key rows new k ≡ near_key rows old k
-opened_row rows old new owner k none is = ap (λ (m : Option ℕ). cond (length k.payload.items == 0) (option_and_then (λ row. cell rows row k.place) m) None) is ∙ go (same owner k.owner) refl (length k.payload.items == 0)
+pub opened_row : {A : Type 0} (rows : List (Vec (Option RetrievedPlace) A)) (old new : ObjectPlaces) (owner : Object) (row : ℕ) (k : RetrievedKey) → kept old owner ≡ None → row ≡ length rows
+    → kept new k.owner ≡ cond (same owner k.owner) (Some row) (kept old k.owner) → near_key rows new k ≡ near_key rows old k
+opened_row {A = A} rows old new owner row k none last is = ap (λ (m : Option ℕ). cond (length k.payload.items == 0) (option_and_then (λ n. cell None rows n k.place) m) None) is ∙ go (same owner k.owner) refl (length k.payload.items == 0)
   where
-    behind : cell rows (length rows) k.place ≡ None
-    behind = ap (option_and_then (λ r. cell_in r.items k.place)) (slice_get_past rows (length rows) (omega arith))
+    behind : cell None rows row k.place ≡ None
+    behind = ap (λ (m : Option (Vec (Option RetrievedPlace) A)). option_map_or (λ (r : Vec (Option RetrievedPlace) A). cell_in None r.items k.place) m None) (slice_get_past rows row (omega (arith, last)))
 
-    go : (t : Bool) → same owner k.owner ≡ t → (b : Bool) → cond b (option_and_then (λ row. cell rows row k.place) (cond t (Some (length rows)) (kept old k.owner))) None ≡ cond b (option_and_then (λ row. cell rows row k.place) (kept old k.owner)) None
-    go true e true = behind ∙ ap (option_and_then (λ row. cell rows row k.place)) (sym (ap (kept old) (sym (same-true owner k.owner e)) ∙ none))
+    go : (t : Bool) → same owner k.owner ≡ t → (b : Bool) → cond b (option_and_then (λ n. cell None rows n k.place) (cond t (Some row) (kept old k.owner))) None ≡ cond b (option_and_then (λ n. cell None rows n k.place) (kept old k.owner)) None
+    go true e true = behind ∙ ap (option_and_then (λ n. cell None rows n k.place)) (sym (ap (kept old) (sym (same-true owner k.owner e)) ∙ none))
     go true e false = refl
     go false e b = refl
 
@@ -48,12 +48,12 @@ same_parts a b e =
     let r = and_true (a.place == b.place) (bytes_eq a.payload.items b.payload.items) q.1 in
     (p.0, q.0, r.0, r.1)
 
-near_same : {A : Type 0} (rows : List (Vec (Option RetrievedPlace) A)) (owners : ObjectMap ℕ) (a b : RetrievedKey) → same_key a b ≡ true → near_key rows owners a ≡ near_key rows owners b
+near_same : {A : Type 0} (rows : List (Vec (Option RetrievedPlace) A)) (owners : ObjectPlaces) (a b : RetrievedKey) → same_key a b ≡ true → near_key rows owners a ≡ near_key rows owners b
 near_same rows owners a b e =
     let parts = same_parts a b e in
-    ap (λ (bytes : List ℕ). cond (length bytes == 0) (option_and_then (λ row. cell rows row a.place) (kept owners a.owner)) None) ((bytes_eq-Decides a.payload.items b.payload.items).0 parts.3)
-    ∙ (ap (λ n. cond (length b.payload.items == 0) (option_and_then (λ row. cell rows row n) (kept owners a.owner)) None) (eqb-true a.place b.place parts.2)
-    ∙ ap (λ o. cond (length b.payload.items == 0) (option_and_then (λ row. cell rows row b.place) (kept owners o)) None) (same-true a.owner b.owner parts.1))
+    ap (λ (bytes : List ℕ). cond (length bytes == 0) (option_and_then (λ row. cell None rows row a.place) (kept owners a.owner)) None) ((bytes_eq-Decides a.payload.items b.payload.items).0 parts.3)
+    ∙ (ap (λ n. cond (length b.payload.items == 0) (option_and_then (λ row. cell None rows row n) (kept owners a.owner)) None) (eqb-true a.place b.place parts.2)
+    ∙ ap (λ o. cond (length b.payload.items == 0) (option_and_then (λ row. cell None rows row b.place) (kept owners o)) None) (same-true a.owner b.owner parts.1))
 
 holds_same : (p : Option RetrievedPlace) (a b : RetrievedKey) → same_key a b ≡ true → holds_key p a ≡ holds_key p b
 holds_same None a b e = refl
@@ -74,7 +74,7 @@ found_none (Some p) k other e = go (holds_key (Some p) k) refl
     go false f = refl
 
 -- one more in the map
-pub put_other : {A : Type 0} (rows : List (Vec (Option RetrievedPlace) A)) (owners : ObjectMap ℕ) (key k : RetrievedKey) (o : Object) (old new : Option Object) (before : Option Object)
+pub put_other : {A : Type 0} (rows : List (Vec (Option RetrievedPlace) A)) (owners : ObjectPlaces) (key k : RetrievedKey) (o : Object) (old new : Option Object) (before : Option Object)
     → found_in (near_key rows owners key) key before ≡ None → new ≡ cond (same_key key k) (Some o) old → found_in (near_key rows owners k) k new ≡ cond (same_key key k) (Some o) (found_in (near_key rows owners k) k old)
 put_other rows owners key k o old new before none is = ap (found_in (near_key rows owners k) k) is ∙ go (same_key key k) refl
   where
@@ -92,9 +92,9 @@ no_bytes (x ∷ xs) e = absurd (not_zero (length xs) (eqb-true (length (x ∷ xs
     not_zero n is = omega (arith, is)
 
 -- one more in a row
-pub put_row : {A : Type 0} (rows more : List (Vec (Option RetrievedPlace) A)) (owners : ObjectMap ℕ) (key k : RetrievedKey) (o : Object) (row : ℕ) (other : Option Object) → o.ty ≡ key.ty → kept owners key.owner ≡ Some row
-    → (length key.payload.items == 0) ≡ true → cell rows row key.place ≡ None
-    → ((r n : ℕ) → cell more r n ≡ cond (row == r && key.place == n) (Some (record { owner = key.owner; object = o })) (cell rows r n))
+pub put_row : {A : Type 0} (rows more : List (Vec (Option RetrievedPlace) A)) (owners : ObjectPlaces) (key k : RetrievedKey) (o : Object) (row : ℕ) (other : Option Object) → o.ty ≡ key.ty → kept owners key.owner ≡ Some row
+    → (length key.payload.items == 0) ≡ true → cell None rows row key.place ≡ None
+    → ((r n : ℕ) → cell None more r n ≡ cond (row == r && key.place == n) (Some (record { owner = key.owner; object = o })) (cell None rows r n))
     → found_in (near_key more owners k) k other ≡ cond (same_key key k) (Some o) (found_in (near_key rows owners k) k other)
 put_row rows more owners key k o row other typed there empty none is = go (length k.payload.items == 0) refl (kept owners k.owner) refl (same_key key k) refl
   where
@@ -112,10 +112,10 @@ put_row rows more owners key k o row other typed there empty none is = go (lengt
         ∙ sym (ap (λ u. same_type key.ty k.ty && (same key.owner k.owner && (u && bytes_eq key.payload.items k.payload.items))) at ∙ ap (λ u. same_type key.ty k.ty && (same key.owner k.owner && u)) bytes))
 
     at : (r : ℕ) → kept owners k.owner ≡ Some r → (length k.payload.items == 0) ≡ true → (t : Bool) → (row == r && key.place == k.place) ≡ t → (s : Bool) → same_key key k ≡ s
-        → found_in (cond t (Some (record { owner = key.owner; object = o })) (cell rows r k.place)) k other ≡ cond s (Some o) (found_in (cell rows r k.place) k other)
+        → found_in (cond t (Some (record { owner = key.owner; object = o })) (cell None rows r k.place)) k other ≡ cond s (Some o) (found_in (cell None rows r k.place) k other)
     at r f e true h s g =
         let parts = and_true (row == r) (key.place == k.place) h in
-        let gone : cell rows r k.place ≡ None = ap (λ n. cell rows n k.place) (sym (eqb-true row r parts.0)) ∙ (ap (cell rows row) (sym (eqb-true key.place k.place parts.1)) ∙ none) in
+        let gone : cell None rows r k.place ≡ None = ap (λ n. cell None rows n k.place) (sym (eqb-true row r parts.0)) ∙ (ap (cell None rows row) (sym (eqb-true key.place k.place parts.1)) ∙ none) in
         ap (λ u. cond u (Some o) other) (one_key e parts.1 ∙ g) ∙ ap (λ (q : Option RetrievedPlace). cond s (Some o) (found_in q k other)) (sym gone)
     at r f e false h true g =
         let parts = same_parts key k g in
@@ -126,7 +126,7 @@ put_row rows more owners key k o row other typed there empty none is = go (lengt
     at r f e false h false g = refl
 
     go : (b : Bool) → (length k.payload.items == 0) ≡ b → (m : Option ℕ) → kept owners k.owner ≡ m → (s : Bool) → same_key key k ≡ s
-        → found_in (cond b (option_and_then (λ r. cell more r k.place) m) None) k other ≡ cond s (Some o) (found_in (cond b (option_and_then (λ r. cell rows r k.place) m) None) k other)
+        → found_in (cond b (option_and_then (λ r. cell None more r k.place) m) None) k other ≡ cond s (Some o) (found_in (cond b (option_and_then (λ r. cell None rows r k.place) m) None) k other)
     go false e m f true g =
         let parts = same_parts key k g in
         let no : true ≡ false = sym empty ∙ (ap (λ (bytes : List ℕ). length bytes == 0) ((bytes_eq-Decides key.payload.items k.payload.items).0 parts.3) ∙ e) in

@@ -1,3 +1,4 @@
+pub mod Columns
 pub mod Dense
 pub mod Filing
 pub mod Lined

@@ -8,7 +8,7 @@ use Rattle.object_model.specs.declared.Object.{Object}
 use Rattle.object_model.specs.Objects.{same}
 use Rattle.replay_model.specs.Past.{Retrieval}
 use Rattle.replay_model.specs.Births.{is_kept}
-use Rattle.session_tables.specs.declared.object_map.ObjectMap.{ObjectMap}
+use Rattle.session_tables.specs.declared.object_places.ObjectPlaces.{ObjectPlaces}
 use Rattle.session_tables.specs.declared.retrieved_table.RetrievedEntry.{RetrievedEntry}
 use Rattle.session_tables.specs.declared.retrieved_map.RetrievedKey.{RetrievedKey}
 use Rattle.session_tables.specs.declared.retrieved_map.RetrievedMap.{RetrievedMap}
@@ -37,8 +37,8 @@ abbrev pub first_kept : List RetrievedEntry → RetrievedKey → Option Object
 first_kept entries k = option_map (λ e. e.object) (find (has_key k) entries)
 
 -- what stands in the place of a key in its owner's row, where the key has no payload
-abbrev pub near_key : {A : Type 0} → List (Vec (Option RetrievedPlace) A) → ObjectMap ℕ → RetrievedKey → Option RetrievedPlace
-near_key rows owners k = if length k.payload.items == 0 then option_and_then (λ row. cell rows row k.place) (kept owners k.owner) else None
+abbrev pub near_key : {A : Type 0} → List (Vec (Option RetrievedPlace) A) → ObjectPlaces → RetrievedKey → Option RetrievedPlace
+near_key rows owners k = if length k.payload.items == 0 then option_and_then (λ row. cell None rows row k.place) (kept owners k.owner) else None
 
 -- a place holds the object with this key
 abbrev pub holds_key : Option RetrievedPlace → RetrievedKey → Bool
@@ -55,8 +55,8 @@ abbrev pub object_for : RetrievedMap → RetrievedKey → Option Object
 object_for m k = found_in (near_key m.rows.items m.owners k) k (get same_key m.others k)
 
 -- a key has no payload, and its place in its owner's row is free
-pub record FitsRow {A : Type 0} (rows : List (Vec (Option RetrievedPlace) A)) (owners : ObjectMap ℕ) (k : RetrievedKey) (row : ℕ) : Type 0 where
+pub record FitsRow {A : Type 0} (rows : List (Vec (Option RetrievedPlace) A)) (owners : ObjectPlaces) (k : RetrievedKey) (row : ℕ) : Type 0 where
   pub there : kept owners k.owner ≡ Some row
   pub empty : (length k.payload.items == 0) ≡ true
-  pub free : cell rows row k.place ≡ None
+  pub free : cell None rows row k.place ≡ None
   pub near : k.place < 2 ^ 63

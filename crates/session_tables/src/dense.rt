@@ -1,19 +1,25 @@
-// Values by row and place, in plain vectors: a look-up is two reads.
-ghost use Rattle.std.specs.Prelude.{◌≡◌, ◌&&◌, ◌==◌, ◌<◌, ◌^◌, ℕ, Some, OnOk, OnErr, if◌then◌else◌, is_some, length, true};
-ghost use Rattle.std.specs.Option.{option_copied};
-ghost use Rattle.session_tables.specs.Dense.{cell, cell_in};
+// Values by row and place, in plain vectors: a look-up is two reads. Places where nothing was put hold the value of an empty one.
+ghost use Rattle.std.specs.Prelude.{◌≡◌, ◌&&◌, ◌==◌, ◌<◌, ◌^◌, ℕ, IfOk, OnOk, OnErr, if◌then◌else◌, length, true};
+ghost use Rattle.session_tables.specs.Dense.{cell, cell_in, has_cell};
 
 use std::alloc::{AllocError, Global};
 
-/// The value in a place, if one was put there.
-pub fn value_at<V>(rows: &[Vec<Option<V>>], row: usize, at: usize) -> Option<&V>
-    ensures { option_copied result ≡ cell rows.now row at }
+/// The place behind so many. Places have 32 bits.
+pub fn place_behind(count: usize) -> Result<u32, AllocError>
+    ensures { IfOk result (λ place. place ≡ count) }
+{
+    u32::try_from(count).ok().ok_or(AllocError)
+}
+
+/// The value in a place.
+pub fn value_at<V: Copy>(rows: &[Vec<V>], row: usize, at: usize, empty: V) -> V
+    ensures { result ≡ cell empty rows.now row at }
 {
     match rows.get(row) {
-        None => None,
+        None => empty,
         Some(cells) => match cells.get(at) {
-            None => None,
-            Some(value) => value.as_ref(),
+            None => empty,
+            Some(value) => *value,
         },
     }
 }
@@ -21,11 +27,11 @@ pub fn value_at<V>(rows: &[Vec<Option<V>>], row: usize, at: usize) -> Option<&V>
 // There are rows up to this one.
 fn add_rows<V: Copy + Drop>(
     alloc: Global,
-    rows: &mut Vec<Vec<Option<V>>>,
+    rows: &mut Vec<Vec<V>>,
     row: usize,
 ) -> Result<(), AllocError>
     ensures there { OnOk result (row < length rows.new.items) }
-    ensures same { (r n : ℕ) → cell rows.new.items r n ≡ cell rows.old.items r n }
+    ensures same { (empty : V) (r n : ℕ) → cell empty rows.new.items r n ≡ cell empty rows.old.items r n }
 {
     'rows: while rows.len() <= row {
         rows.push(Vec::new(alloc))?;
@@ -34,58 +40,62 @@ fn add_rows<V: Copy + Drop>(
 }
 
 // A row has places up to this one.
-fn lengthen<V: Copy + Drop>(cells: &mut Vec<Option<V>>, at: usize) -> Result<(), AllocError>
+fn lengthen<V: Copy + Drop>(cells: &mut Vec<V>, at: usize, empty: V) -> Result<(), AllocError>
     requires { at < 2 ^ 63 }
     ensures there { OnOk result (at < length cells.new.items) }
-    ensures same { (n : ℕ) → cell_in cells.new.items n ≡ cell_in cells.old.items n }
+    ensures same { (n : ℕ) → cell_in empty cells.new.items n ≡ cell_in empty cells.old.items n }
 {
     if cells.len() <= at {
-        cells.resize(at + 1, None)?;
+        cells.resize(at + 1, empty)?;
     }
     Ok(())
 }
 
 // A value is put into a place of a row.
-fn put_in<V: Copy + Drop>(cells: &mut Vec<Option<V>>, at: usize, value: V) -> Result<(), AllocError>
+fn put_in<V: Copy + Drop>(
+    cells: &mut Vec<V>,
+    at: usize,
+    value: V,
+    empty: V,
+) -> Result<(), AllocError>
     requires { at < 2 ^ 63 }
-    ensures ok { OnOk result ((n : ℕ) → cell_in cells.new.items n ≡ (if at == n then Some value else cell_in cells.old.items n)) }
-    ensures err { OnErr result ((n : ℕ) → cell_in cells.new.items n ≡ cell_in cells.old.items n) }
+    ensures ok { OnOk result ((n : ℕ) → cell_in empty cells.new.items n ≡ (if at == n then value else cell_in empty cells.old.items n)) }
+    ensures err { OnErr result ((n : ℕ) → cell_in empty cells.new.items n ≡ cell_in empty cells.old.items n) }
 {
-    lengthen(cells, at)?;
-    cells[at] = Some(value);
+    lengthen(cells, at, empty)?;
+    cells[at] = value;
     Ok(())
 }
 
 /// Puts a value into a place, in memory up to the place.
 pub fn put_value<V: Copy + Drop>(
     alloc: Global,
-    rows: &mut Vec<Vec<Option<V>>>,
+    rows: &mut Vec<Vec<V>>,
     row: usize,
     at: usize,
     value: V,
+    empty: V,
 ) -> Result<(), AllocError>
     requires { at < 2 ^ 63 }
-    ensures ok { OnOk result ((r n : ℕ) → cell rows.new.items r n ≡ (if row == r && at == n then Some value else cell rows.old.items r n)) }
-    ensures err { OnErr result ((r n : ℕ) → cell rows.new.items r n ≡ cell rows.old.items r n) }
+    ensures ok { OnOk result ((r n : ℕ) → cell empty rows.new.items r n ≡ (if row == r && at == n then value else cell empty rows.old.items r n)) }
+    ensures err { OnErr result ((r n : ℕ) → cell empty rows.new.items r n ≡ cell empty rows.old.items r n) }
 {
     add_rows(alloc, rows, row)?;
-    put_in(&mut rows[row], at, value)?;
+    put_in(&mut rows[row], at, value, empty)?;
     Ok(())
 }
 
-fn overwrite_in<V: Copy + Drop>(cells: &mut Vec<Option<V>>, at: usize, value: V)
-    requires { is_some (cell_in cells.old.items at) ≡ true }
-    ensures { (n : ℕ) → cell_in cells.new.items n ≡ (if at == n then Some value else cell_in cells.old.items n) }
+fn overwrite_in<V: Copy + Drop>(cells: &mut Vec<V>, at: usize, value: V)
+    requires { at < length cells.old.items }
+    ensures { (empty : V) (n : ℕ) → cell_in empty cells.new.items n ≡ (if at == n then value else cell_in empty cells.old.items n) }
 {
-    if at < cells.len() {
-        cells[at] = Some(value);
-    }
+    cells[at] = value;
 }
 
 /// Puts a value in the place of another one.
-pub fn overwrite<V: Copy + Drop>(rows: &mut Vec<Vec<Option<V>>>, row: usize, at: usize, value: V)
-    requires { is_some (cell rows.old.items row at) ≡ true }
-    ensures { (r n : ℕ) → cell rows.new.items r n ≡ (if row == r && at == n then Some value else cell rows.old.items r n) }
+pub fn overwrite<V: Copy + Drop>(rows: &mut Vec<Vec<V>>, row: usize, at: usize, value: V)
+    requires { has_cell rows.old.items row at ≡ true }
+    ensures { (empty : V) (r n : ℕ) → cell empty rows.new.items r n ≡ (if row == r && at == n then value else cell empty rows.old.items r n) }
 {
     if row < rows.len() {
         overwrite_in(&mut rows[row], at, value);

@@ -7,7 +7,8 @@
 mod birth_table;
 mod dense;
 mod name_table;
-mod object_map;
+mod object_list;
+mod object_places;
 mod object_table;
 mod owned_list;
 mod owner_list;
@@ -15,13 +16,13 @@ mod owners;
 mod placed_table;
 mod retrieved_map;
 mod retrieved_table;
-mod value_table;
 
 pub use birth_table::BirthTable;
+pub use dense::place_behind;
 pub use name_table::NameTable;
-pub use object_map::{Filed, ObjectMap};
+pub use object_list::ObjectList;
+pub use object_places::ObjectPlaces;
 pub use object_table::ObjectTable;
 pub use owners::owner;
 pub use retrieved_map::RetrievedKey;
 pub use retrieved_table::{RetrievedEntry, RetrievedTable};
-pub use value_table::{ValueEntry, ValueTable};

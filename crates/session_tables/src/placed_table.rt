@@ -7,7 +7,8 @@ ghost use Rattle.session_tables.specs.declared.placed_table.Placed.{Placed};
 ghost use Rattle.session_tables.specs.Filing.{kept};
 ghost use Rattle.session_tables.specs.Placed.{ArePlaced, entry_of, placed_in};
 
-use crate::object_map::ObjectMap;
+use crate::dense::place_behind;
+use crate::object_places::ObjectPlaces;
 use object_model::Object;
 use std::alloc::{AllocError, Global};
 
@@ -22,7 +23,7 @@ pub struct Placed<V: Drop> {
 #[derive(Drop)]
 pub struct PlacedTable<V: Drop> {
     pub entries: Vec<Placed<V>>,
-    pub places: ObjectMap<u32>,
+    pub places: ObjectPlaces,
 }
 
 #[tactic(auto, unfolding(command_tables::specs::Tests::same_type))]
@@ -36,7 +37,7 @@ fn is_at<V: Drop>(entries: &[Placed<V>], at: usize, object: Object) -> bool
 }
 
 // The entry that was moved to a place, if there is one, is found there.
-fn note_moved<V: Drop>(entries: &[Placed<V>], places: &mut ObjectMap<u32>, at: usize)
+fn note_moved<V: Drop>(entries: &[Placed<V>], places: &mut ObjectPlaces, at: usize)
     requires few { at < 2 ^ 32 }
     requires there { (p : Placed V) → slice_get entries.now at ≡ Some p → is_some (kept places.old p.object) ≡ true }
     ensures moved { (p : Placed V) → slice_get entries.now at ≡ Some p → (o : Object) → kept places.new o ≡ (if same p.object o then Some at else kept places.old o) }
@@ -47,13 +48,6 @@ fn note_moved<V: Drop>(entries: &[Placed<V>], places: &mut ObjectMap<u32>, at: u
     }
 }
 
-// The place of the next entry. Places have 32 bits.
-fn next_place<V: Drop>(entries: &[Placed<V>]) -> Result<u32, AllocError>
-    ensures { IfOk result (λ at. at ≡ length entries.now) }
-{
-    u32::try_from(entries.len()).ok().ok_or(AllocError)
-}
-
 impl<V: Drop> PlacedTable<V> {
     pub fn new(alloc: Global) -> PlacedTable<V>
         ensures empty { result.entries.items ≡ [] }
@@ -61,7 +55,7 @@ impl<V: Drop> PlacedTable<V> {
     {
         PlacedTable {
             entries: Vec::new(alloc),
-            places: ObjectMap::new(alloc),
+            places: ObjectPlaces::new(alloc),
         }
     }
 
@@ -97,7 +91,7 @@ impl<V: Drop> PlacedTable<V> {
         ensures err { OnErr result (self.new.entries.items ≡ self.old.entries.items) }
         ensures placed { ArePlaced self.new }
     {
-        let at = next_place(&self.entries)?;
+        let at = place_behind(self.entries.len())?;
         self.places.put(object, at)?;
         self.entries.push(Placed { object, value })?;
         Ok(())

@@ -1,13 +1,12 @@
 // Retrieved objects by their keys.
 ghost use Rattle.std.specs.Prelude.{◌≡◌, ◌==◌, ◌<◌, ◌^◌, None, Some, OnOk, OnErr, IfOk, IfSome, if◌then◌else◌, length, true};
 ghost use Rattle.std.specs.HashMap.{get};
-ghost use Rattle.std.specs.Option.{option_copied};
 ghost use Rattle.session_tables.specs.declared.retrieved_map.RetrievedKey.{RetrievedKey};
 ghost use Rattle.session_tables.specs.Filing.{kept};
 ghost use Rattle.session_tables.specs.Retrieved.{FitsRow, near_key, object_for, same_key};
 
-use crate::dense::{put_value, value_at};
-use crate::object_map::ObjectMap;
+use crate::dense::{place_behind, put_value, value_at};
+use crate::object_places::ObjectPlaces;
 use command_tables::ObjectType;
 use object_model::Object;
 use std::alloc::{AllocError, Global};
@@ -36,7 +35,7 @@ pub struct RetrievedPlace {
 /// and so does one whose place another one has.
 #[derive(Drop)]
 pub struct RetrievedMap {
-    owners: ObjectMap<usize>,
+    owners: ObjectPlaces,
     rows: Vec<Vec<Option<RetrievedPlace>>>,
     others: HashMap<RetrievedKey, Object>,
     alloc: Global,
@@ -55,17 +54,17 @@ fn other(others: &HashMap<RetrievedKey, Object>, key: &RetrievedKey) -> Option<O
     }
 }
 
-fn near<'a>(
-    rows: &'a [Vec<Option<RetrievedPlace>>],
-    owners: &ObjectMap<usize>,
+fn near(
+    rows: &[Vec<Option<RetrievedPlace>>],
+    owners: &ObjectPlaces,
     key: &RetrievedKey,
-) -> Option<&'a RetrievedPlace>
-    ensures { option_copied result ≡ near_key rows.now owners.now key.now }
+) -> Option<RetrievedPlace>
+    ensures { result ≡ near_key rows.now owners.now key.now }
 {
     if key.payload.as_slice().is_empty() {
         match owners.get(key.owner) {
             None => None,
-            Some(row) => value_at(rows, row, key.place),
+            Some(row) => value_at(rows, row as usize, key.place, None),
         }
     } else {
         None
@@ -75,17 +74,17 @@ fn near<'a>(
 // The row of an owner, which is opened where there is none.
 #[tactic(auto, using(crate::proofs::RetrievedLemmas::opened_row))]
 fn open_row(
-    owners: &mut ObjectMap<usize>,
+    owners: &mut ObjectPlaces,
     rows: &[Vec<Option<RetrievedPlace>>],
     owner: Object,
-) -> Result<usize, AllocError>
+) -> Result<u32, AllocError>
     ensures at { IfOk result (λ row. kept owners.new owner ≡ Some row) }
     ensures same { (k : RetrievedKey) → near_key rows.now owners.new k ≡ near_key rows.now owners.old k }
 {
     match owners.get(owner) {
         Some(row) => Ok(row),
         None => {
-            let row = rows.len();
+            let row = place_behind(rows.len())?;
             owners.put(owner, row)?;
             Ok(row)
         }
@@ -94,7 +93,7 @@ fn open_row(
 
 // The row in which an object is put: none where its key has a payload, or its place is taken.
 fn row_for(
-    owners: &mut ObjectMap<usize>,
+    owners: &mut ObjectPlaces,
     rows: &[Vec<Option<RetrievedPlace>>],
     key: &RetrievedKey,
 ) -> Result<Option<usize>, AllocError>
@@ -104,8 +103,8 @@ fn row_for(
     if !key.payload.as_slice().is_empty() || key.place >= MOST_PLACES {
         return Ok(None);
     }
-    let row = open_row(owners, rows, key.owner)?;
-    match value_at(rows, row, key.place) {
+    let row = open_row(owners, rows, key.owner)? as usize;
+    match value_at(rows, row, key.place, None) {
         None => Ok(Some(row)),
         Some(_) => Ok(None),
     }
@@ -116,7 +115,7 @@ impl RetrievedMap {
         ensures { (k : RetrievedKey) → object_for result k ≡ None }
     {
         RetrievedMap {
-            owners: ObjectMap::new(alloc),
+            owners: ObjectPlaces::new(alloc),
             rows: Vec::new(alloc),
             others: HashMap::new(alloc),
             alloc,
@@ -149,7 +148,7 @@ impl RetrievedMap {
                     owner: key.owner,
                     object,
                 };
-                put_value(self.alloc, &mut self.rows, row, key.place, place)?;
+                put_value(self.alloc, &mut self.rows, row, key.place, Some(place), None)?;
                 Ok(())
             }
             None => {

@@ -8,7 +8,7 @@ use replay_base::{Failed, MemSink, MemSource, MemTree, Sink, Source};
 use replay_core::Status;
 use replay_tool::BlockSink;
 use run_fixtures::{
-    ByteSource, DRIVER, TWICE, TWICE_TEXT, finished_of, lines_in, sink, tree_of, words_of,
+    ByteSource, DRIVER, TWICE, TWICE_TEXT, outcome_of, lines_in, sink, tree_of, words_of,
 };
 use std::alloc::{AllocError, Global};
 use std::process::Abort;
@@ -67,7 +67,7 @@ fn cut_with<D: Driver>(
     errs: &mut MemSink,
     driver: &mut D,
 ) -> Status {
-    finished_of(
+    outcome_of(
         &kit(),
         fresh(alloc),
         alloc,
@@ -221,7 +221,7 @@ fn pieces_of<S: Source>(alloc: Global, trace: &mut S) -> Result<usize, Fail> {
     let mut errs = sink(alloc, 0)?;
     let mut out = BlockSink::new(PieceSink { pieces: 0 }, Vec::with_capacity(alloc, 4096)?);
     let mut driver = ModelDriver::new(alloc);
-    let _finished = finished_of(
+    outcome_of(
         &kit(),
         fresh(alloc),
         alloc,

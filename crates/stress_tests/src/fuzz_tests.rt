@@ -6,7 +6,7 @@ use crate::kit::{fresh, kit};
 use model_driver::{AdverseDriver, Driver, ModelDriver};
 use replay_base::{MemSink, MemSource, MemTree};
 use replay_core::Status;
-use run_fixtures::{DRIVER, HOME, TWICE, VALIDATION, finished_of, put, sink, variables, words_of};
+use run_fixtures::{DRIVER, HOME, TWICE, VALIDATION, outcome_of, put, sink, variables, words_of};
 use std::alloc::{AllocError, Global};
 use std::process::Abort;
 use std::test::Fail;
@@ -118,7 +118,7 @@ fn came_under<D: Driver>(
         .ok()
         .ok_or("no memory")?;
     let mut errs = sink(alloc, 0)?;
-    let status = finished_of(
+    let status = outcome_of(
         &kit(),
         fresh(alloc),
         alloc,

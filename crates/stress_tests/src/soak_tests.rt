@@ -7,7 +7,7 @@ use model_driver::{AdverseDriver, ModelDriver, RecordingDriver};
 use replay_base::{Failed, MemSink, MemSource, Sink};
 use replay_core::Status;
 use run_fixtures::{
-    DRIVER, HOME, Pairs, VALIDATION, finished_of, sink, tree_of, variables, words_of,
+    DRIVER, HOME, Pairs, VALIDATION, outcome_of, sink, tree_of, variables, words_of,
 };
 use std::alloc::Global;
 use std::process::Abort;
@@ -65,7 +65,7 @@ fn done_over(
         .ok_or("no memory")?;
     let mut errs = sink(alloc, 0)?;
     let mut driver = RecordingDriver::new(alloc, ModelDriver::new(alloc));
-    let finished = finished_of(
+    let outcome = outcome_of(
         &kit(),
         fresh(alloc),
         alloc,
@@ -79,11 +79,11 @@ fn done_over(
     );
     let told = driver.log().len();
     Ok(Done {
-        status: finished.status,
+        status: outcome.status,
         out,
         errs,
         told,
-        comes_back: finished.session.is_some(),
+        comes_back: outcome.comes_back,
     })
 }
 
@@ -211,7 +211,7 @@ fn fails_at_its_end(rt: &impl Abort, alloc: Global, words: &str, text: &str) -> 
     };
     let mut errs = sink(alloc, 0)?;
     let mut driver = AdverseDriver::new(Vec::new(alloc));
-    let finished = finished_of(
+    let outcome = outcome_of(
         &kit(),
         fresh(alloc),
         alloc,
@@ -223,8 +223,8 @@ fn fails_at_its_end(rt: &impl Abort, alloc: Global, words: &str, text: &str) -> 
         &mut errs,
         &mut driver,
     );
-    assert_eq!(rt; finished.status, Status::WriteFault);
-    assert_eq!(rt; finished.session.is_some(), false);
+    assert_eq!(rt; outcome.status, Status::WriteFault);
+    assert_eq!(rt; outcome.comes_back, false);
     assert!(rt; out.bytes.as_slice() == text.as_bytes());
     assert_eq!(rt; out.flushed, 1);
     assert!(rt; errs.bytes() == b"vkreplay: write fault\n".as_slice());

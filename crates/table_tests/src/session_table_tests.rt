@@ -3,7 +3,7 @@ use command_tables::{Effect, ObjectType, OwnerOf};
 use object_model::{Argument, Object};
 use replay_model::{Born, Named};
 use session_tables::{
-    NameTable, ObjectTable, RetrievedEntry, RetrievedKey, RetrievedTable, ValueEntry, ValueTable,
+    NameTable, ObjectList, ObjectPlaces, ObjectTable, RetrievedEntry, RetrievedKey, RetrievedTable,
 };
 use std::alloc::Global;
 use std::test::Fail;
@@ -62,28 +62,49 @@ fn names(rt: HostRuntime) -> Result<(), Fail> {
 }
 
 #[test]
-fn values(rt: HostRuntime) -> Result<(), Fail> {
-    let mut table = ValueTable::new(rt.alloc());
+fn places_of_objects(rt: HostRuntime) -> Result<(), Fail> {
+    let mut places = ObjectPlaces::new(rt.alloc());
     let one = name(1, 1);
     let last = name(LAST_THREAD, LAST_NUMBER);
-    for (object, value) in [
+    for (object, place) in [
         (object(ObjectType::Device, one), 7),
         (object(ObjectType::Fence, one), 8),
         (object(ObjectType::Buffer, one), 9),
-        (object(ObjectType::Fence, one), 10),
-        (object(ObjectType::Fence, last), u64::MAX),
+        (object(ObjectType::Fence, last), u32::MAX),
     ] {
-        table.push(ValueEntry { object, value })?;
+        places.put(object, place)?;
     }
-    let told = [
-        table.value_told(object(ObjectType::Device, one)),
-        table.value_told(object(ObjectType::Fence, one)),
-        table.value_told(object(ObjectType::Buffer, one)),
-        table.value_told(object(ObjectType::Fence, last)),
-        table.value_told(object(ObjectType::Queue, one)),
-        table.value_told(object(ObjectType::Fence, name(LAST_THREAD, 1))),
+    places.set(object(ObjectType::Device, one), 0);
+    places.set(object(ObjectType::Fence, one), 10);
+    let found = [
+        places.get(object(ObjectType::Device, one)),
+        places.get(object(ObjectType::Fence, one)),
+        places.get(object(ObjectType::Buffer, one)),
+        places.get(object(ObjectType::Fence, last)),
+        places.get(object(ObjectType::Queue, one)),
+        places.get(object(ObjectType::Fence, name(LAST_THREAD, 1))),
     ];
-    assert_eq!(rt; told, [7, 10, 9, u64::MAX, 0, 0]);
+    assert_eq!(rt; found, [Some(0), Some(10), Some(9), Some(u32::MAX), None, None]);
+    Ok(())
+}
+
+#[test]
+fn objects_in_a_row(rt: HostRuntime) -> Result<(), Fail> {
+    let mut list = ObjectList::new(rt.alloc());
+    let last = object(ObjectType::Fence, name(LAST_THREAD, LAST_NUMBER));
+    let greatest = Object {
+        ty: ObjectType::Swapchain,
+        number: u64::MAX,
+    };
+    list.push(last)?;
+    list.reserve(10_000)?;
+    for number in 1..10_001 {
+        list.push(object(ObjectType::Queue, name(1, number)))?;
+    }
+    list.push(greatest)?;
+    assert_eq!(rt; list.at(0), last);
+    assert_eq!(rt; list.at(10_000), object(ObjectType::Queue, name(1, 10_000)));
+    assert_eq!(rt; list.at(10_001), greatest);
     Ok(())
 }
 

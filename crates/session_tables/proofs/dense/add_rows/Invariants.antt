@@ -3,7 +3,7 @@ use Rattle.session_tables.specs.Dense.{cell}
 use Rattle.session_tables.proofs.dense.add_rows.Given as goal
 
 abbrev pub invariant-rows : goal.invariant-rows
-invariant-rows g l = (r n : ℕ) → cell l.rows.items r n ≡ cell l.initial.rows.items r n
+invariant-rows g l = (empty : g.row.V.Denot) (r n : ℕ) → cell empty l.rows.items r n ≡ cell empty l.initial.rows.items r n
 
 abbrev pub decreases-rows : goal.decreases-rows
 decreases-rows g l = l.row + 1 - vec_len l.rows

@@ -1,20 +1,24 @@
-use Rattle.std.proofs.Common.{◌∙◌, ap, sym, arith}
-use Rattle.std.specs.Option.{option_copied}
+use Rattle.std.proofs.Common.{◌∙◌, ◌-◌, ap, sym, arith}
 use Rattle.replay_model.specs.Past.{object_in}
-use Rattle.session_tables.proofs.Names.{first_found, first_missing, first_within}
+use Rattle.session_tables.specs.Dense.{cell}
+use Rattle.session_tables.specs.Shown.{place_before}
+use Rattle.session_tables.proofs.Names.{before_is, first_found, first_missing, first_within}
 use Rattle.session_tables.proofs.name_table.NameTable.object_named.Goals as goal
 
-pub index-requires : goal.index-requires
-index-requires c =
-    let within = first_within c.self.inside.list.items c.args.name c.in-Some.place.now (sym (c.self.invariant c.args.name) ∙ (sym (rw c.deref.ensures.value at c.value_at.ensures) ∙ ap option_copied c.in-Some.is)) in
-    omega (arith, c.self.inside.list.ok.0)
-
-pub returns-in-None : goal.returns-in-None
-returns-in-None c =
-    first_missing c.self.inside.list.items c.args.name (sym (c.self.invariant c.args.name) ∙ (sym (rw c.deref.ensures.value at c.value_at.ensures) ∙ ap option_copied c.in-None.is))
+pub returns-then-link-eq0 : goal.returns-then-link-eq0
+returns-then-link-eq0 c =
+    let linked = ap place_before (c.value_at-link.ensures ∙ ap (λ rows. cell 0 rows c.args.name.thread c.args.name.number) c.deref.ensures.value) in
+    first_missing c.self.inside.names.items c.self.inside.objects.objects c.args.name (sym (c.self.invariant.1 c.args.name) ∙ (sym linked ∙ ap place_before c.if-link-eq0.true))
     ∙ ap (λ names. object_in names c.args.name) c.self.view_is
 
-pub returns-in-Some : goal.returns-in-Some
-returns-in-Some c =
-    first_found c.self.inside.list.items c.args.name c.in-Some.place.now c.index.result.now (sym (c.self.invariant c.args.name) ∙ (sym (rw c.deref.ensures.value at c.value_at.ensures) ∙ ap option_copied c.in-Some.is)) c.index.ensures
+pub at-requires : goal.at-requires
+at-requires c =
+    let linked = ap place_before (c.value_at-link.ensures ∙ ap (λ rows. cell 0 rows c.args.name.thread c.args.name.number) c.deref.ensures.value) in
+    let within = first_within c.self.inside.names.items c.args.name (c.value_at-link.result - 1) (sym (c.self.invariant.1 c.args.name) ∙ (sym linked ∙ before_is c.value_at-link.result c.if-link-eq0.false)) in
+    omega (arith, within, c.self.invariant.0)
+
+pub returns : goal.returns
+returns c =
+    let linked = ap place_before (c.value_at-link.ensures ∙ ap (λ rows. cell 0 rows c.args.name.thread c.args.name.number) c.deref.ensures.value) in
+    first_found c.self.inside.names.items c.self.inside.objects.objects c.args.name (c.value_at-link.result - 1) c.at.result c.self.invariant.0 (sym (c.self.invariant.1 c.args.name) ∙ (sym linked ∙ before_is c.value_at-link.result c.if-link-eq0.false)) c.at.ensures
     ∙ ap (λ names. object_in names c.args.name) c.self.view_is

@@ -1,4 +1,4 @@
-use Rattle.std.proofs.Common.{List, length, ap, sym, subst, ◌∙◌}
+use Rattle.std.proofs.Common.{◌≡◌, List, length, sym, subst, arith}
 use Rattle.session_tables.specs.declared.placed_table.Placed.{Placed}
 use Rattle.session_tables.specs.Filing.{kept}
 use Rattle.session_tables.specs.Placed.{AreTheirPlaces}
@@ -14,4 +14,4 @@ pub returns-clause-placed : goal.returns-clause-placed
 returns-clause-placed g c =
     subst (λ (es : List (Placed g.row.V.Denot)). AreTheirPlaces (kept c.put.new.self) es) (sym c.in_ok-push.ensures.items)
     (placed_more (kept c.args.self.now.places) c.args.self.now.entries.items c.requires.placed (kept c.put.new.self) (record { object = c.args.object; value = c.args.value }) c.in_ok-at.at c.requires.new
-    (c.in_ok-at.ensures ∙ ap length c.deref.ensures.value) c.in_ok-put.ensures.ok)
+    (let last : c.in_ok-at.at ≡ length c.args.self.now.entries.items = omega (arith, c.in_ok-at.ensures, c.len.ensures) in last) c.in_ok-put.ensures.ok)

@@ -1,4 +1,4 @@
-use Rattle.std.proofs.Common.{◌≡◌, ◌∙◌, ap, sym, cond, Option, Some}
+use Rattle.std.proofs.Common.{◌≡◌, ◌∙◌, ap, sym, cond, Option, Some, None}
 use Rattle.std.specs.HashMap.{get}
 use Rattle.command_tables.specs.Tests.{same_type}
 use Rattle.session_tables.specs.declared.retrieved_map.RetrievedKey.{RetrievedKey}
@@ -16,7 +16,7 @@ returns-in_ok-put_value-in-Some-clause-ok c = λ k.
     let fit = rw c.in-Some.is at c.in_ok-row.ensures.row in
     let other = get same_key c.args.self.now.others k in
     let near : near_key rows new k ≡ near_key rows old k = ap (λ rs. near_key rs new k) (sym c.deref.ensures.value) ∙ (c.row_for.ensures.same k ∙ ap (λ rs. near_key rs old k) c.deref.ensures.value) in
-    put_row rows c.put_value.new.rows.items new c.args.key k c.args.object c.in-Some.row other c.requires.ty fit.there fit.empty (ap (λ rs. cell rs c.in-Some.row c.args.key.place) (sym c.deref.ensures.value) ∙ fit.free) c.in_ok-put_value-in-Some.ensures.ok
+    put_row rows c.put_value.new.rows.items new c.args.key k c.args.object c.in-Some.row other c.requires.ty fit.there fit.empty (ap (λ rs. cell None rs c.in-Some.row c.args.key.place) (sym c.deref.ensures.value) ∙ fit.free) c.in_ok-put_value-in-Some.ensures.ok
     ∙ ap (λ (p : Option RetrievedPlace). cond (same_key c.args.key k) (Some c.args.object) (found_in p k other)) near
 
 pub returns-in_ok-insert-in-None-clause-ok : goal.returns-in_ok-insert-in-None-clause-ok

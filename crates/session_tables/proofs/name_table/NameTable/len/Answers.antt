@@ -1,0 +1,7 @@
+use Rattle.std.proofs.Common.{◌∙◌, ap, sym, length}
+use Rattle.session_tables.proofs.Names.{named_len}
+use Rattle.session_tables.proofs.name_table.NameTable.len.Goals as goal
+
+pub returns-clause-len : goal.returns-clause-len
+returns-clause-len c =
+    ap length c.as_slice.ensures.value ∙ (sym (named_len c.self.inside.names.items c.self.inside.objects.objects c.self.invariant.0) ∙ ap length c.self.view_is)
