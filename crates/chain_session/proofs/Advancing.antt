@@ -71,6 +71,10 @@ none_begun s old e log0 log1 is = λ events before st trace. none_asked _ log0 l
 pub shown_first : (s : Setup) (old : Option Kept) (x : Kept) → old ≡ None → Shows s x nothing_kept → (k : SessionKept) → ShowsOnce s old k → Shows s x k
 shown_first s old x is shows k sh = subst (λ q. Shows s x q) (sym (subst (λ o. ShowsOnce s o k) is sh)) shows
 
+-- so it is where the same is reached in another way
+pub shown_in : (s : Setup) (x y : Kept) → y ≡ x → Shows s x nothing_kept → Shows s y nothing_kept
+shown_in s x y is shows = subst (λ (k : Kept). Shows s k nothing_kept) (sym is) shows
+
 -- what is kept is shown
 pub shown_since : (s : Setup) (old : Option Kept) (x : Kept) → old ≡ Some x → (k : SessionKept) → ShowsOnce s old k → Shows s x k
 shown_since s old x is k sh = subst (λ o. ShowsOnce s o k) is sh

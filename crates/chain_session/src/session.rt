@@ -28,13 +28,14 @@ use trace_format::Event;
 #[derive(Drop)]
 pub struct Session {
     alloc: Global,
-    pub(crate) started: Option<Started>,
+    // Behind a box: whoever passes a session on moves a pointer.
+    pub(crate) started: Option<Box<Started>>,
 }
 
 impl Session {
     /// A session for a trace of which nothing was replayed yet, and whose chains call the functions of this kit. Takes no memory.
     pub fn new(alloc: Global, _kit: &Kit) -> Session
-        ensures { option_map (λ x. x.kept) result.started ≡ None }
+        ensures { option_map (λ x. x.value.kept) result.started ≡ None }
     {
         Session {
             alloc,
@@ -45,9 +46,10 @@ impl Session {
     // Nothing is kept yet, under this setup.
     fn start(&mut self, setup: &Setup, kit: &Kit) -> Result<(), NoMemory>
         requires few { length (setup_content setup.now).drivers.list < 2 ^ 32 }
-        ensures { OnOk result (IsSomeAnd self.new.started (λ x. Shows (trace_setup (setup_content setup.now)) x.kept nothing_kept)) }
+        ensures { OnOk result (IsSomeAnd self.new.started (λ x. Shows (trace_setup (setup_content setup.now)) x.value.kept nothing_kept)) }
     {
-        self.started = Some(Started::new(self.alloc, setup, kit)?);
+        let started = Started::new(self.alloc, setup, kit)?;
+        self.started = Some(Box::new(self.alloc, started)?);
         Ok(())
     }
 
@@ -61,12 +63,12 @@ impl Session {
         driver: &mut D,
         lines: &mut Vec<u8>,
     ) -> Result<(), SessionError>
-        requires first { option_map (λ x. x.kept) self.old.started ≡ None }
-        requires can { CanCome (trace_setup (setup_content setup.now)) (option_map (λ x. x.kept) self.old.started) (Begin (begin_content begin)) }
-        requires number { number ≡ calls_before (option_map (λ x. x.kept) self.old.started) + 1 }
+        requires first { option_map (λ x. x.value.kept) self.old.started ≡ None }
+        requires can { CanCome (trace_setup (setup_content setup.now)) (option_map (λ x. x.value.kept) self.old.started) (Begin (begin_content begin)) }
+        requires number { number ≡ calls_before (option_map (λ x. x.value.kept) self.old.started) + 1 }
         requires few { length (setup_content setup.now).drivers.list < 2 ^ 32 }
-        ensures ok { OnOk result (Advances (trace_setup (setup_content setup.now)) (option_map (λ x. x.kept) self.old.started) (option_map (λ x. x.kept) self.new.started) (Begin (begin_content begin.entry)) (D.log driver.old) (D.log driver.new) lines.old.items lines.new.items) }
-        ensures err { OnErr result (CutBefore (trace_setup (setup_content setup.now)) (option_map (λ x. x.kept) self.old.started) (begin_content begin.entry) (D.log driver.old) (D.log driver.new)) }
+        ensures ok { OnOk result (Advances (trace_setup (setup_content setup.now)) (option_map (λ x. x.value.kept) self.old.started) (option_map (λ x. x.value.kept) self.new.started) (Begin (begin_content begin.entry)) (D.log driver.old) (D.log driver.new) lines.old.items lines.new.items) }
+        ensures err { OnErr result (CutBefore (trace_setup (setup_content setup.now)) (option_map (λ x. x.value.kept) self.old.started) (begin_content begin.entry) (D.log driver.old) (D.log driver.new)) }
         ensures fault { IfErr result (IsFault (same_command begin.entry.cmd CommandId.CreateInstance) ((trace_setup (setup_content setup.now)).outcome begin.entry.payload.now)) }
         ensures within { OnOk result (exceeds_layers (trace_setup (setup_content setup.now)) (Begin (begin_content begin.entry)) ≡ false) }
         ensures untold { OnErr result (exceeds_layers (trace_setup (setup_content setup.now)) (Begin (begin_content begin.entry)) ≡ true → D.log driver.new ≡ D.log driver.old) }
@@ -92,11 +94,11 @@ impl Session {
         driver: &mut D,
         lines: &mut Vec<u8>,
     ) -> Result<(), SessionError>
-        requires can { CanCome (trace_setup (setup_content setup.now)) (option_map (λ x. x.kept) self.old.started) (Begin (begin_content begin)) }
-        requires number { number ≡ calls_before (option_map (λ x. x.kept) self.old.started) + 1 }
+        requires can { CanCome (trace_setup (setup_content setup.now)) (option_map (λ x. x.value.kept) self.old.started) (Begin (begin_content begin)) }
+        requires number { number ≡ calls_before (option_map (λ x. x.value.kept) self.old.started) + 1 }
         requires few { length (setup_content setup.now).drivers.list < 2 ^ 32 }
-        ensures ok { OnOk result (Advances (trace_setup (setup_content setup.now)) (option_map (λ x. x.kept) self.old.started) (option_map (λ x. x.kept) self.new.started) (Begin (begin_content begin.entry)) (D.log driver.old) (D.log driver.new) lines.old.items lines.new.items) }
-        ensures err { OnErr result (CutBefore (trace_setup (setup_content setup.now)) (option_map (λ x. x.kept) self.old.started) (begin_content begin.entry) (D.log driver.old) (D.log driver.new)) }
+        ensures ok { OnOk result (Advances (trace_setup (setup_content setup.now)) (option_map (λ x. x.value.kept) self.old.started) (option_map (λ x. x.value.kept) self.new.started) (Begin (begin_content begin.entry)) (D.log driver.old) (D.log driver.new) lines.old.items lines.new.items) }
+        ensures err { OnErr result (CutBefore (trace_setup (setup_content setup.now)) (option_map (λ x. x.value.kept) self.old.started) (begin_content begin.entry) (D.log driver.old) (D.log driver.new)) }
         ensures fault { IfErr result (IsFault (same_command begin.entry.cmd CommandId.CreateInstance) ((trace_setup (setup_content setup.now)).outcome begin.entry.payload.now)) }
         ensures within { OnOk result (exceeds_layers (trace_setup (setup_content setup.now)) (Begin (begin_content begin.entry)) ≡ false) }
         ensures untold { OnErr result (exceeds_layers (trace_setup (setup_content setup.now)) (Begin (begin_content begin.entry)) ≡ true → D.log driver.new ≡ D.log driver.old) }
@@ -124,11 +126,11 @@ impl Session {
         lines: &mut Vec<u8>,
     ) -> Result<(), SessionError>
         requires begins { BeginsCall (content event.now) }
-        requires can { CanCome (trace_setup (setup_content setup.now)) (option_map (λ x. x.kept) self.old.started) (content event.now) }
-        requires number { number ≡ calls_before (option_map (λ x. x.kept) self.old.started) + 1 }
+        requires can { CanCome (trace_setup (setup_content setup.now)) (option_map (λ x. x.value.kept) self.old.started) (content event.now) }
+        requires number { number ≡ calls_before (option_map (λ x. x.value.kept) self.old.started) + 1 }
         requires few { length (setup_content setup.now).drivers.list < 2 ^ 32 }
-        ensures ok { OnOk result (Advances (trace_setup (setup_content setup.now)) (option_map (λ x. x.kept) self.old.started) (option_map (λ x. x.kept) self.new.started) (content event.now) (D.log driver.old) (D.log driver.new) lines.old.items lines.new.items) }
-        ensures err { OnErr result (CutAt (trace_setup (setup_content setup.now)) (option_map (λ x. x.kept) self.old.started) (content event.now) (D.log driver.old) (D.log driver.new)) }
+        ensures ok { OnOk result (Advances (trace_setup (setup_content setup.now)) (option_map (λ x. x.value.kept) self.old.started) (option_map (λ x. x.value.kept) self.new.started) (content event.now) (D.log driver.old) (D.log driver.new) lines.old.items lines.new.items) }
+        ensures err { OnErr result (CutAt (trace_setup (setup_content setup.now)) (option_map (λ x. x.value.kept) self.old.started) (content event.now) (D.log driver.old) (D.log driver.new)) }
         ensures fault { IfErr result (IsFaultAt (trace_setup (setup_content setup.now)) (content event.now)) }
         ensures within { OnOk result (exceeds_layers (trace_setup (setup_content setup.now)) (content event.now) ≡ false) }
         ensures untold { OnErr result (exceeds_layers (trace_setup (setup_content setup.now)) (content event.now) ≡ true → D.log driver.new ≡ D.log driver.old) }
@@ -160,8 +162,8 @@ impl Session {
     /// The return of a thread's open call: its line is added. After `NoMemory` the session is for dropping alone, and anything may stand
     /// behind the lines.
     pub fn finish(&mut self, thread: u32, lines: &mut Vec<u8>) -> Result<(), NoMemory>
-        requires { CanReturn (option_map (λ x. x.kept) self.old.started) thread }
-        ensures { OnOk result (ReturnsAs (option_map (λ x. x.kept) self.old.started) (option_map (λ x. x.kept) self.new.started) thread lines.old.items lines.new.items) }
+        requires { CanReturn (option_map (λ x. x.value.kept) self.old.started) thread }
+        ensures { OnOk result (ReturnsAs (option_map (λ x. x.value.kept) self.old.started) (option_map (λ x. x.value.kept) self.new.started) thread lines.old.items lines.new.items) }
     {
         match &mut self.started {
             None => Ok(()),
@@ -174,7 +176,7 @@ impl Session {
 
     /// For how many names, living objects and open calls there is an entry. Takes no memory.
     pub fn held(&self) -> usize
-        ensures { Holds (option_map (λ x. x.kept) self.now.started) result }
+        ensures { Holds (option_map (λ x. x.value.kept) self.now.started) result }
     {
         match &self.started {
             None => 0,
@@ -184,7 +186,7 @@ impl Session {
 
     /// How many calls there were, how many of them were skipped, and how many reports. Takes no memory.
     pub fn tally(&self) -> Tally
-        ensures { Counts (option_map (λ x. x.kept) self.now.started) result.calls result.skipped result.reports }
+        ensures { Counts (option_map (λ x. x.value.kept) self.now.started) result.calls result.skipped result.reports }
     {
         match &self.started {
             None => Tally {

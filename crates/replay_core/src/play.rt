@@ -43,7 +43,7 @@ pub fn play<S: Source + Drop, K: Sink, D: Driver>(
     driver: &mut D,
     out: &mut K,
 ) -> Result<(), ReplayError>
-    requires session { option_map (λ x. x.kept) player.old.session.started ≡ None }
+    requires session { option_map (λ x. x.value.kept) player.old.session.started ≡ None }
     requires state { SumsUp player.old.state [] }
     requires fine { reader.old.error ≡ None }
     requires unread { reader.old.finished ≡ false }
@@ -52,7 +52,7 @@ pub fn play<S: Source + Drop, K: Sink, D: Driver>(
     ensures plays { let s = trace_setup (setup_content setup.now) in
         let sink = changed (K.held out.old) (K.held out.new) (K.faults out.old) (K.faults out.new) in
         let source = source_of (state_of S.left S.faults reader.old) (state_of S.left S.faults reader.new) in
-        Plays s (option_map (λ x. x.kept) player.new.session.started) source (traffic_of (D.log driver.old) (D.log driver.new) sink) result }
+        Plays s (option_map (λ x. x.value.kept) player.new.session.started) source (traffic_of (D.log driver.old) (D.log driver.new) sink) result }
     ensures same { S.loan reader.new.source ≡ S.loan reader.old.source }
     ensures policy { D.answers_by driver.new ≡ D.answers_by driver.old }
 {

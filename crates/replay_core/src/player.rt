@@ -33,7 +33,7 @@ pub struct Player {
 impl Player {
     /// A player of a session for which nothing was replayed yet.
     pub fn new(alloc: Global, session: Session) -> Player
-        ensures session { option_map (λ x. x.kept) result.session.started ≡ option_map (λ x. x.kept) session.started }
+        ensures session { option_map (λ x. x.value.kept) result.session.started ≡ option_map (λ x. x.value.kept) session.started }
         ensures state { SumsUp result.state [] }
     {
         Player {
@@ -53,11 +53,11 @@ impl Player {
         kit: &Kit,
         driver: &mut D,
     ) -> Result<(), SessionError>
-        requires can { CanTake (trace_setup (setup_content setup.now)) (option_map (λ x. x.kept) self.old.session.started) (content event.now) call }
+        requires can { CanTake (trace_setup (setup_content setup.now)) (option_map (λ x. x.value.kept) self.old.session.started) (content event.now) call }
         requires few { length (setup_content setup.now).drivers.list < 2 ^ 32 }
-        ensures ok { OnOk result (Advances (trace_setup (setup_content setup.now)) (option_map (λ x. x.kept) self.old.session.started) (option_map (λ x. x.kept) self.new.session.started) (content event.now) (D.log driver.old) (D.log driver.new) [] self.new.lines.items) }
+        ensures ok { OnOk result (Advances (trace_setup (setup_content setup.now)) (option_map (λ x. x.value.kept) self.old.session.started) (option_map (λ x. x.value.kept) self.new.session.started) (content event.now) (D.log driver.old) (D.log driver.new) [] self.new.lines.items) }
         ensures within { OnOk result (exceeds_layers (trace_setup (setup_content setup.now)) (content event.now) ≡ false) }
-        ensures err { OnErr result (MayTell (trace_setup (setup_content setup.now)) (option_map (λ x. x.kept) self.old.session.started) (content event.now) (D.log driver.old) (D.log driver.new)) }
+        ensures err { OnErr result (MayTell (trace_setup (setup_content setup.now)) (option_map (λ x. x.value.kept) self.old.session.started) (content event.now) (D.log driver.old) (D.log driver.new)) }
         ensures fault { IfErr result (IsLong (trace_setup (setup_content setup.now)) (content event.now)) }
         ensures state { self.new.state ≡ self.old.state }
         ensures policy { D.answers_by driver.new ≡ D.answers_by driver.old }
@@ -84,12 +84,12 @@ impl Player {
         driver: &mut D,
         out: &mut K,
     ) -> Result<(), ReplayError>
-        requires can { CanTake (trace_setup (setup_content setup.now)) (option_map (λ x. x.kept) self.old.session.started) (content event.now) call }
+        requires can { CanTake (trace_setup (setup_content setup.now)) (option_map (λ x. x.value.kept) self.old.session.started) (content event.now) call }
         requires few { length (setup_content setup.now).drivers.list < 2 ^ 32 }
         ensures steps { let sink = changed (K.held out.old) (K.held out.new) (K.faults out.old) (K.faults out.new) in
             let traffic = traffic_of (D.log driver.old) (D.log driver.new) sink in
-            let old = option_map (λ x. x.kept) self.old.session.started in
-            let new = option_map (λ x. x.kept) self.new.session.started in
+            let old = option_map (λ x. x.value.kept) self.old.session.started in
+            let new = option_map (λ x. x.value.kept) self.new.session.started in
             Steps (record { setup = trace_setup (setup_content setup.now); old = old; new = new; event = content event.now; traffic = traffic }) result }
         ensures policy { D.answers_by driver.new ≡ D.answers_by driver.old }
         ensures state { self.new.state ≡ self.old.state }
@@ -117,12 +117,12 @@ impl Player {
         driver: &mut D,
         out: &mut K,
     ) -> Result<(), ReplayError>
-        requires together { InStep (trace_setup (setup_content setup.now)) self.old.state (option_map (λ x. x.kept) self.old.session.started) number }
+        requires together { InStep (trace_setup (setup_content setup.now)) self.old.state (option_map (λ x. x.value.kept) self.old.session.started) number }
         requires few { length (setup_content setup.now).drivers.list < 2 ^ 32 }
         ensures plays { let sink = changed (K.held out.old) (K.held out.new) (K.faults out.old) (K.faults out.new) in
             let traffic = traffic_of (D.log driver.old) (D.log driver.new) sink in
-            let old = option_map (λ x. x.kept) self.old.session.started in
-            let new = option_map (λ x. x.kept) self.new.session.started in
+            let old = option_map (λ x. x.value.kept) self.old.session.started in
+            let new = option_map (λ x. x.value.kept) self.new.session.started in
             PlaysLine (record { setup = trace_setup (setup_content setup.now); text = text.now; number = number; old_state = self.old.state; state = self.new.state; old = old; new = new; traffic = traffic }) result }
         ensures policy { D.answers_by driver.new ≡ D.answers_by driver.old }
     {
@@ -154,7 +154,7 @@ impl Player {
     }
 
     pub fn into_session(self) -> Session
-        ensures { option_map (λ x. x.kept) result.started ≡ option_map (λ x. x.kept) self.session.started }
+        ensures { option_map (λ x. x.value.kept) result.started ≡ option_map (λ x. x.value.kept) self.session.started }
     {
         self.session
     }

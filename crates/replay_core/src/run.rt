@@ -34,7 +34,7 @@ fn play_whole<S: Source + Drop, K: Sink, D: Driver>(
     driver: &mut D,
     out: &mut K,
 ) -> Result<(), ReplayError>
-    requires session { option_map (λ x. x.kept) player.old.session.started ≡ None }
+    requires session { option_map (λ x. x.value.kept) player.old.session.started ≡ None }
     requires state { SumsUp player.old.state [] }
     requires fine { reader.old.error ≡ None }
     requires unread { reader.old.finished ≡ false }
@@ -43,7 +43,7 @@ fn play_whole<S: Source + Drop, K: Sink, D: Driver>(
     ensures plays { let s = trace_setup (setup_content setup.now) in
         let sink = changed (K.held out.old) (K.held out.new) (K.faults out.old) (K.faults out.new) in
         let source = source_of (state_of S.left S.faults reader.old) (state_of S.left S.faults reader.new) in
-        PlaysWhole s (option_map (λ x. x.kept) player.new.session.started) source (traffic_of (D.log driver.old) (D.log driver.new) sink) result }
+        PlaysWhole s (option_map (λ x. x.value.kept) player.new.session.started) source (traffic_of (D.log driver.old) (D.log driver.new) sink) result }
     ensures same { S.loan reader.new.source ≡ S.loan reader.old.source }
     ensures policy { D.answers_by driver.new ≡ D.answers_by driver.old }
 {
@@ -63,7 +63,7 @@ fn play_noted<S: Source + Drop, K: Sink, D: Driver>(
     driver: &mut D,
     out: &mut K,
 ) -> Result<(), ReplayError>
-    requires session { option_map (λ x. x.kept) player.old.session.started ≡ None }
+    requires session { option_map (λ x. x.value.kept) player.old.session.started ≡ None }
     requires state { SumsUp player.old.state [] }
     requires fine { reader.old.error ≡ None }
     requires unread { reader.old.finished ≡ false }
@@ -71,7 +71,7 @@ fn play_noted<S: Source + Drop, K: Sink, D: Driver>(
     requires few { length (setup_content setup.now).drivers.list < 2 ^ 32 }
     ensures ended { let sink = changed (K.held out.old) (K.held out.new) (K.faults out.old) (K.faults out.new) in
         let source = source_of (state_of S.left S.faults reader.old) (state_of S.left S.faults reader.new) in
-        OnOk result (Ended (trace_setup (setup_content setup.now)) (option_map (λ x. x.kept) player.new.session.started) (run_of source (D.log driver.old) (D.log driver.new) sink)) }
+        OnOk result (Ended (trace_setup (setup_content setup.now)) (option_map (λ x. x.value.kept) player.new.session.started) (run_of source (D.log driver.old) (D.log driver.new) sink)) }
     ensures cut { let sink = changed (K.held out.old) (K.held out.new) (K.faults out.old) (K.faults out.new) in
         let source = source_of (state_of S.left S.faults reader.old) (state_of S.left S.faults reader.new) in
         IfErr result (IsCutShort (trace_setup (setup_content setup.now)) (run_of source (D.log driver.old) (D.log driver.new) sink)) }
@@ -98,13 +98,13 @@ fn play_source<S: Source, K: Sink, D: Driver>(
     driver: &mut D,
     out: &mut K,
 ) -> Result<(), ReplayError>
-    requires session { option_map (λ x. x.kept) player.old.session.started ≡ None }
+    requires session { option_map (λ x. x.value.kept) player.old.session.started ≡ None }
     requires state { SumsUp player.old.state [] }
     requires room { length buffer.items ≡ MOST + 1 }
     requires few { length (setup_content setup.now).drivers.list < 2 ^ 32 }
     ensures ended { let sink = changed (K.held out.old) (K.held out.new) (K.faults out.old) (K.faults out.new) in
         let source = changed (S.left trace.old) (S.left trace.new) (S.faults trace.old) (S.faults trace.new) in
-        OnOk result (Ended (trace_setup (setup_content setup.now)) (option_map (λ x. x.kept) player.new.session.started) (run_of source (D.log driver.old) (D.log driver.new) sink)) }
+        OnOk result (Ended (trace_setup (setup_content setup.now)) (option_map (λ x. x.value.kept) player.new.session.started) (run_of source (D.log driver.old) (D.log driver.new) sink)) }
     ensures cut { let sink = changed (K.held out.old) (K.held out.new) (K.faults out.old) (K.faults out.new) in
         let source = changed (S.left trace.old) (S.left trace.new) (S.faults trace.old) (S.faults trace.new) in
         IfErr result (IsCutShort (trace_setup (setup_content setup.now)) (run_of source (D.log driver.old) (D.log driver.new) sink)) }
@@ -144,10 +144,10 @@ pub fn replay<S: Source, K: Sink, D: Driver>(
     out: &mut K,
     driver: &mut D,
 ) -> Result<Session, ReplayError>
-    requires fresh { option_map (λ x. x.kept) session.started ≡ None }
+    requires fresh { option_map (λ x. x.value.kept) session.started ≡ None }
     ensures ended { let source = changed (S.left trace.old) (S.left trace.new) (S.faults trace.old) (S.faults trace.new) in
         let sink = changed (K.held out.old) (K.held out.new) (K.faults out.old) (K.faults out.new) in
-        IfOk result (λ session. Ended (trace_setup (setup_content setup.now)) (option_map (λ x. x.kept) session.started) (run_of source (D.log driver.old) (D.log driver.new) sink)) }
+        IfOk result (λ session. Ended (trace_setup (setup_content setup.now)) (option_map (λ x. x.value.kept) session.started) (run_of source (D.log driver.old) (D.log driver.new) sink)) }
     ensures cut { let source = changed (S.left trace.old) (S.left trace.new) (S.faults trace.old) (S.faults trace.new) in
         let sink = changed (K.held out.old) (K.held out.new) (K.faults out.old) (K.faults out.new) in
         IfErr result (IsCutShort (trace_setup (setup_content setup.now)) (run_of source (D.log driver.old) (D.log driver.new) sink)) }

@@ -71,7 +71,7 @@ pub(crate) fn flushed<K: Sink>(
     ended: Result<Option<Session>, ReplayError>,
     out: &mut K,
 ) -> Result<Option<Session>, ReplayError>
-    ensures flushes { Flushes (end_kept (λ session. option_map (λ x. x.kept) session.started) ended) (end_kept (λ session. option_map (λ x. x.kept) session.started) result) (changed (K.held out.old) (K.held out.new) (K.faults out.old) (K.faults out.new)) }
+    ensures flushes { Flushes (end_kept (λ session. option_map (λ x. x.value.kept) session.started) ended) (end_kept (λ session. option_map (λ x. x.value.kept) session.started) result) (changed (K.held out.old) (K.held out.new) (K.faults out.old) (K.faults out.new)) }
     ensures none { result ≢ Err error.Write → K.held_back out.new ≡ 0 }
 {
     if let Err(ReplayError::Write) = ended {
@@ -96,7 +96,7 @@ fn status_at_end(tally: Tally) -> Status
 
 // The status of an end without an error.
 fn status_with(session: &Option<Session>) -> Status
-    ensures { HasStatus (end_kept (λ session. option_map (λ x. x.kept) session.started) (Ok session.now)) result }
+    ensures { HasStatus (end_kept (λ session. option_map (λ x. x.value.kept) session.started) (Ok session.now)) result }
 {
     match session {
         Some(session) => status_at_end(session.tally()),
@@ -106,9 +106,9 @@ fn status_with(session: &Option<Session>) -> Status
 
 /// Says of an end what there is to say. A failure of the error sink changes nothing.
 pub(crate) fn finish<L: Sink>(ended: Result<Option<Session>, ReplayError>, errs: &mut L) -> Finished
-    ensures status { HasStatus (end_kept (λ session. option_map (λ x. x.kept) session.started) ended) result.status }
-    ensures session { option_map (λ session. option_map (λ x. x.kept) session.started) result.session ≡ session_at (end_kept (λ session. option_map (λ x. x.kept) session.started) ended) }
-    ensures says { SaysOf (end_kept (λ session. option_map (λ x. x.kept) session.started) ended) (changed (L.held errs.old) (L.held errs.new) (L.faults errs.old) (L.faults errs.new)) }
+    ensures status { HasStatus (end_kept (λ session. option_map (λ x. x.value.kept) session.started) ended) result.status }
+    ensures session { option_map (λ session. option_map (λ x. x.value.kept) session.started) result.session ≡ session_at (end_kept (λ session. option_map (λ x. x.value.kept) session.started) ended) }
+    ensures says { SaysOf (end_kept (λ session. option_map (λ x. x.value.kept) session.started) ended) (changed (L.held errs.old) (L.held errs.new) (L.faults errs.old) (L.faults errs.new)) }
 {
     match ended {
         Ok(session) => Finished {

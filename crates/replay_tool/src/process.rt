@@ -38,7 +38,7 @@ pub fn exit_status<T: Tree, S: Source, K: Sink, L: Sink, D: Driver>(
     errs: &mut L,
     driver: &mut D,
 ) -> u8
-    requires fresh { option_map (λ x. x.kept) session.started ≡ None }
+    requires fresh { option_map (λ x. x.value.kept) session.started ≡ None }
     ensures exits { let seen = tree_seen (T.files tree.old) (T.faults tree.old) (T.faults tree.new) in
         let source = changed (S.left trace.old) (S.left trace.new) (S.faults trace.old) (S.faults trace.new) in
         let sink = changed (K.held out.old) (K.held out.new) (K.faults out.old) (K.faults out.new) in

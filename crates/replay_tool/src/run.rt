@@ -54,11 +54,11 @@ fn replay_over<S: Source, K: Sink, D: Driver>(
     out: &mut K,
     driver: &mut D,
 ) -> Result<Option<Session>, ReplayError>
-    requires fresh { option_map (λ x. x.kept) session.started ≡ None }
+    requires fresh { option_map (λ x. x.value.kept) session.started ≡ None }
     ensures ends { let source = changed (S.left trace.old) (S.left trace.new) (S.faults trace.old) (S.faults trace.new) in
         let sink = changed (K.held out.old) (K.held out.new) (K.faults out.old) (K.faults out.new) in
-        (st : Status) (errs : Change) → HasStatus (end_kept (λ session. option_map (λ x. x.kept) session.started) result) st → SaysOf (end_kept (λ session. option_map (λ x. x.kept) session.started) result) errs
-        → EndsUnder (trace_setup (setup_content setup.now)) (run_of source (D.log driver.old) (D.log driver.new) sink) errs st (session_at (end_kept (λ session. option_map (λ x. x.kept) session.started) result)) }
+        (st : Status) (errs : Change) → HasStatus (end_kept (λ session. option_map (λ x. x.value.kept) session.started) result) st → SaysOf (end_kept (λ session. option_map (λ x. x.value.kept) session.started) result) errs
+        → EndsUnder (trace_setup (setup_content setup.now)) (run_of source (D.log driver.old) (D.log driver.new) sink) errs st (session_at (end_kept (λ session. option_map (λ x. x.value.kept) session.started) result)) }
     ensures policy { D.answers_by driver.new ≡ D.answers_by driver.old }
 {
     match replay(alloc, session, setup, kit, trace, out, driver) {
@@ -79,12 +79,12 @@ pub(crate) fn run<T: Tree, S: Source, K: Sink, D: Driver>(
     out: &mut K,
     driver: &mut D,
 ) -> Result<Option<Session>, ReplayError>
-    requires fresh { option_map (λ x. x.kept) session.started ≡ None }
+    requires fresh { option_map (λ x. x.value.kept) session.started ≡ None }
     ensures ends { let seen = tree_seen (T.files tree.old) (T.faults tree.old) (T.faults tree.new) in
         let source = changed (S.left trace.old) (S.left trace.new) (S.faults trace.old) (S.faults trace.new) in
         let sink = changed (K.held out.old) (K.held out.new) (K.faults out.old) (K.faults out.new) in
-        (st : Status) (errs : Change) → HasStatus (end_kept (λ session. option_map (λ x. x.kept) session.started) result) st → SaysOf (end_kept (λ session. option_map (λ x. x.kept) session.started) result) errs
-        → EndsRun (search_of words.entry.root.now words.entry.exe.now env.now seen) (run_of source (D.log driver.old) (D.log driver.new) sink) errs st (session_at (end_kept (λ session. option_map (λ x. x.kept) session.started) result)) }
+        (st : Status) (errs : Change) → HasStatus (end_kept (λ session. option_map (λ x. x.value.kept) session.started) result) st → SaysOf (end_kept (λ session. option_map (λ x. x.value.kept) session.started) result) errs
+        → EndsRun (search_of words.entry.root.now words.entry.exe.now env.now seen) (run_of source (D.log driver.old) (D.log driver.new) sink) errs st (session_at (end_kept (λ session. option_map (λ x. x.value.kept) session.started) result)) }
     ensures prepared { D.answers_by driver.new ≡ prepared (D.answers_by driver.old) words.entry.policy }
 {
     match prepare(alloc, words, env, tree, driver) {

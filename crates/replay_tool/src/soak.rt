@@ -52,9 +52,9 @@ fn replay_made<D: Driver>(
     kit: &Kit,
     driver: &mut D,
 ) -> Result<Session, ReplayError>
-    requires fresh { option_map (λ x. x.kept) session.started ≡ None }
+    requires fresh { option_map (λ x. x.value.kept) session.started ≡ None }
     requires few { made.calls ≤ MOST }
-    ensures whole { IfOk result (λ session. SoakedWhole (trace_setup (setup_content setup.now)) (gen_meant made) (option_map (λ x. x.kept) session.started) (D.log driver.old) (D.log driver.new)) }
+    ensures whole { IfOk result (λ session. SoakedWhole (trace_setup (setup_content setup.now)) (gen_meant made) (option_map (λ x. x.value.kept) session.started) (D.log driver.old) (D.log driver.new)) }
     ensures cut { IfErr result (SoakCut (trace_setup (setup_content setup.now)) (gen_meant made) (D.log driver.old) (D.log driver.new)) }
     ensures policy { D.answers_by driver.new ≡ D.answers_by driver.old }
 {
@@ -75,11 +75,11 @@ fn soak_over<K: Sink, D: Driver>(
     out: &mut K,
     driver: &mut D,
 ) -> Result<Option<Session>, ReplayError>
-    requires fresh { option_map (λ x. x.kept) session.started ≡ None }
+    requires fresh { option_map (λ x. x.value.kept) session.started ≡ None }
     requires few { made.calls ≤ MOST }
     ensures ends { let sink = changed (K.held out.old) (K.held out.new) (K.faults out.old) (K.faults out.new) in
-        (st : Status) (errs : Change) → HasStatus (end_kept (λ session. option_map (λ x. x.kept) session.started) result) st → SaysOf (end_kept (λ session. option_map (λ x. x.kept) session.started) result) errs
-        → SoaksUnder (trace_setup (setup_content setup.now)) (gen_meant made) (traffic_of (D.log driver.old) (D.log driver.new) sink) errs st (session_at (end_kept (λ session. option_map (λ x. x.kept) session.started) result)) }
+        (st : Status) (errs : Change) → HasStatus (end_kept (λ session. option_map (λ x. x.value.kept) session.started) result) st → SaysOf (end_kept (λ session. option_map (λ x. x.value.kept) session.started) result) errs
+        → SoaksUnder (trace_setup (setup_content setup.now)) (gen_meant made) (traffic_of (D.log driver.old) (D.log driver.new) sink) errs st (session_at (end_kept (λ session. option_map (λ x. x.value.kept) session.started) result)) }
     ensures policy { D.answers_by driver.new ≡ D.answers_by driver.old }
 {
     let session = match replay_made(alloc, session, made, setup, kit, driver) {
@@ -103,12 +103,12 @@ pub(crate) fn soak<T: Tree, K: Sink, D: Driver>(
     out: &mut K,
     driver: &mut D,
 ) -> Result<Option<Session>, ReplayError>
-    requires fresh { option_map (λ x. x.kept) session.started ≡ None }
+    requires fresh { option_map (λ x. x.value.kept) session.started ≡ None }
     requires few { words.made.calls ≤ MOST }
     ensures ends { let seen = tree_seen (T.files tree.old) (T.faults tree.old) (T.faults tree.new) in
         let sink = changed (K.held out.old) (K.held out.new) (K.faults out.old) (K.faults out.new) in
-        (st : Status) (source errs : Change) → IsUnread source → HasStatus (end_kept (λ session. option_map (λ x. x.kept) session.started) result) st → SaysOf (end_kept (λ session. option_map (λ x. x.kept) session.started) result) errs
-        → EndsSoak (search_of words.entry.run.root.now words.entry.run.exe.now env.now seen) (gen_meant words.entry.made) (run_of source (D.log driver.old) (D.log driver.new) sink) errs st (session_at (end_kept (λ session. option_map (λ x. x.kept) session.started) result)) }
+        (st : Status) (source errs : Change) → IsUnread source → HasStatus (end_kept (λ session. option_map (λ x. x.value.kept) session.started) result) st → SaysOf (end_kept (λ session. option_map (λ x. x.value.kept) session.started) result) errs
+        → EndsSoak (search_of words.entry.run.root.now words.entry.run.exe.now env.now seen) (gen_meant words.entry.made) (run_of source (D.log driver.old) (D.log driver.new) sink) errs st (session_at (end_kept (λ session. option_map (λ x. x.value.kept) session.started) result)) }
     ensures prepared { D.answers_by driver.new ≡ prepared (D.answers_by driver.old) words.entry.run.policy }
 {
     match prepare(alloc, words.run, env, tree, driver) {

@@ -39,8 +39,8 @@ fn show<T: Tree, K: Sink>(
 ) -> Result<Option<Session>, ReplayError>
     ensures ends { let seen = tree_seen (T.files tree.old) (T.faults tree.old) (T.faults tree.new) in
         let sink = changed (K.held out.old) (K.held out.new) (K.faults out.old) (K.faults out.new) in
-        (st : Status) (errs : Change) → HasStatus (end_kept (λ session. option_map (λ x. x.kept) session.started) result) st → SaysOf (end_kept (λ session. option_map (λ x. x.kept) session.started) result) errs → ShowEnds (chain_run (chain_meant words.entry) env.now seen) sink errs st }
-    ensures none { session_at (end_kept (λ session. option_map (λ x. x.kept) session.started) result) ≡ None }
+        (st : Status) (errs : Change) → HasStatus (end_kept (λ session. option_map (λ x. x.value.kept) session.started) result) st → SaysOf (end_kept (λ session. option_map (λ x. x.value.kept) session.started) result) errs → ShowEnds (chain_run (chain_meant words.entry) env.now seen) sink errs st }
+    ensures none { session_at (end_kept (λ session. option_map (λ x. x.value.kept) session.started) result) ≡ None }
 {
     match show_chain(alloc, words, env, tree, out) {
         Ok(()) => Ok(None),
@@ -56,8 +56,8 @@ fn make<K: Sink>(
 ) -> Result<Option<Session>, ReplayError>
     requires few { words.calls ≤ MOST }
     ensures ends { let sink = changed (K.held out.old) (K.held out.new) (K.faults out.old) (K.faults out.new) in
-        (st : Status) (errs : Change) → HasStatus (end_kept (λ session. option_map (λ x. x.kept) session.started) result) st → SaysOf (end_kept (λ session. option_map (λ x. x.kept) session.started) result) errs → MakeEnds (made_text (gen_meant words)) sink errs st }
-    ensures none { session_at (end_kept (λ session. option_map (λ x. x.kept) session.started) result) ≡ None }
+        (st : Status) (errs : Change) → HasStatus (end_kept (λ session. option_map (λ x. x.value.kept) session.started) result) st → SaysOf (end_kept (λ session. option_map (λ x. x.value.kept) session.started) result) errs → MakeEnds (made_text (gen_meant words)) sink errs st }
+    ensures none { session_at (end_kept (λ session. option_map (λ x. x.value.kept) session.started) result) ≡ None }
 {
     match generate(alloc, words.number, words.calls, out) {
         Ok(()) => Ok(None),
@@ -78,14 +78,14 @@ fn perform<T: Tree, S: Source, K: Sink, D: Driver>(
     out: &mut K,
     driver: &mut D,
 ) -> Result<Option<Session>, ReplayError>
-    requires fresh { option_map (λ x. x.kept) session.started ≡ None }
+    requires fresh { option_map (λ x. x.value.kept) session.started ≡ None }
     requires few { HasFewTurns (meant asked) }
     ensures ends { let seen = tree_seen (T.files tree.old) (T.faults tree.old) (T.faults tree.new) in
         let source = changed (S.left trace.old) (S.left trace.new) (S.faults trace.old) (S.faults trace.new) in
         let sink = changed (K.held out.old) (K.held out.new) (K.faults out.old) (K.faults out.new) in
         let run = run_of source (D.log driver.old) (D.log driver.new) sink in
-        (given : List Word) (st : Status) (errs : Change) → HasStatus (end_kept (λ session. option_map (λ x. x.kept) session.started) result) st → SaysOf (end_kept (λ session. option_map (λ x. x.kept) session.started) result) errs
-        → EndsAs (Some (meant asked.entry)) (record { words = given; env = env.now; tree = seen; run = run; errs = errs }) st (session_at (end_kept (λ session. option_map (λ x. x.kept) session.started) result)) }
+        (given : List Word) (st : Status) (errs : Change) → HasStatus (end_kept (λ session. option_map (λ x. x.value.kept) session.started) result) st → SaysOf (end_kept (λ session. option_map (λ x. x.value.kept) session.started) result) errs
+        → EndsAs (Some (meant asked.entry)) (record { words = given; env = env.now; tree = seen; run = run; errs = errs }) st (session_at (end_kept (λ session. option_map (λ x. x.value.kept) session.started) result)) }
     ensures prepared { (st : Status) → IsPrepared (Some (meant asked.entry)) st (D.answers_by driver.old) (D.answers_by driver.new) }
     ensures tree { IsLeftBy (Some (meant asked.entry)) tree.old tree.new }
 {
@@ -118,7 +118,7 @@ pub fn replay_main<T: Tree, S: Source, K: Sink, L: Sink, D: Driver>(
     errs: &mut L,
     driver: &mut D,
 ) -> Finished
-    requires fresh { option_map (λ x. x.kept) session.started ≡ None }
+    requires fresh { option_map (λ x. x.value.kept) session.started ≡ None }
     // The promises of the program, each said where `Keeps` is defined: where nothing failed, the status, what is written and
     // what is said are a function of the words, the variables, the files and the trace's bytes; and each status has its cause.
     ensures promises { let seen = tree_seen (T.files tree.old) (T.faults tree.old) (T.faults tree.new) in
@@ -127,7 +127,7 @@ pub fn replay_main<T: Tree, S: Source, K: Sink, L: Sink, D: Driver>(
         let run = run_of source (D.log driver.old) (D.log driver.new) sink in
         let said = changed (L.held errs.old) (L.held errs.new) (L.faults errs.old) (L.faults errs.new) in
         Keeps (record { words = words_of words.now; env = env.now; tree = seen; run = run; errs = said }) result.status
-        (option_map (λ session. option_map (λ x. x.kept) session.started) result.session) }
+        (option_map (λ session. option_map (λ x. x.value.kept) session.started) result.session) }
     // The driver is prepared by these words alone.
     ensures prepared { IsPrepared (words_ask (words_of words.now)) result.status (D.answers_by driver.old) (D.answers_by driver.new) }
     // Unless it failed, the sink holds nothing back at the end, or no method of it was called.

@@ -5,7 +5,7 @@ use crate::row_tests::{lines_of, trace_of};
 use model_driver::ModelDriver;
 use replay_base::{MemSink, MemSource, Source};
 use replay_core::Status;
-use run_fixtures::{ByteSource, outcome_of, lines_in, sink, tree_of, variables, words_of};
+use run_fixtures::{ByteSource, lines_in, outcome_of, sink, tree_of, variables, words_of};
 use std::alloc::{AllocError, Global};
 use std::process::Abort;
 use std::test::Fail;

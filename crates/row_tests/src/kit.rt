@@ -22,7 +22,7 @@ pub(crate) fn kit() -> Kit {
 
 // A session over that kit.
 pub(crate) fn fresh(alloc: Global) -> Session
-    ensures { option_map (λ x. x.kept) result.started ≡ None }
+    ensures { option_map (λ x. x.value.kept) result.started ≡ None }
 {
     Session::new(alloc, &kit())
 }

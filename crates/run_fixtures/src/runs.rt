@@ -97,7 +97,7 @@ pub fn outcome_of<T: Tree, S: Source, K: Sink, L: Sink, D: Driver>(
     errs: &mut L,
     driver: &mut D,
 ) -> Outcome
-    requires fresh { option_map (λ x. x.kept) session.started ≡ None }
+    requires fresh { option_map (λ x. x.value.kept) session.started ≡ None }
 {
     let finished = replay_main(
         alloc, words, env, session, kit, tree, trace, out, errs, driver,
@@ -118,7 +118,7 @@ fn run_of<D: Driver>(
     streams: &mut Streams,
     driver: &mut D,
 ) -> Outcome
-    requires fresh { option_map (λ x. x.kept) session.started ≡ None }
+    requires fresh { option_map (λ x. x.value.kept) session.started ≡ None }
 {
     outcome_of(
         kit,
@@ -151,7 +151,7 @@ pub fn run_set<D: Driver>(
     streams: &mut Streams,
     driver: &mut D,
 ) -> Result<Outcome, Fail>
-    requires fresh { option_map (λ x. x.kept) session.started ≡ None }
+    requires fresh { option_map (λ x. x.value.kept) session.started ≡ None }
 {
     let (words, env) = asked(alloc, words, env)?;
     Ok(run_of(kit, session, alloc, &words, &env, streams, driver))
@@ -166,7 +166,7 @@ pub fn run_with<D: Driver>(
     streams: &mut Streams,
     driver: &mut D,
 ) -> Result<Outcome, Fail>
-    requires fresh { option_map (λ x. x.kept) session.started ≡ None }
+    requires fresh { option_map (λ x. x.value.kept) session.started ≡ None }
 {
     run_set(kit, session, alloc, words, &[], streams, driver)
 }

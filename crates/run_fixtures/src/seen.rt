@@ -34,7 +34,7 @@ fn run_over(
     out: &mut MemSink,
     errs: &mut MemSink,
 ) -> Status
-    requires fresh { option_map (λ x. x.kept) session.started ≡ None }
+    requires fresh { option_map (λ x. x.value.kept) session.started ≡ None }
 {
     let mut driver = ModelDriver::new(alloc);
     outcome_of(
@@ -69,7 +69,7 @@ fn seen_with(
     tree: &mut MemTree,
     trace: &mut MemSource,
 ) -> Result<Seen, Fail>
-    requires fresh { option_map (λ x. x.kept) session.started ≡ None }
+    requires fresh { option_map (λ x. x.value.kept) session.started ≡ None }
 {
     let mut out = sink_of(alloc, 1_048_576)?;
     let mut errs = sink(alloc, 0)?;
@@ -97,7 +97,7 @@ pub fn seen_at(
     env: &EnvList,
     tree: &mut MemTree,
 ) -> Result<Seen, Fail>
-    requires fresh { option_map (λ x. x.kept) session.started ≡ None }
+    requires fresh { option_map (λ x. x.value.kept) session.started ≡ None }
 {
     seen_over(kit, session, alloc, words, env, tree, "")
 }
@@ -112,7 +112,7 @@ pub fn seen_over(
     tree: &mut MemTree,
     trace: &str,
 ) -> Result<Seen, Fail>
-    requires fresh { option_map (λ x. x.kept) session.started ≡ None }
+    requires fresh { option_map (λ x. x.value.kept) session.started ≡ None }
 {
     let bytes = Vec::from_slice(alloc, trace.as_bytes())?;
     let mut trace = MemSource::new(bytes, Vec::new(alloc));

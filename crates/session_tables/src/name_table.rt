@@ -82,12 +82,7 @@ impl NameTable {
     pub fn object_named(&self, name: Name) -> Option<Object>
         ensures { result ≡ object_in self.now name }
     {
-        let link = value_at(
-            &self.places,
-            name.thread as usize,
-            name.number as usize,
-            0,
-        );
+        let link = value_at(&self.places, name.thread as usize, name.number as usize, 0);
         if link == 0 {
             return None;
         }

@@ -148,7 +148,14 @@ impl RetrievedMap {
                     owner: key.owner,
                     object,
                 };
-                put_value(self.alloc, &mut self.rows, row, key.place, Some(place), None)?;
+                put_value(
+                    self.alloc,
+                    &mut self.rows,
+                    row,
+                    key.place,
+                    Some(place),
+                    None,
+                )?;
                 Ok(())
             }
             None => {

@@ -8,7 +8,7 @@ use replay_base::{Failed, MemSink, MemSource, MemTree, Sink, Source};
 use replay_core::Status;
 use replay_tool::BlockSink;
 use run_fixtures::{
-    ByteSource, DRIVER, TWICE, TWICE_TEXT, outcome_of, lines_in, sink, tree_of, words_of,
+    ByteSource, DRIVER, TWICE, TWICE_TEXT, lines_in, outcome_of, sink, tree_of, words_of,
 };
 use std::alloc::{AllocError, Global};
 use std::process::Abort;

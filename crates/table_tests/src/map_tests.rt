@@ -263,7 +263,10 @@ fn fill(map: &mut HandleMap<64>, count: u64) -> Result<(), Fail> {
 fn is_filled(rt: &impl Abort, map: &HandleMap<64>, count: u64) {
     assert_eq!(rt; map.len() as u64, count);
     for k in 0..count {
-        assert_eq!(rt; first_of(map, ObjectType::Image, k + 1), Some((k + 1) % 1000 * 3));
+        assert_eq!(rt;
+            first_of(map, ObjectType::Image, k + 1),
+            Some((k + 1) % 1000 * 3)
+        );
     }
 }
 

@@ -84,7 +84,10 @@ fn places_of_objects(rt: HostRuntime) -> Result<(), Fail> {
         places.get(object(ObjectType::Queue, one)),
         places.get(object(ObjectType::Fence, name(LAST_THREAD, 1))),
     ];
-    assert_eq!(rt; found, [Some(0), Some(10), Some(9), Some(u32::MAX), None, None]);
+    assert_eq!(rt;
+        found,
+        [Some(0), Some(10), Some(9), Some(u32::MAX), None, None]
+    );
     Ok(())
 }
 

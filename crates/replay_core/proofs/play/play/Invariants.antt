@@ -17,7 +17,7 @@ invariant-loop-error g l = record {
   stood : g.K.Sink.faults l.out ≡ g.K.Sink.faults l.fn.out;
   policy : g.D.Driver.answers_by l.driver ≡ g.D.Driver.answers_by l.fn.driver;
   far : SoFar (trace_setup (setup_content l.setup)) (g.S.Source.left l.fn.reader.source) (g.S.Source.faults l.fn.reader.source) (state_of g.S.Source.left g.S.Source.faults l.reader)
-      l.player.state (option_map (λ x. x.kept) l.player.session.started) l.number
+      l.player.state (option_map (λ x. x.value.kept) l.player.session.started) l.number
       (traffic_of (g.D.Driver.log l.fn.driver) (g.D.Driver.log l.driver) (changed (g.K.Sink.held l.fn.out) (g.K.Sink.held l.out) (g.K.Sink.faults l.fn.out) (g.K.Sink.faults l.out)));
 }
 

@@ -19,12 +19,12 @@ pub returns-in-Err-play_whole-clause-cut : goal.returns-in-Err-play_whole-clause
 returns-in-Err-play_whole-clause-cut g c =
     fails (trace_setup (setup_content c.args.setup.now)) (record { log = g.D.Driver.log c.args.driver.now; held = g.K.Sink.held c.args.out.now; faults = g.K.Sink.faults c.args.out.now })
     (traffic_of (g.D.Driver.log c.args.driver.now) (g.D.Driver.log c.play_whole.new.driver) (changed (g.K.Sink.held c.put_notes.new.out) (g.K.Sink.held c.play_whole.new.out) (g.K.Sink.faults c.put_notes.new.out) (g.K.Sink.faults c.play_whole.new.out)))
-    (option_map (λ x. x.kept) c.play_whole.new.player.session.started) (source_of (state_of g.S.Source.left g.S.Source.faults c.args.reader.now) (state_of g.S.Source.left g.S.Source.faults c.play_whole.new.reader)) c.in-Err-play_whole.error
+    (option_map (λ x. x.value.kept) c.play_whole.new.player.session.started) (source_of (state_of g.S.Source.left g.S.Source.faults c.args.reader.now) (state_of g.S.Source.left g.S.Source.faults c.play_whole.new.reader)) c.in-Err-play_whole.error
     (record { log = refl; held = c.in-Ok.ensures.0; faults = c.in-Ok.ensures.1 }) c.in-Err-play_whole.ensures.plays
 
 pub returns-in-Ok-play_whole-clause-ended : goal.returns-in-Ok-play_whole-clause-ended
 returns-in-Ok-play_whole-clause-ended g c =
     ended (trace_setup (setup_content c.args.setup.now)) (record { log = g.D.Driver.log c.args.driver.now; held = g.K.Sink.held c.args.out.now; faults = g.K.Sink.faults c.args.out.now })
     (traffic_of (g.D.Driver.log c.args.driver.now) (g.D.Driver.log c.play_whole.new.driver) (changed (g.K.Sink.held c.put_notes.new.out) (g.K.Sink.held c.play_whole.new.out) (g.K.Sink.faults c.put_notes.new.out) (g.K.Sink.faults c.play_whole.new.out)))
-    (option_map (λ x. x.kept) c.play_whole.new.player.session.started) (source_of (state_of g.S.Source.left g.S.Source.faults c.args.reader.now) (state_of g.S.Source.left g.S.Source.faults c.play_whole.new.reader))
+    (option_map (λ x. x.value.kept) c.play_whole.new.player.session.started) (source_of (state_of g.S.Source.left g.S.Source.faults c.args.reader.now) (state_of g.S.Source.left g.S.Source.faults c.play_whole.new.reader))
     (record { log = refl; held = c.in-Ok.ensures.0; faults = c.in-Ok.ensures.1 }) c.in-Ok-play_whole.ensures.plays

@@ -11,7 +11,7 @@ use Rattle.replay_core.proofs.run.play_whole.Goals as goal
 
 pub returns-in-Ok-clause-plays : goal.returns-in-Ok-clause-plays
 returns-in-Ok-clause-plays g c =
-    whole_played (trace_setup (setup_content c.args.setup.now)) (option_map (λ x. x.kept) c.play.new.player.session.started) (source_of (state_of g.S.Source.left g.S.Source.faults c.args.reader.now) (state_of g.S.Source.left g.S.Source.faults c.play.new.reader))
+    whole_played (trace_setup (setup_content c.args.setup.now)) (option_map (λ x. x.value.kept) c.play.new.player.session.started) (source_of (state_of g.S.Source.left g.S.Source.faults c.args.reader.now) (state_of g.S.Source.left g.S.Source.faults c.play.new.reader))
     c.tally.result.calls c.tally.result.skipped c.tally.result.reports
     (traffic_of (g.D.Driver.log c.args.driver.now) (g.D.Driver.log c.play.new.driver) (changed (g.K.Sink.held c.args.out.now) (g.K.Sink.held c.play.new.out) (g.K.Sink.faults c.args.out.now) (g.K.Sink.faults c.play.new.out)))
     (changed (g.K.Sink.held c.play.new.out) (g.K.Sink.held c.put_end.new.out) (g.K.Sink.faults c.play.new.out) (g.K.Sink.faults c.put_end.new.out))
@@ -19,6 +19,6 @@ returns-in-Ok-clause-plays g c =
 
 pub returns-in-Err-clause-plays : goal.returns-in-Err-clause-plays
 returns-in-Err-clause-plays g c =
-    whole_fails (trace_setup (setup_content c.args.setup.now)) (option_map (λ x. x.kept) c.play.new.player.session.started) (source_of (state_of g.S.Source.left g.S.Source.faults c.args.reader.now) (state_of g.S.Source.left g.S.Source.faults c.play.new.reader))
+    whole_fails (trace_setup (setup_content c.args.setup.now)) (option_map (λ x. x.value.kept) c.play.new.player.session.started) (source_of (state_of g.S.Source.left g.S.Source.faults c.args.reader.now) (state_of g.S.Source.left g.S.Source.faults c.play.new.reader))
     (traffic_of (g.D.Driver.log c.args.driver.now) (g.D.Driver.log c.play.new.driver) (changed (g.K.Sink.held c.args.out.now) (g.K.Sink.held c.play.new.out) (g.K.Sink.faults c.args.out.now) (g.K.Sink.faults c.play.new.out)))
     c.in-Err.error c.in-Err.ensures.plays

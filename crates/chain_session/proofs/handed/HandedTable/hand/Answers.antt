@@ -26,14 +26,13 @@ invariant_of-self-in-None c =
     let none : place_in os o ≡ None = sym (c.self.invariant.1 o) ∙ (sym c.get.ensures ∙ c.in-None.is) in
     let handles_are : c.push.new.self.items ≡ hs ++ c.args.handle ∷ [] = c.in_ok-push-in-None.ensures.items ∙ ap (λ (xs : List ℕ). xs ++ c.args.handle ∷ []) c.in_ok-reserve-in-None.ensures.items in
     let objects_are : c.push-in-None.new.self.objects ≡ os ++ o ∷ [] = c.in_ok-push-in-None-2.ensures.ok ∙ ap (λ (xs : List Object). xs ++ o ∷ []) c.in_ok-reserve-in-None-2.ensures.objects in
-    let long : c.in_ok-place-in-None.place ≡ length os = omega (arith, c.in_ok-place-in-None.ensures, c.len.ensures, ap (λ (xs : List ℕ). length xs) c.in_ok-reserve-in-None.ensures.items, c.self.invariant.0) in
-    (
+    let long : c.in_ok-place-in-None.place ≡ length os = omega (arith, c.in_ok-place-in-None.ensures, c.len.ensures, ap (λ (xs : List ℕ). length xs) c.in_ok-reserve-in-None.ensures.items, c.self.invariant.0) in (
       ap length objects_are ∙ (longer os hs o c.args.handle c.self.invariant.0 ∙ sym (ap length handles_are)),
       (λ q.
-      c.in_ok-put-in-None.ensures.ok q
-      ∙ (ap (λ (n : ℕ). cond (same o q) (Some n) (kept c.self.inside.places q)) long
-      ∙ (ap (cond (same o q) (Some (length os))) (c.self.invariant.1 q)
-      ∙ (sym (place_new os o none q) ∙ ap (λ (xs : List Object). place_in xs q) (sym objects_are))))),
+          c.in_ok-put-in-None.ensures.ok q
+          ∙ (ap (λ (n : ℕ). cond (same o q) (Some n) (kept c.self.inside.places q)) long
+          ∙ (ap (cond (same o q) (Some (length os))) (c.self.invariant.1 q)
+          ∙ (sym (place_new os o none q) ∙ ap (λ (xs : List Object). place_in xs q) (sym objects_are))))),
     )
 
 pub returns-in_ok-push-in-None-2-clause-ok : goal.returns-in_ok-push-in-None-2-clause-ok

@@ -18,8 +18,8 @@ returns-in-Err-NoMemory-clause-plays g c = (
     number = c.args.number;
     old_state = c.args.self.now.state;
     state = c.args.self.now.state;
-    old = option_map (λ x. x.kept) c.args.self.now.session.started;
-    new = option_map (λ x. x.kept) c.args.self.now.session.started;
+    old = option_map (λ x. x.value.kept) c.args.self.now.session.started;
+    new = option_map (λ x. x.value.kept) c.args.self.now.session.started;
     traffic = traffic_of (g.D.Driver.log c.args.driver.now) (g.D.Driver.log c.args.driver.now)
         (changed (g.K.Sink.held c.args.out.now) (g.K.Sink.held c.args.out.now) (g.K.Sink.faults c.args.out.now) (g.K.Sink.faults c.args.out.now));
   }) (record { log = refl; held = refl }),
@@ -39,8 +39,8 @@ returns-in-Ok-accept-clause-plays g c =
       number = c.args.number;
       old_state = c.args.self.now.state;
       state = c.step-stepped.new.self.state;
-      old = option_map (λ x. x.kept) c.args.self.now.session.started;
-      new = option_map (λ x. x.kept) c.step-stepped.new.self.session.started;
+      old = option_map (λ x. x.value.kept) c.args.self.now.session.started;
+      new = option_map (λ x. x.value.kept) c.step-stepped.new.self.session.started;
       traffic = traffic_of (g.D.Driver.log c.args.driver.now) (g.D.Driver.log c.step-stepped.new.driver)
           (changed (g.K.Sink.held c.args.out.now) (g.K.Sink.held c.step-stepped.new.out) (g.K.Sink.faults c.args.out.now) (g.K.Sink.faults c.step-stepped.new.out));
     }) (content c.in-Ok.event) c.in-Ok-accept.call c.step-stepped.result (record {
@@ -57,8 +57,8 @@ returns-in-Err-NoMemory-accept-clause-plays g c = (
     number = c.args.number;
     old_state = c.args.self.now.state;
     state = c.accept.new.self;
-    old = option_map (λ x. x.kept) c.args.self.now.session.started;
-    new = option_map (λ x. x.kept) c.args.self.now.session.started;
+    old = option_map (λ x. x.value.kept) c.args.self.now.session.started;
+    new = option_map (λ x. x.value.kept) c.args.self.now.session.started;
     traffic = traffic_of (g.D.Driver.log c.args.driver.now) (g.D.Driver.log c.args.driver.now)
         (changed (g.K.Sink.held c.args.out.now) (g.K.Sink.held c.args.out.now) (g.K.Sink.faults c.args.out.now) (g.K.Sink.faults c.args.out.now));
   }) (record { log = refl; held = refl }),
@@ -73,8 +73,8 @@ returns-clause-plays g c = (
     number = c.args.number;
     old_state = c.args.self.now.state;
     state = c.accept.new.self;
-    old = option_map (λ x. x.kept) c.args.self.now.session.started;
-    new = option_map (λ x. x.kept) c.args.self.now.session.started;
+    old = option_map (λ x. x.value.kept) c.args.self.now.session.started;
+    new = option_map (λ x. x.value.kept) c.args.self.now.session.started;
     traffic = traffic_of (g.D.Driver.log c.args.driver.now) (g.D.Driver.log c.args.driver.now)
         (changed (g.K.Sink.held c.args.out.now) (g.K.Sink.held c.args.out.now) (g.K.Sink.faults c.args.out.now) (g.K.Sink.faults c.args.out.now));
   }) (content c.in-Ok.event) c.in-Err-Fault-accept.fault c.in-Ok.ensures.answer

@@ -13,8 +13,8 @@ pub returns-in-Err-NoMemory-clause-steps : goal.returns-in-Err-NoMemory-clause-s
 returns-in-Err-NoMemory-clause-steps g c = (
   λ start events played trace. ran_out_behind (record {
     setup = trace_setup (setup_content c.args.setup.now);
-    old = option_map (λ x. x.kept) c.args.self.now.session.started;
-    new = option_map (λ x. x.kept) c.take.new.self.session.started;
+    old = option_map (λ x. x.value.kept) c.args.self.now.session.started;
+    new = option_map (λ x. x.value.kept) c.take.new.self.session.started;
     event = content c.args.event.now;
     traffic = traffic_of (g.D.Driver.log c.args.driver.now) (g.D.Driver.log c.take.new.driver)
         (changed (g.K.Sink.held c.args.out.now) (g.K.Sink.held c.args.out.now) (g.K.Sink.faults c.args.out.now) (g.K.Sink.faults c.args.out.now));
@@ -26,8 +26,8 @@ pub returns-in-Ok-put_all-clause-steps : goal.returns-in-Ok-put_all-clause-steps
 returns-in-Ok-put_all-clause-steps g c = (
   λ start events played trace. played_more (record {
     setup = trace_setup (setup_content c.args.setup.now);
-    old = option_map (λ x. x.kept) c.args.self.now.session.started;
-    new = option_map (λ x. x.kept) c.take.new.self.session.started;
+    old = option_map (λ x. x.value.kept) c.args.self.now.session.started;
+    new = option_map (λ x. x.value.kept) c.take.new.self.session.started;
     event = content c.args.event.now;
     traffic = traffic_of (g.D.Driver.log c.args.driver.now) (g.D.Driver.log c.take.new.driver)
         (changed (g.K.Sink.held c.args.out.now) (g.K.Sink.held c.put_all.new.sink) (g.K.Sink.faults c.args.out.now) (g.K.Sink.faults c.put_all.new.sink));
@@ -41,8 +41,8 @@ pub returns-in-Err-clause-steps : goal.returns-in-Err-clause-steps
 returns-in-Err-clause-steps g c = (
   λ start events played trace. cut_in_lines (record {
     setup = trace_setup (setup_content c.args.setup.now);
-    old = option_map (λ x. x.kept) c.args.self.now.session.started;
-    new = option_map (λ x. x.kept) c.take.new.self.session.started;
+    old = option_map (λ x. x.value.kept) c.args.self.now.session.started;
+    new = option_map (λ x. x.value.kept) c.take.new.self.session.started;
     event = content c.args.event.now;
     traffic = traffic_of (g.D.Driver.log c.args.driver.now) (g.D.Driver.log c.take.new.driver)
         (changed (g.K.Sink.held c.args.out.now) (g.K.Sink.held c.put_all.new.sink) (g.K.Sink.faults c.args.out.now) (g.K.Sink.faults c.put_all.new.sink));

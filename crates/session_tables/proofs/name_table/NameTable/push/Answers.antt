@@ -16,14 +16,13 @@ invariant_of-self-2 c =
     let n = c.args.named.name in
     let names_are : c.push.new.self.items ≡ ns ++ n ∷ [] = c.in_ok-push.ensures.items ∙ ap (λ (xs : List Name). xs ++ n ∷ []) c.in_ok-reserve.ensures.items in
     let objects_are : c.push-2.new.self.objects ≡ os ++ c.args.named.object ∷ [] = c.in_ok-push-2.ensures.ok ∙ ap (λ (xs : List Object). xs ++ c.args.named.object ∷ []) c.in_ok-reserve-2.ensures.objects in
-    let count : c.len.result ≡ length ns = omega (arith, c.len.ensures, ap (λ (xs : List Name). length xs) c.in_ok-reserve.ensures.items) in
-    (
+    let count : c.len.result ≡ length ns = omega (arith, c.len.ensures, ap (λ (xs : List Name). length xs) c.in_ok-reserve.ensures.items) in (
       ap length names_are ∙ (longer ns os n c.args.named.object c.self.invariant.0 ∙ sym (ap length objects_are)),
       (λ name.
-      c.in_ok-keep_first.ensures.ok name
-      ∙ (ap (λ (f : Option ℕ). option_or f (cond (same_name n name) (Some c.len.result) None)) (c.self.invariant.1 name)
-      ∙ (ap (λ (k : ℕ). option_or (first_at ns name) (cond (same_name n name) (Some k) None)) count
-      ∙ (sym (first_more ns n name) ∙ ap (λ (xs : List Name). first_at xs name) (sym names_are))))),
+          c.in_ok-keep_first.ensures.ok name
+          ∙ (ap (λ (f : Option ℕ). option_or f (cond (same_name n name) (Some c.len.result) None)) (c.self.invariant.1 name)
+          ∙ (ap (λ (k : ℕ). option_or (first_at ns name) (cond (same_name n name) (Some k) None)) count
+          ∙ (sym (first_more ns n name) ∙ ap (λ (xs : List Name). first_at xs name) (sym names_are))))),
     )
 
 pub returns-clause-ok : goal.returns-clause-ok
