@@ -37,14 +37,38 @@ use Rattle.session_model.proofs.Running.{new_stands}
 use Rattle.session_model.proofs.Returned.{returns_well}
 use Rattle.session_model.proofs.Shapes.{begin_steps}
 use Rattle.session_model.proofs.Turns.{begins_idle}
+use Rattle.chain_session.specs.declared.kept.Kept.{Kept}
 use Rattle.chain_session.specs.declared.parts.SessionParts.{SessionParts}
 use Rattle.chain_session.specs.Entering.{AllRecalled, AreRecalled, CanEnter, Entered, Enters, IsLeft, IsRecalled, held_begun}
 use Rattle.chain_session.specs.Finishing.{Returns}
 use Rattle.chain_session.specs.Leaving.{CanLeave, Departed, Leaves}
 use Rattle.chain_session.specs.Names.{NamesKept, no_names}
 use Rattle.chain_session.specs.PartsStanding.{AreLeftOpen, EntersTrace, IsLeftOpen, LeavesTrace, LeftCall, PartsStand, StartsNone, is_left_by}
+use Rattle.chain_session.specs.Splitting.{AreSplit}
+use Rattle.chain_session.specs.Standing.{StandsFor}
 use Rattle.chain_session.proofs.Advancing.{replies_long}
 use Rattle.chain_session.proofs.Finished.{returns_of}
+
+-- ---- parts that are split
+
+pub split_stand : (s : Setup) (k : Kept) (x : SessionParts) (events : List TraceEvent) (replies : List ReplyContent) → StandsFor s (Some k) events replies → AreSplit (Some k) x → PartsStand s x events replies []
+split_stand s k x events replies st alike =
+    let shows = st.shows.parts in
+    record {
+      kept = st.kept;
+      shows = record {
+        names = ap (λ (n : NamesKept). n.names) alike.names ∙ shows.names;
+        births = ap (λ (n : NamesKept). n.births) alike.names ∙ shows.births;
+        retrieved = ap (λ (n : NamesKept). n.retrieved) alike.names ∙ shows.retrieved;
+        states = alike.states ∙ shows.states;
+        ids = alike.ids ∙ shows.ids;
+        routes = alike.routes ∙ shows.routes;
+        handed = ap (λ (n : NamesKept). n.handed) alike.names ∙ shows.handed;
+        drivers = alike.drivers ∙ shows.drivers;
+      };
+      stands = st.stands;
+      opens = tt;
+    }
 
 -- ---- a begin
 

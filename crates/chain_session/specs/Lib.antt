@@ -8,13 +8,14 @@ pub mod Telling
 pub mod Sending
 pub mod Parts
 pub mod Shown
+pub mod Splitting
 pub mod Entering
 pub mod Raising
 pub mod Finishing
 pub mod Leaving
-pub mod PartsStanding
 pub mod Beginning
 pub mod Keeping
 pub mod Creation
 pub mod Reporting
 pub mod Standing
+pub mod PartsStanding

@@ -19,11 +19,14 @@ use Rattle.chain_model.specs.Traces.{GivesGuarded, IsTrace}
 use Rattle.dispatch_chain.specs.Holding.{HeldCalls}
 use Rattle.session_model.specs.Session.{SessionKept}
 use Rattle.session_model.specs.Stands.{AreRepliesTo, Stands}
+use Rattle.chain_session.specs.declared.kept.Kept.{Kept}
 use Rattle.chain_session.specs.declared.parts.SessionParts.{SessionParts}
 use Rattle.chain_session.specs.Entering.{CanEnter, Enters}
 use Rattle.chain_session.specs.Leaving.{CanLeave, IsOpen, Leaves}
 use Rattle.chain_session.specs.Names.{no_names}
 use Rattle.chain_session.specs.Parts.{PartsShow}
+use Rattle.chain_session.specs.Splitting.{AreSplit}
+use Rattle.chain_session.specs.Standing.{StandsFor}
 
 -- ---- what they stand for
 
@@ -57,6 +60,10 @@ pub record PartsStand (s : Setup) (x : SessionParts) (events : List TraceEvent) 
 abbrev pub NewStand : Type 0
 NewStand =
     (s : Setup) (x : SessionParts) → x.states ≡ [] → x.terminator.ids ≡ no_ids → x.terminator.routes ≡ [] → x.terminator.drivers ≡ s.drivers → x.names ≡ no_names → PartsStand s x [] [] []
+
+-- parts that are split from a session which has begun stand for the events and replies for which it stands; they have no call that could leave
+abbrev pub SplitStand : Type 0
+SplitStand = (s : Setup) (k : Kept) (x : SessionParts) (events : List TraceEvent) (replies : List ReplyContent) → StandsFor s (Some k) events replies → AreSplit (Some k) x → PartsStand s x events replies []
 
 -- ---- a begin
 

@@ -1,5 +1,5 @@
 // The handles of objects above the first part of a chain.
-ghost use Rattle.std.specs.Prelude.{◌≡◌, [], OnOk, OnErr};
+ghost use Rattle.std.specs.Prelude.{◌≡◌, [], IfOk, OnOk, OnErr};
 ghost use Rattle.chain_model.specs.Handed.{hand_all, hand_one, handle_in};
 
 use object_model::Object;
@@ -41,6 +41,18 @@ impl HandedTable {
             handles: Vec::new(alloc),
             places: ObjectPlaces::new(alloc),
         }
+    }
+
+    /// A table of its own with the same handles.
+    pub fn copy(&self) -> Result<HandedTable, AllocError>
+        ensures { IfOk result (λ copy. copy ≡ self.now) }
+    {
+        let alloc = *self.handles.allocator();
+        Ok(HandedTable {
+            objects: self.objects.copy()?,
+            handles: Vec::from_slice(alloc, &self.handles)?,
+            places: self.places.copy()?,
+        })
     }
 
     /// The handle of an object, and 0 where it has none.

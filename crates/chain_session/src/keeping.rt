@@ -13,11 +13,11 @@ use crate::results::key_of;
 use command_tables::Effect;
 use object_model::Object;
 use replay_model::{Born, Named};
-use session_tables::{BirthTable, NameTable, ObjectTable, RetrievedEntry, RetrievedTable, owner};
+use session_tables::{BirthTable, NamedTable, ObjectTable, RetrievedEntry, RetrievedTable, owner};
 use std::alloc::{AllocError, Global};
 
 // Keeps the names that stand for objects.
-fn keep_names(names: &mut NameTable, made: &[Born]) -> Result<(), AllocError>
+fn keep_names(names: &mut NamedTable, made: &[Born]) -> Result<(), AllocError>
     ensures { OnOk result (names.new ≡ names.old ++ map named_of made.now) }
 {
     for b in made {
@@ -86,7 +86,7 @@ pub(crate) fn settle(
     alloc: Global,
     call: &OpenCall,
     born: &[Born],
-    names: &mut NameTable,
+    names: &mut NamedTable,
     objects: &mut ObjectTable,
     retrieved: &mut RetrievedTable,
 ) -> Result<(), AllocError>

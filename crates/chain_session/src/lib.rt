@@ -18,6 +18,7 @@ mod kept;
 mod leaving;
 mod name_table;
 mod names;
+mod no_chain;
 mod open_calls;
 mod opening;
 mod parts;

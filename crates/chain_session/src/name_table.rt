@@ -15,7 +15,7 @@ use crate::handed::HandedTable;
 use crate::keeping::settle;
 use crate::names::put_arguments;
 use crate::room::Room;
-use command_tables::Effect;
+use command_tables::{Effect, NoMemory};
 use object_model::Argument;
 use replay_model::Born;
 use session_tables::{ObjectTable, RetrievedTable};
@@ -28,7 +28,7 @@ use trace_format::TraceArg;
 /// that was born, as it stands above the first part of the chain.
 #[derive(Drop)]
 pub struct NameTable {
-    named: session_tables::NameTable,
+    named: session_tables::NamedTable,
     objects: ObjectTable,
     retrieved: RetrievedTable,
     handed: HandedTable,
@@ -51,7 +51,7 @@ impl NameTable {
         ensures { result ≡ no_names }
     {
         NameTable {
-            named: session_tables::NameTable::new(alloc),
+            named: session_tables::NamedTable::new(alloc),
             objects: ObjectTable::new(alloc),
             retrieved: RetrievedTable::new(alloc),
             handed: HandedTable::new(alloc),
@@ -60,8 +60,23 @@ impl NameTable {
         }
     }
 
+    /// A table of its own that keeps the same.
+    pub fn copy(&self) -> Result<NameTable, NoMemory>
+        ensures { IfOk result (λ copy. copy ≡ self.now) }
+    {
+        let alloc = self.room.alloc;
+        Ok(NameTable {
+            named: self.named.copy()?,
+            objects: self.objects.copy()?,
+            retrieved: self.retrieved.copy()?,
+            handed: self.handed.copy()?,
+            args: Vec::new(alloc),
+            room: Room::new(alloc),
+        })
+    }
+
     /// The names with their objects.
-    pub(crate) fn named(&self) -> &session_tables::NameTable
+    pub(crate) fn named(&self) -> &session_tables::NamedTable
         ensures { result.now ≡ self.now.names }
     {
         &self.named

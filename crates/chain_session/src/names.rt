@@ -6,11 +6,11 @@ ghost use Rattle.session_tables.specs.Shown.{args_shown};
 
 use crate::room::Spares;
 use object_model::Argument;
-use session_tables::NameTable;
+use session_tables::NamedTable;
 use std::alloc::AllocError;
 use trace_format::{Name, TraceArg};
 
-fn argument(names: &NameTable, name: Option<Name>) -> Argument
+fn argument(names: &NamedTable, name: Option<Name>) -> Argument
     ensures { result ≡ argument_in names.now name }
 {
     match name {
@@ -24,7 +24,7 @@ fn argument(names: &NameTable, name: Option<Name>) -> Argument
 
 // Puts what names stand for in place of what stood there.
 fn put_places(
-    names: &NameTable,
+    names: &NamedTable,
     at: &[Option<Name>],
     places: &mut Vec<Argument>,
 ) -> Result<(), AllocError>
@@ -66,7 +66,7 @@ fn add_up_to(
 /// Puts what the arguments of a call stand for in place of what stood there.
 pub fn put_arguments(
     room: &mut Spares<Argument>,
-    names: &NameTable,
+    names: &NamedTable,
     args: &[TraceArg],
     all: &mut Vec<Vec<Argument>>,
 ) -> Result<(), AllocError>

@@ -10,7 +10,7 @@ use crate::room::{Room, Spares};
 use chain_build::Chain;
 use command_tables::{Code, CommandId, NoMemory};
 use object_model::Argument;
-use session_tables::NameTable;
+use session_tables::NamedTable;
 use trace_format::{Name, TraceArg};
 
 /// What a begin event says.
@@ -28,7 +28,7 @@ pub(crate) struct Beginning<'a> {
 fn put_opened(
     call: &mut OpenCall,
     room: &mut Spares<Argument>,
-    names: &NameTable,
+    names: &NamedTable,
     number: u64,
     begin: Beginning,
     refusal: Option<Code>,
@@ -61,7 +61,7 @@ fn put_opened(
 /// The call of a begin, before it is judged.
 pub(crate) fn open_call(
     room: &mut Room,
-    names: &NameTable,
+    names: &NamedTable,
     number: u64,
     begin: Beginning,
     refusal: Option<Code>,

@@ -6,12 +6,15 @@ ghost use Rattle.session_model.specs.Living.{ArePast};
 ghost use Rattle.session_tables.specs.Lined.{AreLined};
 ghost use Rattle.session_tables.specs.Shown.{args_shown};
 ghost use Rattle.dispatch_chain.specs.Seats.{kinds_of};
+ghost use Rattle.layer_model.specs.Ids.{no_ids};
 ghost use Rattle.trace_format.specs.Content.{content};
 ghost use Rattle.chain_session.specs.Entering.{CanEnter, CanEnterAt, Enters, EntersAt};
 ghost use Rattle.model_driver.specs.Driver.{reply_shown};
 ghost use Rattle.chain_session.specs.Judging.{ComesDown, FitsCall};
 ghost use Rattle.chain_session.specs.Leaving.{CanLeave, CanLeaveAt, Leaves, LeavesAt};
+ghost use Rattle.chain_session.specs.Names.{no_names};
 ghost use Rattle.chain_session.specs.Opening.{begin_content, opened_read};
+ghost use Rattle.chain_session.specs.Splitting.{KeepAlike};
 
 use crate::judging::look;
 use crate::leaving::leave_sent;
@@ -23,6 +26,7 @@ use dispatch_chain::{DispatchTable, Held, LayerStates, Terminator};
 use lifetime_layer::Verdict;
 use model_driver::DriverReply;
 use object_model::Argument;
+use std::alloc::Global;
 use trace_format::Event;
 
 /// What the parts of the chain keep, what its end keeps, and the names with their objects.
@@ -47,6 +51,33 @@ fn end_some(names: &mut NameTable, cmd: CommandId, args: &[Vec<Argument>], skipp
 }
 
 impl SessionParts {
+    /// There is no chain, and nothing is kept yet, above so many drivers. Takes no memory.
+    pub(crate) fn new(alloc: Global, drivers: u32) -> SessionParts
+        ensures states { result.states ≡ [] }
+        ensures ids { result.terminator.ids ≡ no_ids }
+        ensures routes { result.terminator.routes ≡ [] }
+        ensures drivers { result.terminator.drivers ≡ drivers }
+        ensures names { result.names ≡ no_names }
+    {
+        SessionParts {
+            states: LayerStates::none(alloc),
+            terminator: Terminator::new(alloc, drivers),
+            names: NameTable::new(alloc),
+        }
+    }
+
+    /// Parts of their own that keep the same. Of room nothing is said.
+    pub fn copy(&self) -> Result<SessionParts, NoMemory>
+        ensures alike { IfOk result (λ copy. KeepAlike copy self.now) }
+        ensures kinds { IfOk result (λ copy. kinds_of copy.states ≡ kinds_of self.now.states) }
+    {
+        Ok(SessionParts {
+            states: self.states.copy()?,
+            terminator: self.terminator.copy()?,
+            names: self.names.copy()?,
+        })
+    }
+
     /// A call whose chain isn't refused comes down, with what its arguments stand for: the loader or the parts find what they find, which skips it
     /// or not, and what it ends ends where it isn't skipped. `room` is any memory for the handles of one parameter. After `NoMemory` all is
     /// for dropping.

@@ -13,7 +13,7 @@ use crate::opening::{Beginning, open_call};
 use crate::room::Room;
 use command_tables::{HandleArgs, LayerCall, NoMemory};
 use object_model::Argument;
-use session_tables::NameTable;
+use session_tables::NamedTable;
 
 // Whether a place is marked. One that isn't there isn't.
 #[tactic(auto, using(crate::proofs::Recalled::beyond_param, crate::proofs::Recalled::beyond_place))]
@@ -53,7 +53,7 @@ fn recall(marks: &HandleArgs<6>, args: &mut Vec<Vec<Argument>>)
 /// began. It has the number 0.
 pub(crate) fn reopen(
     room: &mut Room,
-    names: &NameTable,
+    names: &NamedTable,
     begin: Beginning,
     form: &LayerCall,
 ) -> Result<Box<OpenCall>, NoMemory>

@@ -1,24 +1,28 @@
 // The session.
-ghost use Rattle.std.specs.Prelude.{◌≡◌, ◌+◌, ◌<◌, ◌^◌, true, false, length, None, IfErr, IsSomeAnd, OnErr, OnOk};
+ghost use Rattle.std.specs.Prelude.{◌≡◌, ◌+◌, ◌<◌, ◌^◌, true, false, length, None, IfErr, IfOk, IsSomeAnd, OnErr, OnOk};
 ghost use Rattle.std.specs.Option.{option_map};
 ghost use Rattle.command_tables.specs.Tests.{same_command};
 ghost use Rattle.command_tables.specs.declared.types.CommandId.TheVariants as CommandId;
 ghost use Rattle.trace_format.specs.Content.{Begin, content};
 ghost use Rattle.chain_build.specs.Setup.{setup_content};
 ghost use Rattle.report_text.specs.Setups.{trace_setup};
+ghost use Rattle.dispatch_chain.specs.Seats.{kinds_of};
 ghost use Rattle.replay_model.specs.Stop.{exceeds_layers};
 ghost use Rattle.session_model.specs.Session.{nothing_kept};
 ghost use Rattle.chain_session.specs.Creation.{IsFault};
 ghost use Rattle.chain_session.specs.Opening.{begin_content};
 ghost use Rattle.chain_session.specs.Shown.{Shows};
+ghost use Rattle.chain_session.specs.Splitting.{AreSplit, kinds_in_force};
 ghost use Rattle.chain_session.specs.Standing.{Advances, BeginsCall, CanCome, CanReturn, Counts, CutAt, CutBefore, Holds, IsFaultAt, ReturnsAs, calls_before};
 
 use crate::error::SessionError;
+use crate::no_chain::NoChain;
 use crate::opening::Beginning;
+use crate::parts::SessionParts;
 use crate::started::Started;
 use chain_build::Setup;
 use command_tables::NoMemory;
-use dispatch_chain::Kit;
+use dispatch_chain::{DispatchTable, Kit};
 use model_driver::Driver;
 use report_text::Tally;
 use std::alloc::Global;
@@ -28,18 +32,42 @@ use trace_format::Event;
 #[derive(Drop)]
 pub struct Session {
     alloc: Global,
+    no_chain: NoChain,
     // Behind a box: whoever passes a session on moves a pointer.
     pub(crate) started: Option<Box<Started>>,
 }
 
 impl Session {
     /// A session for a trace of which nothing was replayed yet, and whose chains call the functions of this kit. Takes no memory.
-    pub fn new(alloc: Global, _kit: &Kit) -> Session
+    pub fn new(alloc: Global, kit: &Kit) -> Session
         ensures { option_map (λ x. x.value.kept) result.started ≡ None }
     {
         Session {
             alloc,
+            no_chain: NoChain::new(alloc, kit),
             started: None,
+        }
+    }
+
+    /// The rows of the chain in force, or such that no part intercepts a command, where there is no chain. Takes no memory.
+    pub fn table(&self) -> &DispatchTable
+        ensures { result.now.rows ≡ kinds_in_force (option_map (λ x. x.value.kept) self.now.started) }
+    {
+        match &self.started {
+            None => self.no_chain.table(),
+            Some(started) => started.table(),
+        }
+    }
+
+    /// Parts of their own that keep what the session keeps beside its counts and its open calls, at the moment of this call. They go on by
+    /// themselves over the same rows. Of room nothing is said. Before the first begin no driver is known to them.
+    pub fn split(&self) -> Result<SessionParts, NoMemory>
+        ensures parts { IfOk result (λ parts. AreSplit (option_map (λ x. x.value.kept) self.now.started) parts) }
+        ensures kinds { IfOk result (λ parts. kinds_of parts.states ≡ kinds_in_force (option_map (λ x. x.value.kept) self.now.started)) }
+    {
+        match &self.started {
+            None => Ok(SessionParts::new(self.alloc, 0)),
+            Some(started) => started.kept.parts.copy(),
         }
     }
 
@@ -48,7 +76,7 @@ impl Session {
         requires few { length (setup_content setup.now).drivers.list < 2 ^ 32 }
         ensures { OnOk result (IsSomeAnd self.new.started (λ x. Shows (trace_setup (setup_content setup.now)) x.value.kept nothing_kept)) }
     {
-        let started = Started::new(self.alloc, setup, kit)?;
+        let started = Started::new(self.alloc, setup, kit);
         self.started = Some(Box::new(self.alloc, started)?);
         Ok(())
     }

@@ -19,14 +19,14 @@ use crate::beginning::begin_call;
 use crate::error::SessionError;
 use crate::finishing::finish_call;
 use crate::kept::Kept;
-use crate::name_table::NameTable;
+use crate::no_chain::no_parts;
 use crate::open_calls::OpenCalls;
 use crate::opening::Beginning;
 use crate::parts::SessionParts;
 use crate::room::Room;
-use chain_build::{Chain, Setup};
+use chain_build::Setup;
 use command_tables::NoMemory;
-use dispatch_chain::{DispatchTable, Kit, LayerStates, Terminator};
+use dispatch_chain::{DispatchTable, Kit};
 use model_driver::Driver;
 use std::alloc::Global;
 
@@ -39,18 +39,6 @@ pub struct Started {
     ghost agrees: { table.rows ≡ kinds_of kept.parts.states },
 }
 
-// A chain of no parts.
-fn no_chain(alloc: Global) -> Chain
-    ensures { result.parts.items ≡ [] }
-{
-    Chain {
-        layers: Vec::new(alloc),
-        parts: Vec::new(alloc),
-        drivers: Vec::new(alloc),
-        notes: Vec::new(alloc),
-    }
-}
-
 // Nothing is kept yet, above so many drivers.
 fn nothing(alloc: Global, drivers: u32) -> Kept
     ensures shows { (s : TraceSetup) → drivers ≡ s.drivers → Shows s result nothing_kept }
@@ -60,28 +48,29 @@ fn nothing(alloc: Global, drivers: u32) -> Kept
         calls: 0,
         skipped: 0,
         reports: 0,
-        parts: SessionParts {
-            states: LayerStates::none(alloc),
-            terminator: Terminator::new(alloc, drivers),
-            names: NameTable::new(alloc),
-        },
+        parts: SessionParts::new(alloc, drivers),
         open_calls: OpenCalls::new(alloc),
     }
 }
 
 impl Started {
-    /// Nothing is kept yet, and no chain is in force.
-    pub(crate) fn new(alloc: Global, setup: &Setup, kit: &Kit) -> Result<Started, NoMemory>
+    /// Nothing is kept yet, and no chain is in force. Takes no memory.
+    pub(crate) fn new(alloc: Global, setup: &Setup, kit: &Kit) -> Started
         requires few { length (setup_content setup.now).drivers.list < 2 ^ 32 }
-        ensures { IfOk result (λ x. Shows (trace_setup (setup_content setup.now)) x.kept nothing_kept) }
+        ensures { Shows (trace_setup (setup_content setup.now)) result.kept nothing_kept }
     {
-        let table = DispatchTable::build(alloc, &no_chain(alloc), kit)?;
-        let kept = nothing(alloc, setup.drivers.list.len() as u32);
-        Ok(Started {
-            kept,
-            table,
+        Started {
+            kept: nothing(alloc, setup.drivers.list.len() as u32),
+            table: no_parts(alloc, kit),
             room: Room::new(alloc),
-        })
+        }
+    }
+
+    /// The rows of the chain in force.
+    pub(crate) fn table(&self) -> &DispatchTable
+        ensures { result.now.rows ≡ kinds_of self.now.kept.parts.states }
+    {
+        &self.table
     }
 
     /// The begin of a call.

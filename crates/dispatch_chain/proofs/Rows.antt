@@ -1,14 +1,15 @@
 -- The rows of a table.
-use Rattle.std.proofs.Common.{◌≡◌, ℕ, zero, suc, ◌-◌, List, [], ◌∷◌, map, ◌||◌, ◌<◌, length, ap, refl, slice_get, Some, sym, ◌∙◌, arith}
-use Rattle.std.specs.Option.{option_map}
+use Rattle.std.proofs.Common.{◌≡◌, ℕ, zero, suc, ◌-◌, List, [], ◌∷◌, map, ◌||◌, ap, refl, slice_get, Option, None, Some, sym, ◌∙◌}
+use Rattle.std.specs.Prelude.{Vec}
+use Rattle.std.specs.Option.{option_map, option_map_or}
+use Rattle.std.proofs.lemmas.Option.{same_Some}
 use Rattle.command_tables.specs.Numbers.{number_of}
 use Rattle.command_tables.specs.declared.lookup.TheConstants.{COMMANDS}
 use Rattle.command_tables.specs.declared.types.CommandId.{CommandId}
 use Rattle.object_model.specs.declared.PartKind.{PartKind}
-use Rattle.dispatch_chain.specs.Rows.{entries_of, rows_of}
+use Rattle.dispatch_chain.specs.Rows.{AreRows, entries_of, rows_of}
 use Rattle.dispatch_chain.specs.declared.entry.Entry.{Entry}
 use Rattle.std.specs.List.{list_any}
-use Rattle.std.proofs.lemmas.List.{length-map}
 use Rattle.command_tables.specs.declared.types.Param.{Param}
 use Rattle.command_tables.specs.Table.{ParamSpec, seen_param}
 use Rattle.layer_model.specs.Ids.{is_wrapped}
@@ -35,15 +36,28 @@ get_mapped f xs i x h = mapped_at f xs i ∙ ap (option_map f) h
 pub row_at : (kinds : List PartKind) (cmd : CommandId) (rows : List (List Entry)) → rows ≡ rows_of kinds → slice_get COMMANDS (number_of cmd - 1) ≡ Some cmd → slice_get rows (number_of cmd - 1) ≡ Some (entries_of cmd kinds)
 row_at kinds cmd rows e h = ap (λ rs. slice_get rs (number_of cmd - 1)) e ∙ get_mapped (λ c. entries_of c kinds) COMMANDS (number_of cmd - 1) cmd h
 
-within_of : {X : Type 0} (xs : List X) (i : ℕ) (x : X) → slice_get xs i ≡ Some x → i < length xs
-within_of [] i x h = cc
-within_of (y ∷ ys) zero x h = omega arith
-within_of (y ∷ ys) (suc i) x h = let k = within_of ys i x h in omega (arith, k)
+got_row : {X : Type 0} (f : X → List Entry) (r : Option X) (es : List Entry) → option_map f r ≡ Some es → option_map_or f r [] ≡ es
+got_row f None es h = cc h
+got_row f (Some x) es h = same_Some (f x) es h
 
--- there is a row for each command
-pub row_inside : {X : Type 0} (f : X → List Entry) (kinds : List PartKind) (cmd : CommandId) (rows : List X) → map f rows ≡ rows_of kinds → slice_get COMMANDS (number_of cmd - 1) ≡ Some cmd → number_of cmd - 1 < length rows
-row_inside f kinds cmd rows e h = let k = within_of (map f rows) (number_of cmd - 1) (entries_of cmd kinds) (row_at kinds cmd (map f rows) e h) in simp length-map at k
+-- where there are no parts, none intercepts a command
+pub rows_none : {A : Type 0} (kinds : List PartKind) (rows : List (Vec Entry A)) → kinds ≡ [] → rows ≡ [] → AreRows kinds rows
+rows_none {A = A} kinds rows no_kinds no_rows = record {
+  each = λ cmd. ap (λ (rs : List (Vec Entry A)). option_map_or (λ (r : Vec Entry A). r.items) (slice_get rs (number_of cmd - 1)) []) no_rows ∙ ap (entries_of cmd) (sym no_kinds);
+}
+
+-- a row for each command stands at its number
+pub rows_built : {A : Type 0} (kinds : List PartKind) (rows : List (Vec Entry A)) → map (λ row. row.items) rows ≡ rows_of kinds → ((cmd : CommandId) → slice_get COMMANDS (number_of cmd - 1) ≡ Some cmd) → AreRows kinds rows
+rows_built {A = A} kinds rows are numbered = record {
+  each = λ cmd.
+      got_row (λ (r : Vec Entry A). r.items) (slice_get rows (number_of cmd - 1)) (entries_of cmd kinds)
+      (sym (mapped_at (λ (r : Vec Entry A). r.items) rows (number_of cmd - 1)) ∙ row_at kinds cmd (map (λ (r : Vec Entry A). r.items) rows) are (numbered cmd));
+}
 
 -- what stands at a command's number is its row
-pub row_is : (kinds : List PartKind) (cmd : CommandId) (rows : List (List Entry)) (es : List Entry) → rows ≡ rows_of kinds → slice_get COMMANDS (number_of cmd - 1) ≡ Some cmd → slice_get rows (number_of cmd - 1) ≡ Some es → es ≡ entries_of cmd kinds
-row_is kinds cmd rows es e h g = let k : Some es ≡ Some (entries_of cmd kinds) = sym g ∙ row_at kinds cmd rows e h in cc
+pub row_read : {A : Type 0} (kinds seen : List PartKind) (rows read : List (Vec Entry A)) (cmd : CommandId) (n : ℕ) (row : List Entry) → AreRows kinds rows → kinds ≡ seen → read ≡ rows → n ≡ number_of cmd
+    → row ≡ option_map_or (λ r. r.items) (slice_get read (n - 1)) [] → row ≡ entries_of cmd seen
+row_read {A = A} kinds seen rows read cmd n row are same is at found =
+    found
+    ∙ (ap (λ (rs : List (Vec Entry A)). option_map_or (λ (r : Vec Entry A). r.items) (slice_get rs (n - 1)) []) is
+    ∙ (ap (λ (m : ℕ). option_map_or (λ (r : Vec Entry A). r.items) (slice_get rows (m - 1)) []) at ∙ (are.each cmd ∙ ap (entries_of cmd) same)))

@@ -1,6 +1,8 @@
 -- The stored rows of a chain's table. Source: Khronos Vulkan-Loader, LoaderLayerInterface.md (dispatch chains); which commands a part
 -- intercepts is the machine's.
-use Rattle.std.specs.Prelude.{ℕ, ◌+◌, List, [], ◌∷◌, map, if◌then◌else◌}
+use Rattle.std.specs.Prelude.{◌≡◌, ℕ, ◌+◌, ◌-◌, List, [], ◌∷◌, map, slice_get, Vec, if◌then◌else◌}
+use Rattle.std.specs.Option.{option_map_or}
+use Rattle.command_tables.specs.Numbers.{number_of}
 use Rattle.command_tables.specs.declared.types.CommandId.{CommandId}
 use Rattle.command_tables.specs.declared.lookup.TheConstants.{COMMANDS}
 use Rattle.command_tables.specs.Calls.{CallContent}
@@ -24,6 +26,10 @@ entries_of cmd kinds = entries_from cmd 1 kinds
 -- a row for each command, in the order of their numbers
 abbrev pub rows_of : List PartKind → List (List Entry)
 rows_of kinds = map (λ cmd. entries_of cmd kinds) COMMANDS
+
+-- at the number of each command stands its row; where nothing stands there, no part intercepts it
+pub record AreRows {A : Type 0} (kinds : List PartKind) (rows : List (Vec Entry A)) : Type 0 where
+  pub each : (cmd : CommandId) → option_map_or (λ row. row.items) (slice_get rows (number_of cmd - 1)) [] ≡ entries_of cmd kinds
 
 -- the forms above the parts that intercept the command, among those above all parts that were reached
 abbrev pub picked : CommandId → List PartKind → List CallContent → List CallContent

@@ -19,6 +19,6 @@ pub use held::Held;
 pub use kit::{Kit, LifeEnter, LifeLeave, UniqueEnter, UniqueLeave, UseEnter, UseLeave};
 pub use laws::results_are_once;
 pub use states::LayerStates;
-pub use table::DispatchTable;
+pub use table::{DispatchTable, no_rows};
 pub use terminator::Terminator;
 pub use walks::{walk_enter, walk_leave};

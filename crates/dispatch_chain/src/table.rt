@@ -1,5 +1,5 @@
 //! The stored dispatch tables of a chain.
-ghost use Rattle.std.specs.Prelude.{◌≡◌, ◌<◌, IfOk, Some, false, length, map, slice_get};
+ghost use Rattle.std.specs.Prelude.{◌≡◌, [], IfOk, false, map, slice_get};
 ghost use Rattle.std.specs.List.{list_any};
 ghost use Rattle.std.specs.Option.{option_map_or};
 ghost use Rattle.command_tables.specs.Effects.{type_made};
@@ -19,7 +19,8 @@ use object_model::PartKind;
 use std::alloc::Global;
 use std::marker::Model;
 
-/// For each command the parts of a chain that intercept it. A contract sees the kinds of the chain's parts.
+/// For each command the parts of a chain that intercept it; no rows are kept where there are no parts. A contract sees the kinds of the
+/// chain's parts.
 #[derive(Drop)]
 pub struct Rows {
     kinds: Vec<PartKind>,
@@ -27,22 +28,22 @@ pub struct Rows {
 }
 
 impl Model for Rows {
-    ghost use Rattle.std.specs.Prelude.{◌≡◌, List, map};
+    ghost use Rattle.std.specs.Prelude.{List};
     ghost use Rattle.object_model.specs.declared.PartKind.{PartKind};
-    ghost use Rattle.dispatch_chain.specs.Rows.{rows_of};
+    ghost use Rattle.dispatch_chain.specs.Rows.{AreRows};
 
     ghost Value = { List PartKind };
 
     ghost view = { λ t. t.kinds.items };
 
-    ghost invariant = { λ t. map (λ row. row.items) t.rows.items ≡ rows_of t.kinds.items };
+    ghost invariant = { λ t. AreRows t.kinds.items t.rows.items };
 }
 
 /// The rows of a chain, with the functions that its parts are called by.
 #[derive(Drop)]
 pub struct DispatchTable {
-    pub(crate) kit: Kit,
-    pub(crate) rows: Rows,
+    pub kit: Kit,
+    pub rows: Rows,
 }
 
 // Whether a unique part issues ids for objects of this type: non-dispatchable ones but surfaces.
@@ -138,18 +139,33 @@ fn kinds_placed(alloc: Global, parts: &[(PartKind, u32)]) -> Result<Vec<PartKind
     Ok(kinds)
 }
 
-// The row at an index.
+// The row at an index; nothing behind the last.
 fn row_at(rows: &[Vec<Entry>], index: usize) -> &[Entry]
-    requires { index < length rows.now }
-    ensures { slice_get (map (λ row. row.items) rows.now) index ≡ Some result.now }
+    ensures { result.now ≡ option_map_or (λ row. row.items) (slice_get rows.now index) [] }
 {
-    &rows[index]
+    match rows.get(index) {
+        None => &[],
+        Some(row) => row,
+    }
+}
+
+/// The rows of a chain without parts. Takes no memory.
+#[tactic(auto, using(crate::proofs::Rows::rows_none))]
+pub fn no_rows(alloc: Global) -> Rows
+    ensures { result ≡ [] }
+{
+    Rows {
+        kinds: Vec::new(alloc),
+        rows: Vec::new(alloc),
+    }
 }
 
 impl Rows {
+    #[tactic(auto, using(crate::proofs::Rows::rows_built))]
     fn build(alloc: Global, parts: &[(PartKind, u32)]) -> Result<Rows, NoMemory>
         ensures { IfOk result (λ rows. rows ≡ kinds_placed parts.now) }
     {
+        facts_of_the_table();
         let kinds = kinds_placed(alloc, parts)?;
         let rows = rows_for(alloc, &kinds, &COMMANDS)?;
         Ok(Rows { kinds, rows })
@@ -158,7 +174,6 @@ impl Rows {
     fn at(&self, cmd: CommandId) -> &[Entry]
         ensures { result.now ≡ entries_of cmd self.now }
     {
-        facts_of_the_table();
         row_at(&self.rows, cmd.number() as usize - 1)
     }
 }

@@ -1,5 +1,6 @@
 -- Births that stand as entries of their objects.
-use Rattle.std.proofs.Common.{◌≡◌, ℕ, Bool, true, false, not, cond, ◌&&◌, ◌||◌, Option, Some, None, List, [], ◌∷◌, refl, sym, ◌∙◌, ap, slice_get}
+use Rattle.std.proofs.Common.{◌≡◌, ◌+◌, ◌<◌, ◌≤◌, ℕ, suc, Bool, true, false, not, cond, ◌&&◌, ◌||◌, Option, Some, None, List, [], ◌∷◌, ◌++◌, length, drop, get_or, refl, sym, subst, ◌∙◌, ap, arith, slice_get}
+use Rattle.std.proofs.lemmas.List.{append-nil, append_assoc, drop_all, drop_more}
 use Rattle.std.specs.Borrow.{Bor}
 use Rattle.std.specs.Prelude.{is_some}
 use Rattle.std.specs.List.{find, list_any}
@@ -121,3 +122,47 @@ births_apart t placed i j b c here there is =
         go : (e : Option (Placed BirthEntry)) → slice_get es n ≡ e → mapped birth_of e ≡ Some d → (p : Placed BirthEntry) × (slice_get es n ≡ Some p) × (p.object ≡ d.object)
         go None h k = cc k
         go (Some p) h k = (p, h, ap (λ (x : Birth). x.object) (some_is (birth_of p) d k))
+
+-- ---- birth by birth
+
+got_at : {X : Type 0} (xs rest : List X) (x : X) → slice_get (xs ++ x ∷ rest) (length xs) ≡ Some x
+got_at [] rest x = refl
+got_at (y ∷ xs) rest x = got_at xs rest x
+
+apart_behind : (b : Birth) (bs : List Birth) → AreApart (b ∷ bs) → AreApart bs
+apart_behind b bs apart i j c d here there is = let one : suc i ≡ suc j = apart (suc i) (suc j) c d here there is in omega (arith, one)
+
+-- the object of a birth isn't born by those before it
+unborn_front : (xs rest : List Birth) (b : Birth) → AreApart (xs ++ b ∷ rest) → born_in xs b.object ≡ false
+unborn_front [] rest b apart = refl
+unborn_front (x ∷ xs) rest b apart = go (same x.object b.object) refl (unborn_front xs rest b (apart_behind x (xs ++ b ∷ rest) apart))
+  where
+    go : (t : Bool) → same x.object b.object ≡ t → born_in xs b.object ≡ false → (same x.object b.object || born_in xs b.object) ≡ false
+    go true h more = let one : 0 ≡ suc (length xs) = apart 0 (suc (length xs)) x b refl (got_at xs rest b) h in absurd (omega (arith, one))
+    go false h more = ap (λ u. u || born_in xs b.object) h ∙ more
+
+-- the births that were taken, the next one, and those behind
+next_birth : (table : List Birth) (births : List (Placed BirthEntry)) (i : ℕ) (p : Placed BirthEntry) → table ++ births_shown (drop i births) ≡ births_shown births → i < length births → p ≡ get_or births i p
+    → table ++ birth_of p ∷ births_shown (drop (i + 1) births) ≡ births_shown births
+next_birth table births i p all less is =
+    ap (λ (q : Placed BirthEntry). table ++ birth_of q ∷ births_shown (drop (i + 1) births)) is
+    ∙ (ap (λ (es : List (Placed BirthEntry)). table ++ births_shown es) (sym (drop_more births i p less)) ∙ all)
+
+-- so it is where the births before it are taken in turn
+pub unborn_before : (table : List Birth) (births : List (Placed BirthEntry)) (i : ℕ) (p : Placed BirthEntry) → AreApart (births_shown births) → table ++ births_shown (drop i births) ≡ births_shown births → i < length births → p ≡ get_or births i p
+    → born_in table p.object ≡ false
+unborn_before table births i p apart all less is =
+    unborn_front table (births_shown (drop (i + 1) births)) (birth_of p) (subst AreApart (sym (next_birth table births i p all less is)) apart)
+
+-- one birth more is taken
+pub birth_taken : (table new : List Birth) (births : List (Placed BirthEntry)) (i : ℕ) (p : Placed BirthEntry) (owners : List Object) → table ++ births_shown (drop i births) ≡ births_shown births → i < length births → p ≡ get_or births i p
+    → owners ≡ owners_kept p.value.owners → new ≡ table ++ record { object = p.object; created = p.value.created; owners = owners } ∷ [] → new ++ births_shown (drop (i + 1) births) ≡ births_shown births
+birth_taken table new births i p owners all less is from more =
+    let rest = births_shown (drop (i + 1) births) in
+    ap (λ (bs : List Birth). bs ++ rest) (more ∙ ap (λ (os : List Object). table ++ record { object = p.object; created = p.value.created; owners = os } ∷ []) from)
+    ∙ (append_assoc table (birth_of p ∷ []) rest ∙ next_birth table births i p all less is)
+
+-- all are taken
+pub births_taken : (table : List Birth) (births : List (Placed BirthEntry)) (i : ℕ) → table ++ births_shown (drop i births) ≡ births_shown births → length births ≤ i → table ≡ births_shown births
+births_taken table births i all past =
+    sym (append-nil table) ∙ (ap (λ (es : List (Placed BirthEntry)). table ++ births_shown es) (sym (drop_all i births past)) ∙ all)

@@ -3,14 +3,17 @@ use Rattle.std.proofs.Common.{◌≡◌, ◌≤◌, ℕ, ◌==◌, ◌%◌, ◌/
 use Rattle.std.proofs.lemmas.Bool.{eqb-true, eq-eqb, ltb-false}
 use Rattle.std.proofs.lemmas.Grind.{common_steps}
 use Rattle.std.specs.Prelude.{Vec, nat_lt, slice_get}
+use Rattle.std.specs.HashMap.{get}
+use Rattle.std.specs.Map.{lookup}
 use Rattle.std.specs.Option.{option_map_or}
 use Rattle.command_tables.specs.declared.types.ObjectType.{ObjectType}
 use Rattle.command_tables.specs.Tests.{same_type}
 use Rattle.object_model.specs.declared.Object.{Object}
 use Rattle.object_model.specs.Objects.{same}
 use Rattle.session_tables.specs.declared.object_places.Filed.{Filed}
+use Rattle.session_tables.specs.declared.object_places.ObjectPlaces.{ObjectPlaces}
 use Rattle.session_tables.specs.Dense.{cell, cell_in, has_cell}
-use Rattle.session_tables.specs.Filing.{filed, is_filed_for, is_open, no_place}
+use Rattle.session_tables.specs.Filing.{filed, is_filed_for, is_open, kept, no_place}
 use Rattle.session_tables.proofs.Objects.{same-true, type_is}
 
 and_true : (a b : Bool) → (a && b) ≡ true → (a ≡ true) × (b ≡ true)
@@ -107,3 +110,9 @@ held_open {A = A} rows row at ty e = (open_for (cell no_place rows row at).ty e,
 -- what isn't filed for the type stands in the map
 pub held_far : (f : Filed) (ty : ObjectType) (other : Option ℕ) → is_filed_for f ty ≡ false → filed f ty other ≡ other
 held_far f ty other e = ap (λ u. cond u (Some f.place) other) e
+
+-- what stands in the same rows, and else in the same map, is kept the same
+pub kept_same : (m n : ObjectPlaces) → ((empty : Filed) (row at : ℕ) → cell empty n.rows.items row at ≡ cell empty m.rows.items row at) → n.others.entries ≡ m.others.entries → (o : Object) → kept n o ≡ kept m o
+kept_same m n rows others o =
+    ap (λ (f : Filed). filed f o.ty (get same n.others o)) (rows no_place (o.number % 2048) (o.number / 2048))
+    ∙ ap (λ es. filed (cell no_place m.rows.items (o.number % 2048) (o.number / 2048)) o.ty (lookup (same o) es)) others

@@ -1,6 +1,7 @@
 pub mod Lists
 pub mod Objects
 pub mod Same
+pub mod Rows
 pub mod FilingLemmas
 pub mod Names
 pub mod PlacedLemmas

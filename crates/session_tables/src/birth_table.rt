@@ -2,11 +2,11 @@
 ghost use Rattle.std.specs.Prelude.{◌≡◌, ◌++◌, ◌∷◌, ◌<◌, ◌^◌, [], OnOk, OnErr, false, length};
 ghost use Rattle.object_model.specs.Objects.{same};
 ghost use Rattle.object_model.specs.History.{born_in, created_in, owners_in};
-ghost use Rattle.session_tables.specs.Births.{AreApart};
+ghost use Rattle.session_tables.specs.Births.{AreApart, births_shown};
 ghost use Rattle.session_tables.specs.Lined.{AreLeft};
 
 use crate::owner_list::OwnerList;
-use crate::placed_table::PlacedTable;
+use crate::placed_table::{Placed, PlacedTable};
 use object_model::Object;
 use std::alloc::{AllocError, Global};
 use std::marker::Model;
@@ -53,6 +53,14 @@ impl BirthTable {
         ensures apart { AreApart self.now }
     {
         self.births.entries.as_slice().len()
+    }
+
+    /// The births, each with its object.
+    pub(crate) fn entries(&self) -> &[Placed<BirthEntry>]
+        ensures births { births_shown result.now ≡ self.now }
+        ensures apart { AreApart self.now }
+    {
+        self.births.entries.as_slice()
     }
 
     /// Whether an object was born.

@@ -24,6 +24,17 @@ pub fn value_at<V: Copy>(rows: &[Vec<V>], row: usize, at: usize, empty: V) -> V
     }
 }
 
+/// Rows of their own with the same values.
+pub fn copy_rows<V: Copy + Drop>(alloc: Global, rows: &[Vec<V>]) -> Result<Vec<Vec<V>>, AllocError>
+    ensures { IfOk result (λ copies. (empty : V) (r n : ℕ) → cell empty copies.items r n ≡ cell empty rows.now r n) }
+{
+    let mut copies = Vec::new(alloc);
+    for row in rows {
+        copies.push(Vec::from_slice(alloc, row)?)?;
+    }
+    Ok(copies)
+}
+
 // There are rows up to this one.
 fn add_rows<V: Copy + Drop>(
     alloc: Global,

@@ -6,7 +6,7 @@
 
 mod birth_table;
 mod dense;
-mod name_table;
+mod named_table;
 mod object_list;
 mod object_places;
 mod object_table;
@@ -19,7 +19,7 @@ mod retrieved_table;
 
 pub use birth_table::BirthTable;
 pub use dense::place_behind;
-pub use name_table::NameTable;
+pub use named_table::NamedTable;
 pub use object_list::ObjectList;
 pub use object_places::ObjectPlaces;
 pub use object_table::ObjectTable;

@@ -1,5 +1,5 @@
 // Objects in a row.
-ghost use Rattle.std.specs.Prelude.{◌≡◌, ◌≤◌, ◌<◌, ◌++◌, ◌∷◌, [], length, slice_get, Some, IsOk, OnOk, OnErr};
+ghost use Rattle.std.specs.Prelude.{◌≡◌, ◌≤◌, ◌<◌, ◌++◌, ◌∷◌, [], length, slice_get, Some, IsOk, IfOk, OnOk, OnErr};
 
 use command_tables::ObjectType;
 use object_model::Object;
@@ -32,6 +32,17 @@ impl ObjectList {
             types: Vec::new(alloc),
             numbers: Vec::new(alloc),
         }
+    }
+
+    /// A list of its own with the same objects. Of room nothing is said.
+    pub fn copy(&self) -> Result<ObjectList, AllocError>
+        ensures { IfOk result (λ copy. copy.objects ≡ self.now.objects) }
+    {
+        let alloc = *self.numbers.allocator();
+        Ok(ObjectList {
+            types: Vec::from_slice(alloc, &self.types)?,
+            numbers: Vec::from_slice(alloc, &self.numbers)?,
+        })
     }
 
     /// The object in a place, counted from 0.

@@ -1,12 +1,12 @@
 // Places of objects in a list.
-ghost use Rattle.std.specs.Prelude.{◌≡◌, ◌%◌, ◌/◌, None, Some, OnOk, OnErr, if◌then◌else◌, is_some, true};
+ghost use Rattle.std.specs.Prelude.{◌≡◌, ◌%◌, ◌/◌, None, Some, IfOk, OnOk, OnErr, if◌then◌else◌, is_some, true};
 ghost use Rattle.std.specs.HashMap.{get};
 ghost use Rattle.object_model.specs.declared.Object.{Object};
 ghost use Rattle.object_model.specs.Objects.{same};
 ghost use Rattle.session_tables.specs.Dense.{cell};
 ghost use Rattle.session_tables.specs.Filing.{is_filed_for, is_open, kept, no_place};
 
-use crate::dense::{overwrite, put_value, value_at};
+use crate::dense::{copy_rows, overwrite, put_value, value_at};
 use command_tables::ObjectType;
 use object_model::Object;
 use std::alloc::{AllocError, Global};
@@ -74,6 +74,17 @@ impl ObjectPlaces {
             others: HashMap::new(alloc),
             alloc,
         }
+    }
+
+    /// Places of their own for the same objects.
+    pub fn copy(&self) -> Result<ObjectPlaces, AllocError>
+        ensures { IfOk result (λ copy. (o : Object) → kept copy o ≡ kept self.now o) }
+    {
+        Ok(ObjectPlaces {
+            rows: copy_rows(self.alloc, &self.rows)?,
+            others: self.others.clone()?,
+            alloc: self.alloc,
+        })
     }
 
     // What is filed where an object's place stands.

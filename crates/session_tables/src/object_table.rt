@@ -1,21 +1,21 @@
 // The objects that live, by their births.
-ghost use Rattle.std.specs.Prelude.{◌≡◌, ◌++◌, ◌∷◌, ◌<◌, ◌^◌, ◌&&◌, [], OnOk, if◌then◌else◌, true, false, length, map};
+ghost use Rattle.std.specs.Prelude.{◌≡◌, ◌++◌, ◌∷◌, ◌<◌, ◌^◌, ◌&&◌, [], IfOk, OnOk, if◌then◌else◌, true, false, length, map};
 ghost use Rattle.std.specs.List.{list_any, filter_map};
 ghost use Rattle.std.specs.Option.{option_map_or};
 ghost use Rattle.object_model.specs.declared.Object.{Object};
 ghost use Rattle.object_model.specs.Objects.{same, is_in, object_of};
 ghost use Rattle.object_model.specs.History.{births_given, births_of, born_in, created_in, ends_by, ends_with, owners_given, owners_in};
 ghost use Rattle.replay_model.specs.Past.{objects_of};
-ghost use Rattle.session_tables.specs.Births.{AreApart};
+ghost use Rattle.session_tables.specs.Births.{AreApart, births_shown};
 ghost use Rattle.session_tables.specs.Lined.{AreAdded, AreLeft, AreLined};
 ghost use Rattle.session_tables.specs.Owned.{listed_in};
 ghost use Rattle.session_tables.specs.Placed.{ArePlaced};
 ghost use Rattle.session_tables.specs.Shown.{args_shown};
 
-use crate::birth_table::BirthTable;
+use crate::birth_table::{BirthEntry, BirthTable};
 use crate::owned_list::{OwnedList, list_at_each};
 use crate::owners::{arguments_at, fill_owners, object_in_place};
-use crate::placed_table::PlacedTable;
+use crate::placed_table::{Placed, PlacedTable};
 use command_tables::{Effect, OwnerOf};
 use object_model::{Argument, Object};
 use replay_model::Born;
@@ -88,6 +88,23 @@ fn end_each(
     }
 }
 
+// A table with these births. It lists nothing that has ended.
+fn with_births(alloc: Global, births: &[Placed<BirthEntry>]) -> Result<ObjectTable, AllocError>
+    requires { AreApart (births_shown births.now) }
+    ensures { IfOk result (λ table. table ≡ births_shown births.now) }
+{
+    let mut table = ObjectTable::new(alloc);
+    for birth in births {
+        table.add_new(
+            alloc,
+            birth.object,
+            birth.value.created,
+            birth.value.owners.as_slice(),
+        )?;
+    }
+    Ok(table)
+}
+
 impl ObjectTable {
     pub fn new(alloc: Global) -> ObjectTable
         ensures { result ≡ [] }
@@ -97,6 +114,13 @@ impl ObjectTable {
             lists: PlacedTable::new(alloc),
             owners: Vec::new(alloc),
         }
+    }
+
+    /// A table of its own with the same births.
+    pub fn copy(&self) -> Result<ObjectTable, AllocError>
+        ensures { IfOk result (λ copy. copy ≡ self.now) }
+    {
+        with_births(*self.owners.allocator(), self.births.entries())
     }
 
     /// How many objects live.

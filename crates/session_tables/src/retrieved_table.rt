@@ -4,7 +4,7 @@ ghost use Rattle.std.specs.List.{find};
 ghost use Rattle.std.specs.Option.{option_map};
 ghost use Rattle.replay_model.specs.Births.{is_kept};
 ghost use Rattle.session_tables.specs.declared.retrieved_map.RetrievedKey.{RetrievedKey};
-ghost use Rattle.session_tables.specs.Retrieved.{object_for, retrieval_of, same_key};
+ghost use Rattle.session_tables.specs.Retrieved.{object_for, retrieval_of, retrieved_shown, same_key};
 
 use crate::retrieved_map::{RetrievedKey, RetrievedMap};
 use object_model::Object;
@@ -71,6 +71,28 @@ fn keep_first(index: &mut RetrievedMap, key: RetrievedKey, object: Object) -> Re
     }
 }
 
+fn copy_entry(alloc: Global, entry: &RetrievedEntry) -> Result<RetrievedEntry, AllocError>
+    ensures { IfOk result (λ copy. retrieval_of copy ≡ retrieval_of entry.now) }
+{
+    Ok(RetrievedEntry {
+        owner: entry.owner,
+        place: entry.place,
+        payload: Vec::from_slice(alloc, &entry.payload)?,
+        object: entry.object,
+    })
+}
+
+// A table with these objects.
+fn with_entries(alloc: Global, entries: &[RetrievedEntry]) -> Result<RetrievedTable, AllocError>
+    ensures { IfOk result (λ table. table ≡ retrieved_shown entries.now) }
+{
+    let mut table = RetrievedTable::new(alloc);
+    for entry in entries {
+        table.push(alloc, copy_entry(alloc, entry)?)?;
+    }
+    Ok(table)
+}
+
 impl RetrievedTable {
     pub fn new(alloc: Global) -> RetrievedTable
         ensures { result ≡ [] }
@@ -79,6 +101,13 @@ impl RetrievedTable {
             list: Vec::new(alloc),
             index: RetrievedMap::new(alloc),
         }
+    }
+
+    /// A table of its own with the same objects.
+    pub fn copy(&self) -> Result<RetrievedTable, AllocError>
+        ensures { IfOk result (λ copy. copy ≡ self.now) }
+    {
+        with_entries(*self.list.allocator(), &self.list)
     }
 
     /// The object with a key, if there is one.

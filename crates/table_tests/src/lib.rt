@@ -7,4 +7,6 @@ mod map_tests;
 #[cfg(test)]
 mod record_tests;
 #[cfg(test)]
+mod session_copy_tests;
+#[cfg(test)]
 mod session_table_tests;

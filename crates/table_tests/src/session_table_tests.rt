@@ -3,7 +3,7 @@ use command_tables::{Effect, ObjectType, OwnerOf};
 use object_model::{Argument, Object};
 use replay_model::{Born, Named};
 use session_tables::{
-    NameTable, ObjectList, ObjectPlaces, ObjectTable, RetrievedEntry, RetrievedKey, RetrievedTable,
+    NamedTable, ObjectList, ObjectPlaces, ObjectTable, RetrievedEntry, RetrievedKey, RetrievedTable,
 };
 use std::alloc::Global;
 use std::test::Fail;
@@ -13,11 +13,11 @@ const LAST_THREAD: u32 = 1_024;
 
 const LAST_NUMBER: u32 = 4_194_304;
 
-fn name(thread: u32, number: u32) -> Name {
+pub(crate) fn name(thread: u32, number: u32) -> Name {
     Name { thread, number }
 }
 
-fn object(ty: ObjectType, name: Name) -> Object {
+pub(crate) fn object(ty: ObjectType, name: Name) -> Object {
     Object {
         ty,
         number: u64::from(name.number) * 2048 + u64::from(name.thread),
@@ -26,7 +26,7 @@ fn object(ty: ObjectType, name: Name) -> Object {
 
 #[test]
 fn names(rt: HostRuntime) -> Result<(), Fail> {
-    let mut table = NameTable::new(rt.alloc());
+    let mut table = NamedTable::new(rt.alloc());
     let first = object(ObjectType::Instance, name(1, 1));
     for number in 1..10_001 {
         let named = Named {
@@ -112,7 +112,7 @@ fn objects_in_a_row(rt: HostRuntime) -> Result<(), Fail> {
 }
 
 // What a call makes of these types and names, below its first argument.
-fn made(
+pub(crate) fn made(
     alloc: Global,
     objects: &mut ObjectTable,
     ty: ObjectType,
@@ -208,7 +208,12 @@ fn objects(rt: HostRuntime) -> Result<(), Fail> {
     Ok(())
 }
 
-fn key(alloc: Global, ty: ObjectType, place: usize, payload: &[u8]) -> Result<RetrievedKey, Fail> {
+pub(crate) fn key(
+    alloc: Global,
+    ty: ObjectType,
+    place: usize,
+    payload: &[u8],
+) -> Result<RetrievedKey, Fail> {
     Ok(RetrievedKey {
         ty,
         owner: object(ObjectType::Device, name(1, 1)),
@@ -217,7 +222,7 @@ fn key(alloc: Global, ty: ObjectType, place: usize, payload: &[u8]) -> Result<Re
     })
 }
 
-fn retrieved(
+pub(crate) fn retrieved(
     alloc: Global,
     table: &mut RetrievedTable,
     place: usize,

@@ -8,4 +8,4 @@ use Rattle.chain_session.proofs.started.Started.new.Goals as goal
 pub returns : goal.returns
 returns g c =
     let many : c.len.result ≡ length c.args.setup.now.drivers.list.items = search rules in
-    c.nothing-kept.ensures.shows (trace_setup (setup_content c.args.setup.now)) (many ∙ sym (length-map c.args.setup.now.drivers.list.items found_driver))
+    c.nothing.ensures.shows (trace_setup (setup_content c.args.setup.now)) (many ∙ sym (length-map c.args.setup.now.drivers.list.items found_driver))

@@ -3,7 +3,7 @@ use Rattle.replay_model.specs.Past.{object_in}
 use Rattle.session_tables.specs.Dense.{cell}
 use Rattle.session_tables.specs.Shown.{place_before}
 use Rattle.session_tables.proofs.Names.{before_is, first_found, first_missing, first_within}
-use Rattle.session_tables.proofs.name_table.NameTable.object_named.Goals as goal
+use Rattle.session_tables.proofs.named_table.NamedTable.object_named.Goals as goal
 
 pub returns-then-link-eq0 : goal.returns-then-link-eq0
 returns-then-link-eq0 c =

@@ -1,6 +1,6 @@
 use Rattle.std.proofs.Common.{◌∙◌, ap, sym, length}
 use Rattle.session_tables.proofs.Names.{named_len}
-use Rattle.session_tables.proofs.name_table.NameTable.len.Goals as goal
+use Rattle.session_tables.proofs.named_table.NamedTable.len.Goals as goal
 
 pub returns-clause-len : goal.returns-clause-len
 returns-clause-len c =

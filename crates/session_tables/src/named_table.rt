@@ -1,12 +1,12 @@
 // Names with their objects.
-ghost use Rattle.std.specs.Prelude.{◌≡◌, ◌<◌, ◌^◌, ◌++◌, ◌∷◌, [], length, None, Some, OnOk, OnErr, if◌then◌else◌};
+ghost use Rattle.std.specs.Prelude.{◌≡◌, ◌<◌, ◌^◌, ◌++◌, ◌∷◌, [], length, None, Some, IfOk, OnOk, OnErr, if◌then◌else◌};
 ghost use Rattle.std.specs.Option.{option_or};
 ghost use Rattle.trace_format.specs.declared.event.Name.{Name};
 ghost use Rattle.trace_format.specs.Accepting.{same_name};
 ghost use Rattle.replay_model.specs.Past.{object_in};
 ghost use Rattle.session_tables.specs.Shown.{place_at};
 
-use crate::dense::{place_behind, put_value, value_at};
+use crate::dense::{copy_rows, place_behind, put_value, value_at};
 use crate::object_list::ObjectList;
 use object_model::Object;
 use replay_model::Named;
@@ -16,7 +16,7 @@ use trace_format::Name;
 
 /// The names that stand for objects, the oldest first; 4,294,967,295 at most.
 #[derive(Drop)]
-pub struct NameTable {
+pub struct NamedTable {
     names: Vec<Name>,
     objects: ObjectList,
     // One more than the place of a name's first object, or 0: in the row of the name's thread, at its number.
@@ -24,7 +24,7 @@ pub struct NameTable {
     alloc: Global,
 }
 
-impl Model for NameTable {
+impl Model for NamedTable {
     ghost use Rattle.std.specs.Prelude.{◌≡◌, List, length};
     ghost use Rattle.trace_format.specs.declared.event.Name.{Name};
     ghost use Rattle.replay_model.specs.declared.Named.{Named};
@@ -58,16 +58,28 @@ fn keep_first(
     Ok(())
 }
 
-impl NameTable {
-    pub fn new(alloc: Global) -> NameTable
+impl NamedTable {
+    pub fn new(alloc: Global) -> NamedTable
         ensures { result ≡ [] }
     {
-        NameTable {
+        NamedTable {
             names: Vec::new(alloc),
             objects: ObjectList::new(alloc),
             places: Vec::new(alloc),
             alloc,
         }
+    }
+
+    /// A table of its own with the same names.
+    pub fn copy(&self) -> Result<NamedTable, AllocError>
+        ensures { IfOk result (λ copy. copy ≡ self.now) }
+    {
+        Ok(NamedTable {
+            names: Vec::from_slice(self.alloc, &self.names)?,
+            objects: self.objects.copy()?,
+            places: copy_rows(self.alloc, &self.places)?,
+            alloc: self.alloc,
+        })
     }
 
     /// How many names there are.

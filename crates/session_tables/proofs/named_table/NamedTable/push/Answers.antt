@@ -7,7 +7,7 @@ use Rattle.replay_model.specs.declared.Named.{Named}
 use Rattle.session_tables.specs.Columns.{named_shown}
 use Rattle.session_tables.specs.Shown.{first_at}
 use Rattle.session_tables.proofs.Names.{first_more, longer, named_more}
-use Rattle.session_tables.proofs.name_table.NameTable.push.Goals as goal
+use Rattle.session_tables.proofs.named_table.NamedTable.push.Goals as goal
 
 pub invariant_of-self-2 : goal.invariant_of-self-2
 invariant_of-self-2 c =

@@ -1,0 +1,25 @@
+-- Rows that hold the same values.
+use Rattle.std.proofs.Common.{◌≡◌, ◌∙◌, ◌≤◌, ◌++◌, ℕ, zero, suc, List, [], ◌∷◌, drop, length, map, refl, sym, ap}
+use Rattle.std.specs.Prelude.{Vec, slice_get}
+use Rattle.std.specs.Option.{option_map_or}
+use Rattle.std.proofs.lemmas.List.{append-nil, drop_all}
+use Rattle.session_tables.specs.Dense.{cell, cell_in}
+
+-- a place by the items of the rows
+by_items : {X A : Type 0} (empty : X) (rows : List (Vec X A)) (row at : ℕ) → cell empty rows row at ≡ option_map_or (λ (xs : List X). cell_in empty xs at) (slice_get (map (λ (r : Vec X A). r.items) rows) row) empty
+by_items empty [] row at = refl
+by_items empty (r ∷ rows) zero at = refl
+by_items empty (r ∷ rows) (suc row) at = by_items empty rows row at
+
+-- rows with the same items have the same values in their places
+cells_same : {X A : Type 0} (xs ys : List (Vec X A)) → map (λ (r : Vec X A). r.items) xs ≡ map (λ (r : Vec X A). r.items) ys → (empty : X) (row at : ℕ) → cell empty xs row at ≡ cell empty ys row at
+cells_same {X = X} xs ys same empty row at =
+    by_items empty xs row at
+    ∙ (ap (λ (rs : List (List X)). option_map_or (λ (cells : List X). cell_in empty cells at) (slice_get rs row) empty) same ∙ sym (by_items empty ys row at))
+
+-- so it is when they were copied up to the last
+pub rows_copied : {X A : Type 0} (copies rows : List (Vec X A)) (n : ℕ) → length rows ≤ n
+    → map (λ (r : Vec X A). r.items) copies ++ map (λ (r : Vec X A). r.items) (drop n rows) ≡ map (λ (r : Vec X A). r.items) rows → (empty : X) (row at : ℕ) → cell empty copies row at ≡ cell empty rows row at
+rows_copied {X = X} {A = A} copies rows n all so =
+    let items : List (Vec X A) → List (List X) = map (λ (r : Vec X A). r.items) in
+    cells_same copies rows (sym (append-nil (items copies)) ∙ (ap (λ (rest : List (Vec X A)). items copies ++ items rest) (sym (drop_all n rows all)) ∙ so))
