@@ -13,6 +13,7 @@ pub mod Walked
 pub mod Below
 pub mod Sweeping
 pub mod Listing
+pub mod Fitting
 pub mod Padding
 pub mod SeenQueues
 pub mod Compacted

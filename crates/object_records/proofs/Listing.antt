@@ -80,18 +80,26 @@ reverse_one true false o = refl
 reverse_one false true o = refl
 reverse_one false false o = refl
 
+-- of what is left to walk, what the next record lists comes last
+pub list_parted : (rs : List ObjectRecord) (t : ObjectType) (place : ℕ) (start now : List Object) (link at : ℕ) (r : ObjectRecord) → AreOnce (objects_kept rs) → (w : IsListed rs t place start now link) → link ≡ suc at → slice_get rs at ≡ Some r
+    → living_of rs (owned_of_type (take w.left rs) t place) ≡ living_of rs (owned_of_type (take at rs) t place) ++ cond r.lives (alone_if t r.object) []
+list_parted rs t place start now link at r once w is here =
+    let step = latest rs t place w.left at (sym w.next ∙ is) in
+    let same : step.kept ≡ r = same_Some step.kept r (sym step.here ∙ here) in
+    let owned : owned_of_type (take w.left rs) t place ≡ owned_of_type (take at rs) t place ++ alone_if t r.object
+    = step.owned ∙ ap (λ (y : ObjectRecord). owned_of_type (take at rs) t place ++ alone_if t y.object) same in
+    let alone : living_of rs (alone_if t r.object) ≡ cond r.lives (alone_if t r.object) [] = one_kept (λ x. is_in (living_kept rs) x) (same_type r.object.ty t) r.lives r.object (lives_at rs at r once here) in
+    ap (λ (os : List Object). living_of rs os) owned
+    ∙ (filter-append (λ x. is_in (living_kept rs) x) (owned_of_type (take at rs) t place) (alone_if t r.object) ∙ ap (λ (os : List Object). living_of rs (owned_of_type (take at rs) t place) ++ os) alone)
+
 pub list_goes : (rs : List ObjectRecord) (t : ObjectType) (place : ℕ) (start now next : List Object) (link at before : ℕ) (r : ObjectRecord) → AreOnce (objects_kept rs) → IsListed rs t place start now link → link ≡ suc at
     → slice_get rs at ≡ Some r → IsPrevious rs at before → next ≡ now ++ cond r.lives (alone_if t r.object) [] → IsListed rs t place start next before
 list_goes rs t place start now next link at before r once w is here previous more =
     let step = latest rs t place w.left at (sym w.next ∙ is) in
     let same : step.kept ≡ r = same_Some step.kept r (sym step.here ∙ here) in
-    let owned : owned_of_type (take w.left rs) t place ≡ owned_of_type (take at rs) t place ++ alone_if t r.object
-    = step.owned ∙ ap (λ (y : ObjectRecord). owned_of_type (take at rs) t place ++ alone_if t y.object) same in
     let rest : List Object = living_of rs (owned_of_type (take at rs) t place) in
     let one : List Object = cond r.lives (alone_if t r.object) [] in
-    let alone : living_of rs (alone_if t r.object) ≡ one = one_kept (λ x. is_in (living_kept rs) x) (same_type r.object.ty t) r.lives r.object (lives_at rs at r once here) in
-    let split : living_of rs (owned_of_type (take w.left rs) t place) ≡ rest ++ one
-    = ap (λ (os : List Object). living_of rs os) owned ∙ (filter-append (λ x. is_in (living_kept rs) x) (owned_of_type (take at rs) t place) (alone_if t r.object) ∙ ap (λ (os : List Object). rest ++ os) alone) in record {
+    let split : living_of rs (owned_of_type (take w.left rs) t place) ≡ rest ++ one = list_parted rs t place start now link at r once w is here in record {
       left = at;
       next = previous r here ∙ ap (λ (k : KeptOwner). link_by (take at rs) k) (ap (λ (y : ObjectRecord). y.owner) (sym same) ∙ step.owner);
       added = ap (λ (os : List Object). os ++ reverse rest) more

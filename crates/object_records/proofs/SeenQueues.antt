@@ -62,7 +62,7 @@ seen_owned (r ∷ rs) place = go (same_type r.object.ty ty.Queue) (seen_owned rs
     go false ih = ih
 
 -- what has its owner at a place so is a queue
-seen_queue : (r : ObjectRecord) (place : ℕ) → queue_owner r ≡ At place → same_type r.object.ty ty.Queue ≡ true
+pub seen_queue : (r : ObjectRecord) (place : ℕ) → queue_owner r ≡ At place → same_type r.object.ty ty.Queue ≡ true
 seen_queue r place e = go (same_type r.object.ty ty.Queue) e
   where
     go : (u : Bool) → cond u r.owner Nobody ≡ At place → u ≡ true

@@ -1,5 +1,5 @@
 // What an object owns that lives.
-ghost use Rattle.std.specs.Prelude.{◌≡◌, ◌<◌, ◌++◌, [], filter, if◌then◌else◌, length, reverse, OnOk};
+ghost use Rattle.std.specs.Prelude.{◌≡◌, ◌≤◌, ◌<◌, ◌+◌, ◌++◌, [], filter, if◌then◌else◌, length, reverse, vec_capacity, IsOk, OnOk};
 ghost use Rattle.object_model.specs.Objects.{is_in};
 ghost use Rattle.object_model.specs.Uses.{owned_in};
 ghost use Rattle.object_records.specs.Links.{alone_if, owned_of_type};
@@ -20,7 +20,9 @@ fn note_living_owned(
     out: &mut Vec<Object>,
 ) -> Result<(), NoMemory>
     requires { place < length table.now.records }
-    ensures { OnOk result (out.new.items ≡ out.old.items ++ filter (λ o. is_in (living_kept table.now.records) o) (owned_at (births_kept table.now.records) ty owner place)) }
+    ensures added { OnOk result (out.new.items ≡ out.old.items ++ filter (λ o. is_in (living_kept table.now.records) o) (owned_at (births_kept table.now.records) ty owner place)) }
+    ensures succeeds { length out.old.items + length (filter (λ o. is_in (living_kept table.now.records) o) (owned_at (births_kept table.now.records) ty owner place)) ≤ vec_capacity out.old → IsOk result }
+    ensures room { vec_capacity out.old ≤ vec_capacity out.new }
 {
     let kept = table.record(place);
     if !kept.lives {
@@ -38,7 +40,9 @@ fn list_among_all(
     owner: Object,
     out: &mut Vec<Object>,
 ) -> Result<(), NoMemory>
-    ensures { OnOk result (out.new.items ≡ out.old.items ++ filter (λ o. is_in (living_kept table.now.records) o) (owned_in (births_kept table.now.records) ty owner)) }
+    ensures added { OnOk result (out.new.items ≡ out.old.items ++ filter (λ o. is_in (living_kept table.now.records) o) (owned_in (births_kept table.now.records) ty owner)) }
+    ensures succeeds { length out.old.items + length (filter (λ o. is_in (living_kept table.now.records) o) (owned_in (births_kept table.now.records) ty owner)) ≤ vec_capacity out.old → IsOk result }
+    ensures room { vec_capacity out.old ≤ vec_capacity out.new }
 {
     for i in 0..table.len() {
         note_living_owned(table, i, ty, owner, out)?;
@@ -48,7 +52,9 @@ fn list_among_all(
 
 // The object of a record is noted where it lives and has this type.
 fn note_living(kept: ObjectRecord, ty: ObjectType, out: &mut Vec<Object>) -> Result<(), NoMemory>
-    ensures { OnOk result (out.new.items ≡ out.old.items ++ (if kept.lives then alone_if ty kept.object else [])) }
+    ensures added { OnOk result (out.new.items ≡ out.old.items ++ (if kept.lives then alone_if ty kept.object else [])) }
+    ensures succeeds { length out.old.items + length (if kept.lives then alone_if ty kept.object else []) ≤ vec_capacity out.old → IsOk result }
+    ensures room { vec_capacity out.old ≤ vec_capacity out.new }
 {
     if kept.lives {
         note_of_type(kept.object, ty, out)?;
@@ -64,7 +70,9 @@ fn add_linked(
     out: &mut Vec<Object>,
 ) -> Result<(), NoMemory>
     requires { place < length table.now.records }
-    ensures { OnOk result (out.new.items ≡ out.old.items ++ reverse (filter (λ o. is_in (living_kept table.now.records) o) (owned_of_type table.now.records ty place))) }
+    ensures added { OnOk result (out.new.items ≡ out.old.items ++ reverse (filter (λ o. is_in (living_kept table.now.records) o) (owned_of_type table.now.records ty place))) }
+    ensures succeeds { length out.old.items + length (filter (λ o. is_in (living_kept table.now.records) o) (owned_of_type table.now.records ty place)) ≤ vec_capacity out.old → IsOk result }
+    ensures room { vec_capacity out.old ≤ vec_capacity out.new }
 {
     let passed = table.passed(place);
     let mut link = table.last_owned(place);
@@ -84,7 +92,9 @@ fn list_linked(
     out: &mut Vec<Object>,
 ) -> Result<(), NoMemory>
     requires { place < length table.now.records }
-    ensures { OnOk result (out.new.items ≡ out.old.items ++ filter (λ o. is_in (living_kept table.now.records) o) (owned_of_type table.now.records ty place)) }
+    ensures added { OnOk result (out.new.items ≡ out.old.items ++ filter (λ o. is_in (living_kept table.now.records) o) (owned_of_type table.now.records ty place)) }
+    ensures succeeds { length out.old.items + length (filter (λ o. is_in (living_kept table.now.records) o) (owned_of_type table.now.records ty place)) ≤ vec_capacity out.old → IsOk result }
+    ensures room { vec_capacity out.old ≤ vec_capacity out.new }
 {
     let start = out.len();
     add_linked(table, ty, place, out)?;
@@ -100,7 +110,9 @@ pub(crate) fn list_living(
     owner: Object,
     out: &mut Vec<Object>,
 ) -> Result<(), NoMemory>
-    ensures { OnOk result (out.new.items ≡ out.old.items ++ filter (λ o. is_in (living_kept table.now.records) o) (owned_in (births_kept table.now.records) ty owner)) }
+    ensures added { OnOk result (out.new.items ≡ out.old.items ++ filter (λ o. is_in (living_kept table.now.records) o) (owned_in (births_kept table.now.records) ty owner)) }
+    ensures succeeds { length out.old.items + length (filter (λ o. is_in (living_kept table.now.records) o) (owned_in (births_kept table.now.records) ty owner)) ≤ vec_capacity out.old → IsOk result }
+    ensures room { vec_capacity out.old ≤ vec_capacity out.new }
 {
     if table.has_strays() {
         return list_among_all(table, ty, owner, out);

@@ -1,5 +1,5 @@
 // Looking into the records of what was born.
-ghost use Rattle.std.specs.Prelude.{◌≡◌, ◌≤◌, ◌<◌, ◌++◌, Some, false, drop, find, length, map, reverse, slice_get, take, OnOk};
+ghost use Rattle.std.specs.Prelude.{◌≡◌, ◌≤◌, ◌<◌, ◌+◌, ◌++◌, Some, false, drop, find, length, map, reverse, slice_get, take, vec_capacity, IsOk, OnOk};
 ghost use Rattle.std.specs.Option.{option_map_or};
 ghost use Rattle.object_model.specs.Objects.{are_same, is_in, same};
 ghost use Rattle.object_model.specs.History.{born_in, children_in, created_in, device_in, owner_in, owners_in};
@@ -228,7 +228,9 @@ pub(crate) fn note_owned(
     out: &mut Vec<Object>,
 ) -> Result<(), NoMemory>
     requires { place < length table.now.records }
-    ensures { OnOk result (out.new.items ≡ out.old.items ++ owned_at (births_kept table.now.records) ty owner place) }
+    ensures added { OnOk result (out.new.items ≡ out.old.items ++ owned_at (births_kept table.now.records) ty owner place) }
+    ensures succeeds { length out.old.items + length (owned_at (births_kept table.now.records) ty owner place) ≤ vec_capacity out.old → IsOk result }
+    ensures room { vec_capacity out.old ≤ vec_capacity out.new }
 {
     let kept = table.record(place);
     if !is_type(kept.object.ty, ty) {
@@ -248,7 +250,9 @@ pub(crate) fn list_among_all(
     owner: Object,
     out: &mut Vec<Object>,
 ) -> Result<(), NoMemory>
-    ensures { OnOk result (out.new.items ≡ out.old.items ++ owned_in (births_kept table.now.records) ty owner) }
+    ensures added { OnOk result (out.new.items ≡ out.old.items ++ owned_in (births_kept table.now.records) ty owner) }
+    ensures succeeds { length out.old.items + length (owned_in (births_kept table.now.records) ty owner) ≤ vec_capacity out.old → IsOk result }
+    ensures room { vec_capacity out.old ≤ vec_capacity out.new }
 {
     for i in 0..table.len() {
         note_owned(table, i, ty, owner, out)?;
@@ -262,7 +266,9 @@ pub(crate) fn note_of_type(
     ty: ObjectType,
     out: &mut Vec<Object>,
 ) -> Result<(), NoMemory>
-    ensures { OnOk result (out.new.items ≡ out.old.items ++ alone_if ty object) }
+    ensures added { OnOk result (out.new.items ≡ out.old.items ++ alone_if ty object) }
+    ensures succeeds { length out.old.items + length (alone_if ty object) ≤ vec_capacity out.old → IsOk result }
+    ensures room { vec_capacity out.old ≤ vec_capacity out.new }
 {
     if is_type(object.ty, ty) {
         out.push(object)?;
@@ -278,7 +284,9 @@ fn add_linked(
     out: &mut Vec<Object>,
 ) -> Result<(), NoMemory>
     requires { place < length table.now.records }
-    ensures { OnOk result (out.new.items ≡ out.old.items ++ reverse (owned_of_type table.now.records ty place)) }
+    ensures added { OnOk result (out.new.items ≡ out.old.items ++ reverse (owned_of_type table.now.records ty place)) }
+    ensures succeeds { length out.old.items + length (owned_of_type table.now.records ty place) ≤ vec_capacity out.old → IsOk result }
+    ensures room { vec_capacity out.old ≤ vec_capacity out.new }
 {
     let mut link = table.last_owned(place);
     while link > 0 {
@@ -307,7 +315,9 @@ pub(crate) fn list_linked(
     out: &mut Vec<Object>,
 ) -> Result<(), NoMemory>
     requires { place < length table.now.records }
-    ensures { OnOk result (out.new.items ≡ out.old.items ++ owned_of_type table.now.records ty place) }
+    ensures added { OnOk result (out.new.items ≡ out.old.items ++ owned_of_type table.now.records ty place) }
+    ensures succeeds { length out.old.items + length (owned_of_type table.now.records ty place) ≤ vec_capacity out.old → IsOk result }
+    ensures room { vec_capacity out.old ≤ vec_capacity out.new }
 {
     let start = out.len();
     add_linked(table, ty, place, out)?;

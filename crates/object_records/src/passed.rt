@@ -76,6 +76,14 @@ fn widen(passed: &mut Vec<u32>, place: usize)
     let _ = passed.resize(place.saturating_add(1), 0);
 }
 
+/// Makes room for notes at so many records behind so many, with no further memory. Where memory is wanting there may be less.
+pub fn reserve_notes(passed: &mut Vec<u32>, count: usize, n: usize)
+    ensures { passed.new.items ≡ passed.old.items }
+{
+    let behind = count.saturating_sub(passed.len());
+    let _ = passed.reserve(behind.saturating_add(n));
+}
+
 /// Makes room for a note at an owner. Owners stand at the front of most traces.
 #[tactic(auto, using(crate::proofs::Passing::none_widened))]
 pub fn widen_for(passed: &mut Vec<u32>, owner: KeptOwner)

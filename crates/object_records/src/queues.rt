@@ -1,5 +1,5 @@
 // What an object owns, dead or not. Its queues are found without what else it owns.
-ghost use Rattle.std.specs.Prelude.{◌≡◌, ◌<◌, ◌++◌, length, reverse, OnOk};
+ghost use Rattle.std.specs.Prelude.{◌≡◌, ◌≤◌, ◌<◌, ◌+◌, ◌++◌, length, reverse, vec_capacity, IsOk, OnOk};
 ghost use Rattle.command_tables.specs.declared.types.ObjectType.TheVariants as ty;
 ghost use Rattle.object_model.specs.Uses.{owned_in};
 ghost use Rattle.object_records.specs.Links.{owned_of_type};
@@ -13,7 +13,9 @@ use object_model::Object;
 // The queues whose owner stands at a place are added, the latest first. Nothing else that it owns is looked at.
 fn add_queues(table: &RecordTable, place: usize, out: &mut Vec<Object>) -> Result<(), NoMemory>
     requires { place < length table.now.records }
-    ensures { OnOk result (out.new.items ≡ out.old.items ++ reverse (owned_of_type table.now.records ty.Queue place)) }
+    ensures added { OnOk result (out.new.items ≡ out.old.items ++ reverse (owned_of_type table.now.records ty.Queue place)) }
+    ensures succeeds { length out.old.items + length (owned_of_type table.now.records ty.Queue place) ≤ vec_capacity out.old → IsOk result }
+    ensures room { vec_capacity out.old ≤ vec_capacity out.new }
 {
     let mut link = table.last_queue(place);
     while link > 0 {
@@ -27,7 +29,9 @@ fn add_queues(table: &RecordTable, place: usize, out: &mut Vec<Object>) -> Resul
 // The queues whose owner stands at a place are added, in order of birth.
 fn list_queues(table: &RecordTable, place: usize, out: &mut Vec<Object>) -> Result<(), NoMemory>
     requires { place < length table.now.records }
-    ensures { OnOk result (out.new.items ≡ out.old.items ++ owned_of_type table.now.records ty.Queue place) }
+    ensures added { OnOk result (out.new.items ≡ out.old.items ++ owned_of_type table.now.records ty.Queue place) }
+    ensures succeeds { length out.old.items + length (owned_of_type table.now.records ty.Queue place) ≤ vec_capacity out.old → IsOk result }
+    ensures room { vec_capacity out.old ≤ vec_capacity out.new }
 {
     let start = out.len();
     add_queues(table, place, out)?;
@@ -43,7 +47,9 @@ fn list_there(
     out: &mut Vec<Object>,
 ) -> Result<(), NoMemory>
     requires { place < length table.now.records }
-    ensures { OnOk result (out.new.items ≡ out.old.items ++ owned_of_type table.now.records ty place) }
+    ensures added { OnOk result (out.new.items ≡ out.old.items ++ owned_of_type table.now.records ty place) }
+    ensures succeeds { length out.old.items + length (owned_of_type table.now.records ty place) ≤ vec_capacity out.old → IsOk result }
+    ensures room { vec_capacity out.old ≤ vec_capacity out.new }
 {
     match ty {
         ObjectType::Queue => list_queues(table, place, out),
@@ -59,7 +65,9 @@ pub(crate) fn list_owned(
     owner: Object,
     out: &mut Vec<Object>,
 ) -> Result<(), NoMemory>
-    ensures { OnOk result (out.new.items ≡ out.old.items ++ owned_in (births_kept table.now.records) ty owner) }
+    ensures added { OnOk result (out.new.items ≡ out.old.items ++ owned_in (births_kept table.now.records) ty owner) }
+    ensures succeeds { length out.old.items + length (owned_in (births_kept table.now.records) ty owner) ≤ vec_capacity out.old → IsOk result }
+    ensures room { vec_capacity out.old ≤ vec_capacity out.new }
 {
     if table.has_strays() {
         return list_among_all(table, ty, owner, out);

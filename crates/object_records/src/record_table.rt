@@ -8,7 +8,7 @@ ghost use Rattle.object_records.specs.Table.{LivesAt, AreOnce, AreOwnersBefore, 
 use crate::kept_owner::has_stray;
 use crate::link_table::LinkTable;
 use crate::links::{Links, may_be_child, queue_owner};
-use crate::passed::{note, noted_at, reopen, widen_for};
+use crate::passed::{note, noted_at, reopen, reserve_notes, widen_for};
 use crate::queue_links::{add_queue_links, queue_links, reserve_queues};
 use crate::record::ObjectRecord;
 use crate::record_list::RecordList;
@@ -108,6 +108,14 @@ impl RecordTable {
         self.records.reserve(n)?;
         self.links.reserve(n)?;
         reserve_queues(&mut self.queues, self.records.len(), n)
+    }
+
+    /// Makes room for notes at so many further records, so that they take no memory.
+    pub fn reserve_notes(&mut self, n: usize)
+        ensures records { self.new.records ≡ self.old.records }
+        ensures spare { self.new.spare ≡ self.old.spare }
+    {
+        reserve_notes(&mut self.passed, self.records.len(), n);
     }
 
     /// Adds the record of an object that has none.

@@ -1,5 +1,5 @@
 //! What a checking part keeps of the objects that it was told of.
-ghost use Rattle.std.specs.Prelude.{◌≡◌, ◌≤◌, ◌+◌, ◌++◌, [], filter, length, map, IfOk, IsOk, OnErr, OnOk};
+ghost use Rattle.std.specs.Prelude.{◌≡◌, ◌≤◌, ◌+◌, ◌++◌, [], filter, length, map, vec_capacity, IfOk, IsOk, OnErr, OnOk};
 ghost use Rattle.command_tables.specs.Table.{row_of};
 ghost use Rattle.command_tables.specs.Tests.{same_type};
 ghost use Rattle.object_model.specs.Objects.{is_in};
@@ -64,8 +64,11 @@ impl ObjectRecords {
         ensures kept { self.new.kept ≡ self.old.kept }
         ensures ok { OnOk result (births ≤ self.new.spare) }
         ensures spare { self.old.spare ≤ self.new.spare }
+        ensures succeeds { births ≤ self.old.spare → IsOk result }
     {
-        self.table.reserve(births)
+        self.table.reserve(births)?;
+        self.table.reserve_notes(births);
+        Ok(())
     }
 
     /// Whether an object was born, by a creation or a retrieval.
@@ -111,27 +114,31 @@ impl ObjectRecords {
     }
 
     /// Adds the objects of a type whose owner is this object, dead ones too, to a list. For queues nothing else that it owns is
-    /// looked at.
+    /// looked at. Takes no memory where the list has room.
     pub fn list_owned(
         &self,
         ty: ObjectType,
         owner: Object,
         out: &mut Vec<Object>,
     ) -> Result<(), NoMemory>
-        ensures { OnOk result (out.new.items ≡ out.old.items ++ owned_in self.now.kept.births ty owner) }
+        ensures added { OnOk result (out.new.items ≡ out.old.items ++ owned_in self.now.kept.births ty owner) }
+        ensures succeeds { length out.old.items + length (owned_in self.now.kept.births ty owner) ≤ vec_capacity out.old → IsOk result }
+        ensures room { vec_capacity out.old ≤ vec_capacity out.new }
     {
         queues::list_owned(&self.table, ty, owner, out)
     }
 
     /// Adds the living objects of a type whose owner is this object to a list. Those that were dead when a call last ended what the
-    /// owner owns aren't looked at, if what it owns owned nothing.
+    /// owner owns aren't looked at, if what it owns owned nothing. Takes no memory where the list has room.
     pub fn list_living(
         &self,
         ty: ObjectType,
         owner: Object,
         out: &mut Vec<Object>,
     ) -> Result<(), NoMemory>
-        ensures { OnOk result (out.new.items ≡ out.old.items ++ filter (λ o. is_in self.now.kept.living o) (owned_in self.now.kept.births ty owner)) }
+        ensures added { OnOk result (out.new.items ≡ out.old.items ++ filter (λ o. is_in self.now.kept.living o) (owned_in self.now.kept.births ty owner)) }
+        ensures succeeds { length out.old.items + length (filter (λ o. is_in self.now.kept.living o) (owned_in self.now.kept.births ty owner)) ≤ vec_capacity out.old → IsOk result }
+        ensures room { vec_capacity out.old ≤ vec_capacity out.new }
     {
         living::list_living(&self.table, ty, owner, out)
     }

@@ -1,20 +1,24 @@
 use Rattle.std.proofs.Common.{◌≡◌, ◌≤◌, ◌-◌, suc, arith}
+use Rattle.object_records.proofs.Fitting.{list_fits}
 use Rattle.object_records.proofs.Listing.{list_begins, list_ends, list_goes, list_within}
 use Rattle.object_records.proofs.Walked.{walk_back}
 use Rattle.object_records.proofs.living.add_linked.Goals as goal
 
 pub loop-link-init : goal.loop-link-init
-loop-link-init c = list_begins c.args.table.now.records c.args.ty c.args.place c.args.out.now.items c.last_owned-link.result c.last_owned-link.ensures.link
+loop-link-init c = record {
+  walk = list_begins c.args.table.now.records c.args.ty c.args.place c.args.out.now.items c.last_owned-link.result c.last_owned-link.ensures.link;
+  room = omega arith;
+}
 
 pub record-requires : goal.record-requires
 record-requires c =
     let is : c.loop-link.link ≡ suc (c.loop-link.link - 1) = omega (arith, c.loop-link-test.true) in
-    list_within c.args.table.now.records c.args.ty c.args.place c.args.out.now.items c.loop-link.out.items c.loop-link.link (c.loop-link.link - 1) c.loop-link.invariant is
+    list_within c.args.table.now.records c.args.ty c.args.place c.args.out.now.items c.loop-link.out.items c.loop-link.link (c.loop-link.link - 1) c.loop-link.invariant.walk is
 
 pub previous-link-requires : goal.previous-link-requires
 previous-link-requires c =
     let is : c.loop-link.link ≡ suc (c.loop-link.link - 1) = omega (arith, c.loop-link-test.true) in
-    list_within c.args.table.now.records c.args.ty c.args.place c.args.out.now.items c.loop-link.out.items c.loop-link.link (c.loop-link.link - 1) c.loop-link.invariant is
+    list_within c.args.table.now.records c.args.ty c.args.place c.args.out.now.items c.loop-link.out.items c.loop-link.link (c.loop-link.link - 1) c.loop-link.invariant.walk is
 
 pub loop-link-smaller : goal.loop-link-smaller
 loop-link-smaller c =
@@ -23,10 +27,18 @@ loop-link-smaller c =
 
 pub loop-link-preserved : goal.loop-link-preserved
 loop-link-preserved c =
-    let is : c.loop-link.link ≡ suc (c.loop-link.link - 1) = omega (arith, c.loop-link-test.true) in
-    list_goes c.args.table.now.records c.args.ty c.args.place c.args.out.now.items c.loop-link.out.items c.note_living.new.out.items c.loop-link.link (c.loop-link.link - 1) c.previous-link.result c.record.result c.record.ensures.once c.loop-link.invariant is
-    c.record.ensures.found c.previous-link.ensures c.in_ok-note_living.ensures
+    let is : c.loop-link.link ≡ suc (c.loop-link.link - 1) = omega (arith, c.loop-link-test.true) in record {
+      walk = list_goes c.args.table.now.records c.args.ty c.args.place c.args.out.now.items c.loop-link.out.items c.note_living.new.out.items c.loop-link.link (c.loop-link.link - 1) c.previous-link.result c.record.result c.record.ensures.once c.loop-link.invariant.walk is
+          c.record.ensures.found c.previous-link.ensures c.in_ok-note_living.ensures.added;
+      room = omega (arith, c.loop-link.invariant.room, c.in_ok-note_living.ensures.room);
+    }
 
-pub returns : goal.returns
-returns c =
-    list_ends c.args.table.now.records c.args.ty c.args.place c.args.out.now.items c.loop-link.out.items c.loop-link.link c.passed-passed.result c.last_owned-link.ensures.once c.loop-link.invariant c.passed-passed.ensures c.loop-link-test.false
+pub returns-clause-added : goal.returns-clause-added
+returns-clause-added c =
+    list_ends c.args.table.now.records c.args.ty c.args.place c.args.out.now.items c.loop-link.out.items c.loop-link.link c.passed-passed.result c.last_owned-link.ensures.once c.loop-link.invariant.walk c.passed-passed.ensures c.loop-link-test.false
+
+pub returns-in_err-note_living-clause-succeeds : goal.returns-in_err-note_living-clause-succeeds
+returns-in_err-note_living-clause-succeeds c = λ low.
+    let is : c.loop-link.link ≡ suc (c.loop-link.link - 1) = omega (arith, c.loop-link-test.true) in
+    let fits = list_fits c.args.table.now.records c.args.ty c.args.place c.args.out.now.items c.loop-link.out.items c.loop-link.link (c.loop-link.link - 1) c.record.result _ _ c.record.ensures.once c.loop-link.invariant.walk is c.record.ensures.found c.loop-link.invariant.room low in
+    let wrong = c.in_err-note_living.ensures.succeeds fits in cc wrong
