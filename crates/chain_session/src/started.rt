@@ -1,5 +1,5 @@
 // A session to which a setup and a kit were given.
-ghost use Rattle.std.specs.Prelude.{◌≡◌, ◌+◌, ◌<◌, ◌^◌, [], true, false, length, map, IfErr, IfOk, OnErr, OnOk};
+ghost use Rattle.std.specs.Prelude.{◌≡◌, ◌+◌, ◌<◌, ◌^◌, [], true, false, length, IfErr, OnErr, OnOk};
 ghost use Rattle.command_tables.specs.Tests.{same_command};
 ghost use Rattle.command_tables.specs.declared.types.CommandId.TheVariants as CommandId;
 ghost use Rattle.chain_build.specs.Setup.{setup_content};
