@@ -444,6 +444,17 @@ fn copy_of(part: &Terminator) -> Result<Terminator, Fail> {
     Ok(part.copy().ok().ok_or("memory")?)
 }
 
+fn goes_on_as_its_copy(
+    rt: &impl Abort,
+    alloc: Global,
+    part: &mut Terminator,
+    out: &mut Vec<DriverCall>,
+) -> Result<(), Fail> {
+    let mut copy = copy_of(part)?;
+    play_all(rt, alloc, &mut copy, out, &QUEUE_AGAIN)?;
+    play_all(rt, alloc, part, out, &QUEUE_AGAIN)
+}
+
 // A copy goes on from what was issued as the original does.
 #[test]
 fn a_copy_tells_what_the_original_tells(rt: HostRuntime) -> Result<(), Fail> {
@@ -451,7 +462,5 @@ fn a_copy_tells_what_the_original_tells(rt: HostRuntime) -> Result<(), Fail> {
     let mut out = Vec::new(alloc);
     let mut part = with_devices(&rt, alloc, &mut out)?;
     play_all(&rt, alloc, &mut part, &mut out, &QUEUE_FIRST)?;
-    let mut copy = copy_of(&part)?;
-    play_all(&rt, alloc, &mut copy, &mut out, &QUEUE_AGAIN)?;
-    play_all(&rt, alloc, &mut part, &mut out, &QUEUE_AGAIN)
+    goes_on_as_its_copy(&rt, alloc, &mut part, &mut out)
 }

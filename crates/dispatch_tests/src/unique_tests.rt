@@ -522,16 +522,20 @@ static BELOW_THE_PART: [Step; 1] = [Step::Down(DESTROY_IMAGE, &[&[40], &[5]])];
 
 static BELOW_THE_COPY: [Step; 1] = [Step::Down(DESTROY_IMAGE, &[&[40], &[6]])];
 
-// What stands below an id in the copy and in the part differs once both have gone on.
+fn goes_on_apart(rt: &impl Abort, alloc: Global, part: &mut UniqueState) -> Result<(), Fail> {
+    let mut copy = copy_of(part)?;
+    play_on(rt, alloc, &mut copy, &COPY_GOES_ON)?;
+    play_on(rt, alloc, part, &BELOW_THE_PART)?;
+    play_on(rt, alloc, &mut copy, &BELOW_THE_COPY)
+}
+
+// What stands below an id in the copy and in the part differs once both have gone on. (A function that owns both is dear to prove.)
 #[test]
 fn a_copy_shares_nothing(rt: HostRuntime) -> Result<(), Fail> {
     let alloc = rt.alloc();
     let mut part = UniqueState::new(alloc);
     play_on(&rt, alloc, &mut part, &BEFORE_THE_COPY)?;
-    let mut copy = copy_of(&part)?;
-    play_on(&rt, alloc, &mut copy, &COPY_GOES_ON)?;
-    play_on(&rt, alloc, &mut part, &BELOW_THE_PART)?;
-    play_on(&rt, alloc, &mut copy, &BELOW_THE_COPY)
+    goes_on_apart(&rt, alloc, &mut part)
 }
 
 #[test]

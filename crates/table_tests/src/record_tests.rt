@@ -558,21 +558,31 @@ const PARAMETERS_OF_SET: &[&[u64]] = &[&[3], &[4], &[7]];
 
 #[test]
 fn each_reset_ends_the_sets_born_since_the_last(rt: HostRuntime) -> Result<(), Fail> {
-    let alloc = rt.alloc();
-    let mut records = small_history(&rt, alloc)?;
+    let mut records = small_history(&rt, rt.alloc())?;
     for handle in 10..13u64 {
-        end(
-            alloc,
-            &mut records,
-            CommandId::ResetDescriptorPool,
-            PARAMETERS_OF_POOL,
-        )?;
-        assert_eq!(rt; records.live_count(), 4);
-        let allocate = CommandId::AllocateDescriptorSets;
-        bear(alloc, &mut records, allocate, PARAMETERS_OF_SET, handle)?;
-        assert_eq!(rt; records.live_count(), 5);
-        assert_eq!(rt; records.count_children(POOL), 1);
+        resets_once(&rt, rt.alloc(), &mut records, handle)?;
     }
+    Ok(())
+}
+
+// A reset ends the one set there is, and a set with this handle is born.
+fn resets_once(
+    rt: &impl Abort,
+    alloc: Global,
+    records: &mut ObjectRecords,
+    handle: u64,
+) -> Result<(), Fail> {
+    end(
+        alloc,
+        records,
+        CommandId::ResetDescriptorPool,
+        PARAMETERS_OF_POOL,
+    )?;
+    assert_eq!(rt; records.live_count(), 4);
+    let allocate = CommandId::AllocateDescriptorSets;
+    bear(alloc, records, allocate, PARAMETERS_OF_SET, handle)?;
+    assert_eq!(rt; records.live_count(), 5);
+    assert_eq!(rt; records.count_children(POOL), 1);
     Ok(())
 }
 

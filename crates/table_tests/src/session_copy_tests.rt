@@ -61,23 +61,46 @@ fn image(k: u32) -> Object {
 }
 
 // So many buffers have a place, and as many images have the one behind.
-fn places_of(rt: &impl Abort, alloc: Global, count: u32) -> Result<(), Fail> {
-    let mut places = ObjectPlaces::new(alloc);
+fn put_places(places: &mut ObjectPlaces, count: u32) -> Result<(), Fail> {
     for k in 0..count {
         places.put(buffer(k), k)?;
         places.put(image(k), k + 1)?;
     }
-    let mut copy = places.copy()?;
+    Ok(())
+}
+
+fn has_places(rt: &impl Abort, places: &ObjectPlaces, count: u32) {
     for k in 0..count {
-        let found = [copy.get(buffer(k)), copy.get(image(k))];
+        let found = [places.get(buffer(k)), places.get(image(k))];
         assert_eq!(rt; found, [Some(k), Some(k + 1)], "place {k}");
     }
+}
+
+// What is put into one of them isn't in the other.
+fn go_apart(
+    rt: &impl Abort,
+    places: &mut ObjectPlaces,
+    copy: &mut ObjectPlaces,
+    count: u32,
+) -> Result<(), Fail> {
     copy.put(buffer(count), 7)?;
     assert_eq!(rt; places.get(buffer(count)), None);
     places.put(image(count), 8)?;
     assert_eq!(rt; copy.get(image(count)), None);
     assert_eq!(rt; copy.get(buffer(count)), Some(7));
     Ok(())
+}
+
+fn copy_of_places(rt: &impl Abort, places: &mut ObjectPlaces, count: u32) -> Result<(), Fail> {
+    let mut copy = places.copy()?;
+    has_places(rt, &copy, count);
+    go_apart(rt, places, &mut copy, count)
+}
+
+fn places_of(rt: &impl Abort, alloc: Global, count: u32) -> Result<(), Fail> {
+    let mut places = ObjectPlaces::new(alloc);
+    put_places(&mut places, count)?;
+    copy_of_places(rt, &mut places, count)
 }
 
 #[test]
@@ -217,12 +240,12 @@ fn copies_of_retrieved_objects(rt: HostRuntime) -> Result<(), Fail> {
 }
 
 // What has no owner isn't found, in a copy as before, and the first of a key stays the first.
-#[test]
-fn a_copy_keeps_the_first(rt: HostRuntime) -> Result<(), Fail> {
-    let alloc = rt.alloc();
-    let mut table = RetrievedTable::new(alloc);
-    let first = object(ObjectType::Image, name(1, 1));
-    let second = object(ObjectType::Image, name(1, 2));
+fn push_three(
+    alloc: Global,
+    table: &mut RetrievedTable,
+    first: Object,
+    second: Object,
+) -> Result<(), Fail> {
     table.push(
         alloc,
         RetrievedEntry {
@@ -232,16 +255,34 @@ fn a_copy_keeps_the_first(rt: HostRuntime) -> Result<(), Fail> {
             object: second,
         },
     )?;
-    retrieved(alloc, &mut table, 0, b"", first)?;
-    retrieved(alloc, &mut table, 0, b"", second)?;
-    let copy = table.copy()?;
-    assert_eq!(rt;
-        copy.object_with(&key(alloc, ObjectType::Image, 0, b"")?),
-        Some(first)
-    );
-    assert_eq!(rt;
-        copy.object_with(&key(alloc, ObjectType::Image, 1, b"")?),
-        None
-    );
+    retrieved(alloc, table, 0, b"", first)?;
+    retrieved(alloc, table, 0, b"", second)?;
     Ok(())
+}
+
+// The image with a key at this place.
+fn image_at(alloc: Global, table: &RetrievedTable, place: usize) -> Result<Option<Object>, Fail> {
+    Ok(table.object_with(&key(alloc, ObjectType::Image, place, b"")?))
+}
+
+fn copy_keeps(
+    rt: &impl Abort,
+    alloc: Global,
+    table: &RetrievedTable,
+    first: Object,
+) -> Result<(), Fail> {
+    let copy = table.copy()?;
+    assert_eq!(rt; image_at(alloc, &copy, 0)?, Some(first));
+    assert_eq!(rt; image_at(alloc, &copy, 1)?, None);
+    Ok(())
+}
+
+#[test]
+fn a_copy_keeps_the_first(rt: HostRuntime) -> Result<(), Fail> {
+    let alloc = rt.alloc();
+    let mut table = RetrievedTable::new(alloc);
+    let first = object(ObjectType::Image, name(1, 1));
+    let second = object(ObjectType::Image, name(1, 2));
+    push_three(alloc, &mut table, first, second)?;
+    copy_keeps(&rt, alloc, &table, first)
 }
