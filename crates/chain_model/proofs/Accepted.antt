@@ -1,14 +1,12 @@
 -- What holds of the past of an accepted trace.
-use Rattle.std.proofs.Common.{◌≡◌, ◌==◌, ◌≤◌, ℕ, ◌+◌, Bool, true, false, not, cond, ◌||◌, Option, Some, None, List, [], ◌∷◌, ◌++◌, map, length, refl, sym, ◌∙◌, ap, subst, arith}
+use Rattle.std.proofs.Common.{◌≡◌, ◌==◌, ℕ, Bool, true, false, not, cond, ◌||◌, Option, Some, None, List, [], ◌∷◌, ◌++◌, map, length, refl, sym, ◌∙◌, ap, subst, arith}
 use Rattle.std.proofs.lemmas.Bool.{eq-eqb, eqb-true}
 use Rattle.std.proofs.lemmas.List.{append-nil}
 use Rattle.std.specs.Prelude.{filter, find}
 use Rattle.std.specs.List.{list_any, list_all, filter_map, AllByRecursion}
-use Rattle.std.specs.Option.{option_map, option_map_or, is_none}
+use Rattle.std.specs.Option.{option_map, option_map_or}
 use Rattle.command_tables.specs.declared.types.ObjectType.{ObjectType}
 use Rattle.trace_format.specs.declared.event.Name.{Name}
-use Rattle.trace_format.specs.declared.fault.TraceFault.{TraceFault}
-use Rattle.trace_format.specs.declared.fault.TraceFault.TheVariants as fault
 use Rattle.object_model.specs.declared.Object.{Object}
 use Rattle.object_model.specs.declared.Argument.TheVariants.{Unborn, The}
 use Rattle.replay_model.specs.declared.Born.{Born}
@@ -16,7 +14,7 @@ use Rattle.replay_model.specs.declared.Named.{Named}
 use Rattle.command_tables.specs.Table.{ParamSpec, row_of}
 use Rattle.command_tables.specs.Tests.{same_type}
 use Rattle.command_tables.specs.Effects.{type_made}
-use Rattle.trace_format.specs.Accepting.{type_given, same_name, count_on, names_given, names_used, is_known, is_of_type, is_open, breaks_instance, first_fault, fault_after, are_accepted}
+use Rattle.trace_format.specs.Accepting.{type_given, same_name, names_used, is_of_type}
 use Rattle.trace_format.specs.Content.{Arg, TraceEvent, BeginEvent, Begin, Return}
 use Rattle.object_model.specs.Objects.{same}
 use Rattle.object_model.specs.History.{Birth, born_in, births, alive}
@@ -35,29 +33,9 @@ use Rattle.chain_model.proofs.Borne.{births_then_is, retrievals_then_is}
 use Rattle.chain_model.proofs.Sounding.{arguments_known}
 use Rattle.chain_model.proofs.Knowing.{IsKnowing, nothing_known, knows_begun, knows_returned, unreached_made, asks_born}
 use Rattle.chain_model.proofs.Naming.{AreFresh, NamesApart, is_given, OwnOrBorn, IsOwn, MadeOf, made_well, made_own, KeptOnce, kept_once_one, found_passes}
-use Rattle.chain_model.proofs.Eventing.{all_map, all_append, all_filter, all_found, all_names, given_more, given_self, not_given, NamesWell, no_names, names_begun, names_returned, OpensApart}
-use Rattle.chain_model.proofs.Eventing.{counted}
-
--- ---- the faults that an accepted event hasn't
-
-both_none : (a b c d e : Bool) (f g h i j : TraceFault) → is_none (first_fault ((a, f) ∷ (b, g) ∷ (c, h) ∷ (d, i) ∷ (e, j) ∷ [])) ≡ true → (c ≡ false) × (d ≡ false)
-both_none false false false false e f g h i j is = (refl, refl)
-both_none true b c d e f g h i j is = cc is
-both_none false true c d e f g h i j is = cc is
-both_none false false true d e f g h i j is = cc is
-both_none false false false true e f g h i j is = cc is
-
-not_false : (b : Bool) → not b ≡ false → b ≡ true
-not_false true e = refl
-not_false false e = cc e
-
--- the names of a begin have their types, and its results are counted on
-pub begins_well : (before : List TraceEvent) (b : BeginEvent) → is_none (fault_after before (Begin b)) ≡ true
-    → (list_all (is_of_type before) (names_used (row_of b.cmd).params b.args) ≡ true) × (count_on b.thread (names_given b.thread before + 1) b.results ≡ true)
-begins_well before b is =
-    let r = both_none (is_open b.thread before) (not (list_all (is_known before) (names_used (row_of b.cmd).params b.args))) (not (list_all (is_of_type before) (names_used (row_of b.cmd).params b.args)))
-    (not (count_on b.thread (names_given b.thread before + 1) b.results)) (breaks_instance before (Begin b)) fault.Busy fault.Unknown fault.WrongType fault.Sequence fault.Instance is in
-    (not_false (list_all (is_of_type before) (names_used (row_of b.cmd).params b.args)) r.0, not_false (count_on b.thread (names_given b.thread before + 1) b.results) r.1)
+use Rattle.chain_model.proofs.Eventing.{all_map, all_append, all_filter, all_found, all_names, given_more, given_self, new_not_given, NamesWell, no_names, names_begun, names_returned, OpensApart}
+use Rattle.chain_model.proofs.Coming.{begins_well}
+use Rattle.chain_model.specs.Gaps.{may_all_come, may_come}
 
 -- ---- types
 
@@ -157,19 +135,17 @@ pub accepted_nothing : IsAccepted [] []
 accepted_nothing = record { knowing = nothing_known; kept = tt; names = no_names; named_given = tt; named_typed = tt; opens_typed = tt; args = tt }
 
 -- a begin
-pub accepted_begun : (events : List TraceEvent) (past : Past) (b : BeginEvent) (o : Opened) (reports : List Report) → IsAccepted events past → is_none (fault_after events (Begin b)) ≡ true → IsShaped b
+pub accepted_begun : (events : List TraceEvent) (past : Past) (b : BeginEvent) (o : Opened) (reports : List Report) → IsAccepted events past → may_come events (Begin b) ≡ true → IsShaped b
     → o.cmd ≡ b.cmd → o.results ≡ b.results → o.args ≡ arguments_in (named past) b.args → IsAccepted (Begin b ∷ events) (Began b o reports ∷ past)
 accepted_begun events past b o reports s ok shaped is_cmd is_results is_args =
     let w = begins_well events b ok in
-    let none : AllByRecursion (λ n. is_given (all_names events) (own_number n) ≡ false) b.results =
-    all_map (λ n. (n.thread ≡ b.thread) × (names_given b.thread events + 1 ≤ n.number) × (n.number + 1 ≤ (names_given b.thread events + 1) + length b.results)) (λ n. is_given (all_names events) (own_number n) ≡ false)
-    (λ n h. not_given events n (let small = shaped.thread in omega (arith, h.0, small)) (let same_given : names_given n.thread events ≡ names_given b.thread events = ap (λ t. names_given t events) h.0 in omega (arith, same_given, h.1)) (all_names events) s.names.numbered) b.results (counted b.thread (names_given b.thread events + 1) b.results w.1) in
+    let none : AllByRecursion (λ n. is_given (all_names events) (own_number n) ≡ false) b.results = new_not_given events b.results shaped.names s.names.threads w.1 in
     let stays : (n : Name) → is_given (all_names events) (own_number n) ≡ true → type_given n (Begin b ∷ events) ≡ type_given n events = λ (n : Name) (g : is_given (all_names events) (own_number n) ≡ true).
     ap (λ u. cond u (type_made (row_of b.cmd).effect) (type_given n events)) (old_name events n g b.results none) in
     record {
       knowing = knows_begun past b o reports s.knowing (subst (λ as0. KnowsArgs (born_in (births (history past))) as0) (sym is_args) (arguments_known (born_in (births (history past))) (named past) s.knowing.names b.args));
       kept = s.kept;
-      names = names_begun events b o (births (history past)) (open_calls past) s.names is_results shaped.thread w.1;
+      names = names_begun events b o (births (history past)) (open_calls past) s.names is_results shaped.names w.1;
       named_given = all_map (λ (x : Named). is_given (all_names events) (own_number x.name) ≡ true) (λ (x : Named). is_given (b.results ++ all_names events) (own_number x.name) ≡ true) (λ x g. given_more b.results (all_names events) (own_number x.name) g) (named past) s.named_given;
       named_typed = both_named (named past) s.named_given s.named_typed stays;
       opens_typed = all_append (λ x. AllByRecursion (λ n. type_given n (Begin b ∷ events) ≡ type_made (row_of x.cmd).effect) x.results) (open_calls past) (o ∷ []) (both_opens (open_calls past) s.names.given s.opens_typed stays) (
@@ -273,7 +249,7 @@ accepted_idle : (events : List TraceEvent) (past : Past) (thread : ℕ) → IsAc
 accepted_idle events past thread a = record {
   knowing = a.knowing;
   kept = a.kept;
-  names = record { numbered = a.names.numbered; births = a.names.births; given = a.names.given; fresh = a.names.fresh; apart = a.names.apart };
+  names = record { threads = a.names.threads; births = a.names.births; given = a.names.given; fresh = a.names.fresh; apart = a.names.apart };
   named_given = a.named_given;
   named_typed = a.named_typed;
   opens_typed = a.opens_typed;
@@ -283,13 +259,13 @@ accepted_idle events past thread a = record {
 -- ---- all events
 
 -- what holds of the past of each accepted trace
-pub accepted_judged : (s : Setup) (events : List TraceEvent) → are_accepted events ≡ true → AllByRecursion IsShapedEvent events → IsAccepted events (judged s events)
+pub accepted_judged : (s : Setup) (events : List TraceEvent) → may_all_come events ≡ true → AllByRecursion IsShapedEvent events → IsAccepted events (judged s events)
 accepted_judged s [] ok shaped = accepted_nothing
 accepted_judged s (Begin b ∷ before) ok shaped =
-    let parts = and_true (are_accepted before) (is_none (fault_after before (Begin b))) ok in
+    let parts = and_true (may_all_come before) (may_come before (Begin b)) ok in
     accepted_begun before (judged s before) b (begun_of s (judged s before) b).opened (begun_of s (judged s before) b).reports (accepted_judged s before parts.0 shaped.1) parts.1 shaped.0 refl refl refl
 accepted_judged s (Return thread ∷ before) ok shaped =
-    let parts = and_true (are_accepted before) (is_none (fault_after before (Return thread))) ok in go (find (is_of thread) (open_calls (judged s before))) refl (accepted_judged s before parts.0 shaped.1)
+    let parts = and_true (may_all_come before) (may_come before (Return thread)) ok in go (find (is_of thread) (open_calls (judged s before))) refl (accepted_judged s before parts.0 shaped.1)
   where
     go : (f : Option Opened) → find (is_of thread) (open_calls (judged s before)) ≡ f → IsAccepted before (judged s before) → IsAccepted (Return thread ∷ before) (returned_by s (judged s before) f)
     go None is a = accepted_idle before (judged s before) thread a

@@ -4,7 +4,7 @@ use Rattle.std.proofs.lemmas.List.{length-map, length-take, map-append}
 use Rattle.std.proofs.lemmas.List.FromFn.{length-enumerate_from}
 use Rattle.std.specs.Prelude.{is_some, find, filter, take, slice_get, unwrap_or, nat_le, IsTrue}
 use Rattle.std.specs.List.{AllByRecursion, enumerate_from, range_with_len, zip}
-use Rattle.std.specs.Option.{is_none, option_map_or}
+use Rattle.std.specs.Option.{option_map_or}
 use Rattle.command_tables.specs.Calls.{ReplyContent}
 use Rattle.command_tables.specs.declared.types.CommandId.{CommandId}
 use Rattle.command_tables.specs.declared.types.CommandId.TheVariants as cmd
@@ -16,7 +16,6 @@ use Rattle.command_tables.specs.Tests.{same_command, same_type}
 use Rattle.model_driver.specs.Driver.{IsAnsweredBy, are_handles}
 use Rattle.trace_format.specs.declared.event.Name.{Name}
 use Rattle.trace_format.specs.Content.{Arg, BeginEvent, TraceEvent, Begin, Return}
-use Rattle.trace_format.specs.Accepting.{are_accepted, fault_after}
 use Rattle.trace_format.specs.Grammar.{FitParams, HasForm, IsBegin, IsEvent}
 use Rattle.object_model.specs.declared.Object.{Object}
 use Rattle.object_model.specs.declared.Argument.{Argument}
@@ -41,8 +40,10 @@ use Rattle.layer_model.proofs.Same.{and_true}
 use Rattle.chain_model.proofs.Passing.{AreTyped, HasType, HaveMade, asking_by}
 use Rattle.chain_model.proofs.OneByOne.{ArePlaced}
 use Rattle.chain_model.proofs.Shapes.{AnsweredWell}
+use Rattle.chain_model.specs.Gaps.{may_all_come, may_come}
 use Rattle.chain_model.specs.Traces.{AreAnswered, HasHandles, IsSent}
-use Rattle.chain_model.proofs.Accepted.{IsAccepted, accepted_judged, args_typed, begins_well}
+use Rattle.chain_model.proofs.Coming.{begins_well}
+use Rattle.chain_model.proofs.Accepted.{IsAccepted, accepted_judged, args_typed}
 use Rattle.chain_model.proofs.Ending.{one_answer}
 use Rattle.chain_model.proofs.Eventing.{all_append, all_filter, all_found}
 use Rattle.chain_model.proofs.Grammar.{fit_length, shaped}
@@ -146,17 +147,17 @@ begun_one s past b is typed sent_on wraps =
     ap (λ u. length (cond u [] (receivers s.drivers (routed past) (first_in (arguments_in (named past) b.args) 0)))) sent_on
     ∙ passes_one (alive (history past)) (named past) s.drivers (routed past) (row_of b.cmd).params b.args (sym (ap (λ u. not u || first_other (row_of b.cmd).params) wraps) ∙ one_in_row b.cmd) is.args typed passes
 
-all_one : (s : Setup) (events : List TraceEvent) → AllByRecursion IsEvent events → are_accepted events ≡ true → AllByRecursion WentToOne (open_calls (judged s events))
+all_one : (s : Setup) (events : List TraceEvent) → AllByRecursion IsEvent events → may_all_come events ≡ true → AllByRecursion WentToOne (open_calls (judged s events))
 all_one s [] grammar ok = tt
 all_one s (Begin b ∷ before) grammar ok =
-    let a = and_true (are_accepted before) (is_none (fault_after before (Begin b))) ok in
+    let a = and_true (may_all_come before) (may_come before (Begin b)) ok in
     let accepted : IsAccepted before (judged s before) = accepted_judged s before a.0 (shaped before grammar.1) in
     all_append WentToOne (open_calls (judged s before)) ((begun_of s (judged s before) b).opened ∷ []) (all_one s before grammar.1 a.0) (
       begun_one s (judged s before) b grammar.0 (args_typed before (named (judged s before)) accepted.named_typed (row_of b.cmd).params b.args (fit_length (row_of b.cmd).params b.args grammar.0.args) (begins_well before b a.1).0),
       tt,
     )
 all_one s (Return t ∷ before) grammar ok =
-    go (all_one s before grammar.1 (and_true (are_accepted before) (is_none (fault_after before (Return t))) ok).0) (find (is_of t) (open_calls (judged s before)))
+    go (all_one s before grammar.1 (and_true (may_all_come before) (may_come before (Return t)) ok).0) (find (is_of t) (open_calls (judged s before)))
   where
     go : AllByRecursion WentToOne (open_calls (judged s before)) → (f : Option Opened) → AllByRecursion WentToOne (open_calls (returned_by s (judged s before) f))
     go all None = all
@@ -266,7 +267,7 @@ one_value o (a ∷ answers) own one goes other place low =
 
 -- ---- so the drivers answered well
 
-module _ (s : Setup) (events : List TraceEvent) (replies : List ReplyContent) (thread : ℕ) (o : Opened) (grammar : AllByRecursion IsEvent events) (ok : are_accepted events ≡ true) (all : AllByRecursion IsSent (sent (judged s events) replies))
+module _ (s : Setup) (events : List TraceEvent) (replies : List ReplyContent) (thread : ℕ) (o : Opened) (grammar : AllByRecursion IsEvent events) (ok : may_all_come events ≡ true) (all : AllByRecursion IsSent (sent (judged s events) replies))
     (is : find (is_of thread) (open_calls (judged s events)) ≡ Some o) (goes : is_skipped o ≡ false) (well : MadeOf (births (history (judged s events))) (retrievals (judged s events)) o (made_of s (judged s events) o)) where
   abbrev past : Past
   past = judged s events

@@ -1,18 +1,20 @@
--- The past of an accepted trace: names are given once, so what is spoken of is born, and what a call makes is new.
-use Rattle.std.proofs.Common.{◌≡◌, ◌==◌, ◌≤◌, ◌<◌, inl, inr, ℕ, ◌+◌, ◌*◌, Bool, true, false, not, cond, ◌||◌, Some, List, [], ◌∷◌, ◌++◌, length, refl, sym, ◌∙◌, ap, subst, arith}
+-- The past of events that may come: names are given once, so what is spoken of is born, and what a call makes is new.
+use Rattle.std.proofs.Common.{◌≡◌, ◌==◌, ◌<◌, inl, inr, ℕ, ◌+◌, ◌*◌, Bool, true, false, not, cond, ◌&&◌, ◌||◌, Some, List, [], ◌∷◌, ◌++◌, refl, sym, ◌∙◌, ap, subst, arith}
 use Rattle.std.proofs.lemmas.Bool.{ne_eqb, eq-eqb, eqb-true}
 use Rattle.std.specs.Prelude.{filter, find}
-use Rattle.std.specs.List.{AllByRecursion}
+use Rattle.std.specs.List.{AllByRecursion, list_any}
 use Rattle.command_tables.specs.declared.types.ObjectType.{ObjectType}
 use Rattle.trace_format.specs.declared.event.Name.{Name}
 use Rattle.object_model.specs.declared.Object.{Object}
 use Rattle.replay_model.specs.declared.Born.{Born}
-use Rattle.trace_format.specs.Accepting.{same_name, count_on, names_given}
+use Rattle.trace_format.specs.Accepting.{same_name}
 use Rattle.trace_format.specs.Content.{TraceEvent, BeginEvent, Begin, Return}
 use Rattle.object_model.specs.Objects.{same}
 use Rattle.object_model.specs.History.{Birth, born_in}
 use Rattle.replay_model.specs.Past.{Opened, is_of}
 use Rattle.replay_model.specs.Births.{own_number, own_object}
+use Rattle.chain_model.specs.Gaps as gaps
+use Rattle.chain_model.specs.Gaps.{are_new}
 use Rattle.chain_model.proofs.OneByOne.{bear, births_after}
 use Rattle.layer_model.proofs.Same.{same_is, and_true}
 use Rattle.chain_model.proofs.Naming.{AreFresh, IsOtherName, NamesApart, is_given, OwnOrBorn}
@@ -53,47 +55,58 @@ all_names [] = []
 all_names (Begin b ∷ before) = b.results ++ all_names before
 all_names (Return thread ∷ before) = all_names before
 
--- threads are small, and each thread's names are numbered up to as many as it was given
-abbrev pub AreNumbered : List TraceEvent → Type 0
-AreNumbered events = AllByRecursion (λ n. (n.number ≤ names_given n.thread events) × (n.thread < 2048)) (all_names events)
+-- their threads are small
+abbrev pub AreSmall : List Name → Type 0
+AreSmall names = AllByRecursion (λ n. n.thread < 2048) names
 
 -- two names of one number are of one thread and place there
 one_number : (a b : ℕ) (s t : ℕ) → s < 2048 → t < 2048 → a * 2048 + s ≡ b * 2048 + t → (a ≡ b) × (s ≡ t)
 one_number a b s t p q e = (omega (arith, p, q, e), omega (arith, p, q, e))
 
--- names counted on from a place
-pub counted : (thread k : ℕ) (names : List Name) → count_on thread k names ≡ true → AllByRecursion (λ n. (n.thread ≡ thread) × (k ≤ n.number) × (n.number + 1 ≤ k + length names)) names
-counted thread k [] e = tt
-counted thread k (n ∷ names) e =
-    let a = and_true (same_name n (record { thread = thread; number = k })) (count_on thread (k + 1) names) e in
-    let b = and_true (n.thread == thread) (n.number == k) a.0 in
-    let t : n.thread ≡ thread = eqb-true n.thread thread b.0 in
-    let m : n.number ≡ k = eqb-true n.number k b.1 in (
-      (t, omega (arith, m), omega (arith, m)),
-      all_map (λ x. (x.thread ≡ thread) × (k + 1 ≤ x.number) × (x.number + 1 ≤ (k + 1) + length names)) (λ x. (x.thread ≡ thread) × (k ≤ x.number) × (x.number + 1 ≤ k + length (n ∷ names)))
-          (λ x h. (h.0, omega (arith, h.1), omega (arith, h.2))) names (counted thread (k + 1) names a.1),
-    )
+-- so two names that differ have different numbers
+other_number : (a b : Name) → a.thread < 2048 → b.thread < 2048 → same_name a b ≡ false → (own_number a == own_number b) ≡ false
+other_number a b p q e = ne_eqb (own_number a) (own_number b) (λ w.
+    let one = one_number a.number b.number a.thread b.thread p q w in
+    let bad : same_name a b ≡ true = rw (eq-eqb a.thread b.thread one.1, eq-eqb a.number b.number one.0) refl in cc)
+
+neither : (u v : Bool) → (u || v) ≡ false → (u ≡ false) × (v ≡ false)
+neither false v e = (refl, e)
+neither true v e = cc e
+
+not_true : (u : Bool) → not u ≡ true → u ≡ false
+not_true false e = refl
+not_true true e = cc e
+
+-- a name that no event gave has no number that is given
+not_given : (events : List TraceEvent) (n : Name) → n.thread < 2048 → AreSmall (all_names events) → gaps.is_given events n ≡ false → is_given (all_names events) (own_number n) ≡ false
+not_given [] n small ks e = refl
+not_given (Begin b ∷ before) n small ks e =
+    let a = neither (list_any (λ r. same_name r n) b.results) (gaps.is_given before n) e in none_of b.results ks a.0 (λ rest. not_given before n small rest a.1)
+  where
+    none_of : (rs : List Name) → AreSmall (rs ++ all_names before) → list_any (λ r. same_name r n) rs ≡ false → (AreSmall (all_names before) → is_given (all_names before) (own_number n) ≡ false) → is_given (rs ++ all_names before) (own_number n) ≡ false
+    none_of [] all none ih = ih all
+    none_of (r ∷ rs) all none ih = let a = neither (same_name r n) (list_any (λ x. same_name x n) rs) none in rw (other_number r n all.0 small a.0) (none_of rs all.1 a.1 ih)
+not_given (Return thread ∷ before) n small ks e = not_given before n small ks e
+
+-- new names have numbers that aren't given
+pub new_not_given : (events : List TraceEvent) (names : List Name) → AreSmall names → AreSmall (all_names events) → are_new events names ≡ true → AllByRecursion (λ n. is_given (all_names events) (own_number n) ≡ false) names
+new_not_given events [] small ks e = tt
+new_not_given events (n ∷ names) small ks e =
+    let a = and_true (not (gaps.is_given events n)) (not (list_any (same_name n) names) && are_new events names) e in
+    let b = and_true (not (list_any (same_name n) names)) (are_new events names) a.1 in
+    (not_given events n small.0 ks (not_true (gaps.is_given events n) a.0), new_not_given events names small.1 ks b.1)
 
 -- they differ
-counted_apart : (thread k : ℕ) (names : List Name) → count_on thread k names ≡ true → NamesApart names
-counted_apart thread k [] e = tt
-counted_apart thread k (n ∷ names) e =
-    let a = and_true (same_name n (record { thread = thread; number = k })) (count_on thread (k + 1) names) e in
-    let b = and_true (n.thread == thread) (n.number == k) a.0 in
-    let t : n.thread ≡ thread = eqb-true n.thread thread b.0 in
-    let m : n.number ≡ k = eqb-true n.number k b.1 in (
-      all_map (λ x. (x.thread ≡ thread) × (k + 1 ≤ x.number) × (x.number + 1 ≤ (k + 1) + length names)) (λ x. (own_number n == own_number x) ≡ false)
-          (λ x h. ne_eqb (own_number n) (own_number x) (λ w. omega (arith, w, t, m, h.0, h.1))) names (counted thread (k + 1) names a.1),
-      counted_apart thread (k + 1) names a.1,
-    )
-
--- a name beyond what its thread was given isn't given
-pub not_given : (events : List TraceEvent) (n : Name) → n.thread < 2048 → names_given n.thread events + 1 ≤ n.number → (ns : List Name) → AllByRecursion (λ m. (m.number ≤ names_given m.thread events) × (m.thread < 2048)) ns → is_given ns (own_number n) ≡ false
-not_given events n small beyond [] ks = refl
-not_given events n small beyond (m ∷ ns) ks =
-    rw (ne_eqb (own_number m) (own_number n) (λ w.
-    let one = one_number m.number n.number m.thread n.thread ks.0.1 small w in
-    let given : names_given m.thread events ≡ names_given n.thread events = ap (λ t. names_given t events) one.1 in omega (arith, one.0, given, beyond, ks.0.0))) (not_given events n small beyond ns ks.1)
+new_apart : (events : List TraceEvent) (names : List Name) → AreSmall names → are_new events names ≡ true → NamesApart names
+new_apart events [] small e = tt
+new_apart events (n ∷ names) small e =
+    let a = and_true (not (gaps.is_given events n)) (not (list_any (same_name n) names) && are_new events names) e in
+    let b = and_true (not (list_any (same_name n) names)) (are_new events names) a.1 in
+    (others names small.1 (not_true (list_any (same_name n) names) b.0), new_apart events names small.1 b.1)
+  where
+    others : (ms : List Name) → AreSmall ms → list_any (same_name n) ms ≡ false → IsOtherName n ms
+    others [] all none = tt
+    others (m ∷ ms) all none = let a = neither (same_name n m) (list_any (same_name n) ms) none in (other_number n m small.0 all.0 a.0, others ms all.1 a.1)
 
 -- ---- what is fresh
 
@@ -175,16 +188,16 @@ others_apart thread (y ∷ os) o a is t = go (is_of thread y) refl (λ h. others
 
 -- ---- the invariant
 
--- each open call's names are given, and its results would be new
+-- the names are of small threads, each open call's names are given, and its results would be new
 pub record NamesWell (events : List TraceEvent) (bs : List Birth) (opens : List Opened) : Type 0 where
-  pub numbered : AreNumbered events
+  pub threads : AreSmall (all_names events)
   pub births : NumbersGiven (all_names events) bs
   pub given : AllByRecursion (λ o. AllByRecursion (λ n. is_given (all_names events) (own_number n) ≡ true) o.results) opens
   pub fresh : AllByRecursion (λ o. AreFresh bs o.results) opens
   pub apart : OpensApart opens
 
 pub no_names : NamesWell [] [] []
-no_names = record { numbered = tt; births = tt; given = tt; fresh = tt; apart = tt }
+no_names = record { threads = tt; births = tt; given = tt; fresh = tt; apart = tt }
 
 -- names that are given differ from one that isn't
 given_other : (all : List Name) (n : Name) → is_given all (own_number n) ≡ false → (xs : List Name) → AllByRecursion (λ m. is_given all (own_number m) ≡ true) xs → IsOtherName n xs × AllByRecursion (λ m. (own_number m == own_number n) ≡ false) xs
@@ -206,24 +219,12 @@ all_disjoint all ys none xs ks = (left xs ks, all_map (λ n. is_given all (own_n
     left (m ∷ zs) k = (one m k.0, left zs k.1)
 
 -- a begin
-pub names_begun : (events : List TraceEvent) (b : BeginEvent) (o : Opened) (bs : List Birth) (opens : List Opened) → NamesWell events bs opens → o.results ≡ b.results → b.thread < 2048 → count_on b.thread (names_given b.thread events + 1) b.results ≡ true
+pub names_begun : (events : List TraceEvent) (b : BeginEvent) (o : Opened) (bs : List Birth) (opens : List Opened) → NamesWell events bs opens → o.results ≡ b.results → AreSmall b.results → are_new events b.results ≡ true
     → NamesWell (Begin b ∷ events) bs (opens ++ o ∷ [])
-names_begun events b o bs opens s is small counts =
-    let all : List Name = all_names events in
-    let new = counted b.thread (names_given b.thread events + 1) b.results counts in
-    let none : AllByRecursion (λ n. is_given (all_names events) (own_number n) ≡ false) b.results =
-    all_map (λ n. (n.thread ≡ b.thread) × (names_given b.thread events + 1 ≤ n.number) × (n.number + 1 ≤ (names_given b.thread events + 1) + length b.results)) (λ n. is_given (all_names events) (own_number n) ≡ false)
-    (λ n h. not_given events n (omega (arith, h.0, small)) (let same_given : names_given n.thread events ≡ names_given b.thread events = ap (λ t. names_given t events) h.0 in omega (arith, same_given, h.1)) (all_names events) s.numbered) b.results new in
-    let bounded : AllByRecursion (λ n. (n.number ≤ names_given n.thread (Begin b ∷ events)) × (n.thread < 2048)) b.results =
-    all_map (λ n. (n.thread ≡ b.thread) × (names_given b.thread events + 1 ≤ n.number) × (n.number + 1 ≤ (names_given b.thread events + 1) + length b.results)) (λ n. (n.number ≤ names_given n.thread (Begin b ∷ events)) × (n.thread < 2048))
-    (λ n h. (
-      let here : names_given n.thread (Begin b ∷ events) ≡ names_given n.thread events + length b.results = ap (λ u. cond u (names_given n.thread events + length b.results) (names_given n.thread events)) (eq-eqb b.thread n.thread (sym h.0)) in
-          let same_given : names_given n.thread events ≡ names_given b.thread events = ap (λ t. names_given t events) h.0 in omega (arith, here, same_given, h.2),
-      omega (arith, h.0, small),
-    )) b.results new in
+names_begun events b o bs opens s is small new =
+    let none : AllByRecursion (λ n. is_given (all_names events) (own_number n) ≡ false) b.results = new_not_given events b.results small s.threads new in
     record {
-      numbered = all_append (λ n. (n.number ≤ names_given n.thread (Begin b ∷ events)) × (n.thread < 2048)) b.results (all_names events) bounded
-          (all_map (λ n. (n.number ≤ names_given n.thread events) × (n.thread < 2048)) (λ n. (n.number ≤ names_given n.thread (Begin b ∷ events)) × (n.thread < 2048)) (λ n h. (grown n (b.thread == n.thread) h.0, h.1)) (all_names events) s.numbered);
+      threads = all_append (λ n. n.thread < 2048) b.results (all_names events) small s.threads;
       births = all_map (λ (x : Birth). is_given (all_names events) x.object.number ≡ true) (λ (x : Birth). is_given (b.results ++ all_names events) x.object.number ≡ true) (λ x e. given_more b.results (all_names events) x.object.number e) bs s.births;
       given = all_append (λ x. AllByRecursion (λ n. is_given (b.results ++ all_names events) (own_number n) ≡ true) x.results) opens (o ∷ [])
           (all_map (λ x. AllByRecursion (λ n. is_given (all_names events) (own_number n) ≡ true) x.results) (λ x. AllByRecursion (λ n. is_given (b.results ++ all_names events) (own_number n) ≡ true) x.results)
@@ -231,14 +232,10 @@ names_begun events b o bs opens s is small counts =
           (subst (λ ns. AllByRecursion (λ n. is_given (b.results ++ all_names events) (own_number n) ≡ true) ns) (sym is) (given_self [] b.results (all_names events)), tt);
       fresh = all_append (λ x. AreFresh bs x.results) opens (o ∷ []) s.fresh
           (subst (λ ns. AreFresh bs ns) (sym is) (all_map (λ n. is_given (all_names events) (own_number n) ≡ false) (λ n. (t : ObjectType) → born_in bs (own_object t n) ≡ false) (λ n e t. not_born (all_names events) (own_object t n) e bs s.births) b.results none), tt);
-      apart = apart_more opens o s.apart (subst NamesApart (sym is) (counted_apart b.thread (names_given b.thread events + 1) b.results counts))
+      apart = apart_more opens o s.apart (subst NamesApart (sym is) (new_apart events b.results small new))
           (subst (λ ns. AllByRecursion (λ x. Disjoint x.results ns × Disjoint ns x.results) opens) (sym is)
           (all_map (λ x. AllByRecursion (λ n. is_given (all_names events) (own_number n) ≡ true) x.results) (λ x. Disjoint x.results b.results × Disjoint b.results x.results) (λ x h. all_disjoint (all_names events) b.results none x.results h) opens s.given));
     }
-  where
-    grown : (n : Name) (u : Bool) → n.number ≤ names_given n.thread events → n.number ≤ cond u (names_given n.thread events + length b.results) (names_given n.thread events)
-    grown n true l = omega (arith, l)
-    grown n false l = l
 
 -- ---- a return
 
@@ -290,7 +287,7 @@ pub names_returned : (events : List TraceEvent) (thread : ℕ) (created : Bool) 
 names_returned events thread created owners bs opens o made s is t own =
     let p : Opened → Bool = λ (x : Opened). not (is_of o.thread x) in
     record {
-      numbered = s.numbered;
+      threads = s.threads;
       births = births_after_given (all_names events) o.results created owners (given_among (all_names events) o.results (all_found (λ x. AllByRecursion (λ n. is_given (all_names events) (own_number n) ≡ true) x.results) (is_of thread) opens o s.given is)) bs made s.births own;
       given = all_filter (λ x. AllByRecursion (λ n. is_given (all_names events) (own_number n) ≡ true) x.results) (λ x. not (is_of o.thread x)) opens s.given;
       fresh = both (filter (λ x. not (is_of o.thread x)) opens) (all_filter (λ x. AreFresh bs x.results) (λ x. not (is_of o.thread x)) opens s.fresh) (others_apart thread opens o s.apart is t);

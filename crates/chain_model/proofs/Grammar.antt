@@ -1,5 +1,5 @@
 -- What the grammar gives of an event's form.
-use Rattle.std.proofs.Common.{◌≡◌, ◌==◌, suc, Bool, true, false, not, ◌||◌, Option, List, [], ◌∷◌, length, refl, sym, ◌∙◌, ap, subst, arith, rules}
+use Rattle.std.proofs.Common.{◌≡◌, ◌==◌, ◌<◌, suc, Bool, true, false, not, ◌||◌, Option, List, [], ◌∷◌, length, refl, sym, ◌∙◌, ap, subst, arith, rules}
 use Rattle.std.specs.Prelude.{is_some, slice_get}
 use Rattle.std.specs.List.{AllByRecursion}
 use Rattle.command_tables.specs.declared.types.CommandId.{CommandId}
@@ -8,8 +8,9 @@ use Rattle.command_tables.specs.Table.{ParamSpec, row_of}
 use Rattle.command_tables.specs.Tests.{same_command}
 use Rattle.trace_format.specs.declared.event.Name.{Name}
 use Rattle.trace_format.specs.Content.{Arg, BeginEvent, TraceEvent, Begin, Return}
-use Rattle.trace_format.specs.Grammar.{IsBegin, IsEvent, HasForm, FitParams}
+use Rattle.trace_format.specs.Grammar.{IsBegin, IsEvent, IsName, HasForm, FitParams}
 use Rattle.chain_model.proofs.Shapes.{AreShaped, IsShaped}
+use Rattle.chain_model.proofs.Eventing.{all_map}
 use Rattle.chain_model.proofs.Quiet.{IsWhole, IsWholeEvent, has_first}
 
 -- there is an argument for each parameter
@@ -20,7 +21,10 @@ fit_length (p ∷ ps) [] fit = absurd fit
 fit_length (p ∷ ps) (a ∷ args) fit = ap suc (fit_length ps args fit.1)
 
 shaped_begin : (b : BeginEvent) → IsBegin b → IsShaped b
-shaped_begin b is = let low = is.thread.1 in record { thread = omega (arith, low); args = fit_length (row_of b.cmd).params b.args is.args }
+shaped_begin b is = record {
+  names = all_map IsName (λ n. n.thread < 2048) (λ n h. let low = h.0.1 in omega (arith, low)) b.results is.names;
+  args = fit_length (row_of b.cmd).params b.args is.args;
+}
 
 pub shaped : (events : List TraceEvent) → AllByRecursion IsEvent events → AreShaped events
 shaped [] all = tt

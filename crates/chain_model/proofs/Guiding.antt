@@ -3,7 +3,6 @@ use Rattle.std.proofs.Common.{◌≡◌, ℕ, ◌+◌, Bool, true, false, not, c
 use Rattle.std.proofs.lemmas.List.{append-nil}
 use Rattle.std.specs.Prelude.{find}
 use Rattle.std.specs.List.{AllByRecursion}
-use Rattle.std.specs.Option.{is_none}
 use Rattle.command_tables.specs.declared.types.CommandId.{CommandId}
 use Rattle.command_tables.specs.declared.types.CommandId.TheVariants as cmd
 use Rattle.command_tables.specs.declared.types.ObjectType.{ObjectType}
@@ -13,7 +12,6 @@ use Rattle.command_tables.specs.Facts.{is_dispatchable}
 use Rattle.command_tables.specs.Table.{ParamSpec, row_of}
 use Rattle.command_tables.specs.Tests.{same_command, same_type}
 use Rattle.trace_format.specs.Content.{TraceEvent, Begin, Return}
-use Rattle.trace_format.specs.Accepting.{are_accepted, fault_after}
 use Rattle.object_model.specs.declared.Object.{Object}
 use Rattle.object_model.specs.declared.Argument.{Argument}
 use Rattle.object_model.specs.declared.Routed.{Routed}
@@ -30,6 +28,7 @@ use Rattle.layer_model.specs.Ids.{is_wrapped}
 use Rattle.layer_model.specs.Reading.{read_params}
 use Rattle.layer_model.specs.Routes.{drivers_at, route_all, routes_then}
 use Rattle.layer_model.proofs.Same.{and_true}
+use Rattle.chain_model.specs.Gaps.{may_all_come, may_come}
 use Rattle.chain_model.specs.Tokens.{number_in, token_in}
 use Rattle.chain_model.proofs.Owners.{is_bare_at}
 use Rattle.chain_model.proofs.OneByOne.{IsBorn, numbered}
@@ -75,11 +74,11 @@ routed_returned past o made a well = go (type_made (row_of o.cmd).effect) refl w
         (routes_returned {X = ℕ} past o t made [] a well.placed well.apart (types_of (asking_by (births (history past)) o.cmd o.payload o.args (row_of o.cmd).effect) t (births (history past)) (retrievals past) made d) is).routed_then
 
 -- all events of a trace
-pub routed_judged : (s : Setup) (events : List TraceEvent) → are_accepted events ≡ true → AreShaped events → AreRouted (births (history (judged s events))) (routed (judged s events))
+pub routed_judged : (s : Setup) (events : List TraceEvent) → may_all_come events ≡ true → AreShaped events → AreRouted (births (history (judged s events))) (routed (judged s events))
 routed_judged s [] ok shaped = record { routes = λ o is. refl; born = tt }
-routed_judged s (Begin b ∷ before) ok shaped = routed_judged s before (and_true (are_accepted before) (is_none (fault_after before (Begin b))) ok).0 shaped.1
+routed_judged s (Begin b ∷ before) ok shaped = routed_judged s before (and_true (may_all_come before) (may_come before (Begin b)) ok).0 shaped.1
 routed_judged s (Return t ∷ before) ok shaped =
-    let earlier : are_accepted before ≡ true = (and_true (are_accepted before) (is_none (fault_after before (Return t))) ok).0 in
+    let earlier : may_all_come before ≡ true = (and_true (may_all_come before) (may_come before (Return t)) ok).0 in
     go (accepted_judged s before earlier shaped.1) (routed_judged s before earlier shaped.1) (find (is_of t) (open_calls (judged s before))) refl
   where
     go : IsAccepted before (judged s before) → AreRouted (births (history (judged s before))) (routed (judged s before)) → (f : Option Opened) → find (is_of t) (open_calls (judged s before)) ≡ f

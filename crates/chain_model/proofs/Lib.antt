@@ -19,6 +19,8 @@ pub mod Sounding
 pub mod Knowing
 pub mod Naming
 pub mod Eventing
+pub mod Gapped
+pub mod Coming
 pub mod Accepted
 pub mod Stepping
 pub mod Routing

@@ -8,9 +8,9 @@ use Rattle.trace_format.specs.Content.{TraceEvent, BeginEvent, Begin, Return}
 use Rattle.object_model.specs.Values.{Answered, first_value, value_for, values_answered}
 use Rattle.layer_model.specs.Ids.{is_wrapped}
 
--- a begin of the grammar: its thread is small, and it has an argument for each parameter
+-- a begin of the grammar: the threads of the names that it gives are small, and it has an argument for each parameter
 pub record IsShaped (b : BeginEvent) : Type 0 where
-  pub thread : b.thread < 2048
+  pub names : AllByRecursion (λ n. n.thread < 2048) b.results
   pub args : length b.args ≡ length (row_of b.cmd).params
 
 -- a begin is of the grammar

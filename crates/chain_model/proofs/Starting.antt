@@ -1,13 +1,11 @@
 -- The first instance: no part has seen another open call, and no other open call has come to a part.
-use Rattle.std.proofs.Common.{◌≡◌, ◌==◌, ◌≤◌, ℕ, ◌+◌, Bool, true, false, not, cond, ◌&&◌, ◌||◌, Option, Some, None, List, [], ◌∷◌, ◌++◌, map, refl, sym, ◌∙◌, ap, subst, arith}
+use Rattle.std.proofs.Common.{◌≡◌, ◌==◌, ◌≤◌, ℕ, Bool, true, false, not, cond, ◌&&◌, ◌||◌, Option, Some, None, List, [], ◌∷◌, ◌++◌, map, refl, sym, ◌∙◌, ap, subst, arith}
 use Rattle.std.proofs.lemmas.Bool.{eq-eqb, eqb-true}
 use Rattle.std.specs.Prelude.{find, filter, nat_le}
-use Rattle.std.specs.List.{list_any, list_all, AllByRecursion}
-use Rattle.std.specs.Option.{option_map_or, is_none}
+use Rattle.std.specs.List.{list_any, AllByRecursion}
+use Rattle.std.specs.Option.{option_map_or}
 use Rattle.command_tables.specs.declared.types.CommandId.{CommandId}
 use Rattle.command_tables.specs.declared.types.CommandId.TheVariants as cmd
-use Rattle.trace_format.specs.declared.fault.TraceFault.{TraceFault}
-use Rattle.trace_format.specs.declared.fault.TraceFault.TheVariants as fault
 use Rattle.object_model.specs.declared.Object.{Object}
 use Rattle.object_model.specs.declared.Argument.{Argument}
 use Rattle.replay_model.specs.declared.Born.{Born}
@@ -15,7 +13,7 @@ use Rattle.command_tables.specs.declared.types.Code.TheVariants as code
 use Rattle.object_model.specs.declared.PartKind.{PartKind}
 use Rattle.command_tables.specs.Table.{ParamSpec, row_of}
 use Rattle.command_tables.specs.Tests.{same_command, same_code}
-use Rattle.trace_format.specs.Accepting.{is_open, is_known, is_of_type, names_used, names_given, count_on, makes_instance, begins_instance, is_no_return_of, breaks_in, breaks_instance, first_fault, fault_after, are_accepted}
+use Rattle.trace_format.specs.Accepting.{makes_instance, begins_instance, is_no_return_of, breaks_in}
 use Rattle.trace_format.specs.Content.{TraceEvent, BeginEvent, Begin, Return}
 use Rattle.object_model.specs.History.{Begins, Returns, History, births, alive}
 use Rattle.object_model.specs.Rules.{params_from, loader_failures}
@@ -27,7 +25,7 @@ use Rattle.replay_model.specs.Past.{Opened, Past, Began, Returned, is_of, call_o
 use Rattle.object_model.specs.Findings.{Report, Findings, is_failing, at_place}
 use Rattle.replay_model.specs.ChainPlaces.{seen_past, reaches, stops_at, findings, parts_checked, parts_in_force}
 use Rattle.replay_model.specs.Judged.{begun_of, judge, judged, made_of, returned_by}
-use Rattle.replay_model.proofs.Accepted.{begins-idle}
+use Rattle.chain_model.specs.Gaps.{may_all_come, may_come}
 use Rattle.chain_model.specs.Tokens.{token_in}
 use Rattle.chain_model.proofs.Shapes.{AreShaped}
 use Rattle.chain_model.specs.Stops.{StopOk, StopsFit}
@@ -39,26 +37,14 @@ use Rattle.chain_model.proofs.Sounding.{seen_births}
 use Rattle.chain_model.proofs.Passing.{AreTyped}
 use Rattle.chain_model.specs.Simulated.{ChainKept, ChainStands, found_by, fresh_of, with_parts}
 use Rattle.chain_model.proofs.Sound.{IsBeside, IsFirst}
+use Rattle.chain_model.proofs.Coming.{begins_idle, no_break, no_break_return}
 use Rattle.chain_model.proofs.Accepted.{IsAccepted, accepted_judged}
 use Rattle.chain_model.proofs.Quiet.{last_begins, IsWholeEvent, IsIdle, IsQuiet}
 use Rattle.layer_model.proofs.Same.{and_true}
 use Rattle.chain_model.proofs.Eventing.{all_append, all_filter, all_found}
 use Rattle.chain_model.proofs.Quieting.{begun_idle, command_is, quiet_judged}
 
--- ---- what an accepted event doesn't break
-
-begin_breaks : (a b c d e : Bool) (f g h i j : TraceFault) → is_none (first_fault ((a, f) ∷ (b, g) ∷ (c, h) ∷ (d, i) ∷ (e, j) ∷ [])) ≡ true → e ≡ false
-begin_breaks false false false false false f g h i j is = refl
-begin_breaks false false false false true f g h i j is = cc is
-begin_breaks true b c d e f g h i j is = cc is
-begin_breaks false true c d e f g h i j is = cc is
-begin_breaks false false true d e f g h i j is = cc is
-begin_breaks false false false true e f g h i j is = cc is
-
-return_breaks : (a b : Bool) (f g : TraceFault) → is_none (first_fault ((a, f) ∷ (b, g) ∷ [])) ≡ true → b ≡ false
-return_breaks false false f g is = refl
-return_breaks false true f g is = cc is
-return_breaks true b f g is = cc is
+-- ---- what an event that may come doesn't break
 
 pub or_left : (a b : Bool) → (a || b) ≡ false → a ≡ false
 or_left false b e = refl
@@ -68,18 +54,8 @@ pub or_right : (a b : Bool) → (a || b) ≡ false → b ≡ false
 or_right false b e = e
 or_right true b e = cc e
 
--- so an accepted begin breaks into no creation
-pub no_break : (before : List TraceEvent) (b : BeginEvent) → is_none (fault_after before (Begin b)) ≡ true → breaks_instance before (Begin b) ≡ false
-no_break before b is =
-    begin_breaks (is_open b.thread before) (not (list_all (is_known before) (names_used (row_of b.cmd).params b.args))) (not (list_all (is_of_type before) (names_used (row_of b.cmd).params b.args)))
-    (not (count_on b.thread (names_given b.thread before + 1) b.results)) (breaks_instance before (Begin b)) fault.Busy fault.Unknown fault.WrongType fault.Sequence fault.Instance is
-
--- nor does an accepted return
-no_break_return : (before : List TraceEvent) (thread : ℕ) → is_none (fault_after before (Return thread)) ≡ true → breaks_instance before (Return thread) ≡ false
-no_break_return before thread is = return_breaks (not (is_open thread before)) (breaks_instance before (Return thread)) fault.Idle fault.Instance is
-
 -- a begin doesn't follow such a begin
-pub after_no_begin : (before : List TraceEvent) (b : BeginEvent) → is_none (fault_after before (Begin b)) ≡ true → last_begins before ≡ false
+pub after_no_begin : (before : List TraceEvent) (b : BeginEvent) → may_come before (Begin b) ≡ true → last_begins before ≡ false
 after_no_begin [] b is = refl
 after_no_begin (e ∷ before) b is = go e (or_right (makes_instance (Begin b) && list_any makes_instance (e ∷ before)) (breaks_in (e ∷ before) (Begin b)) (no_break (e ∷ before) b is))
   where
@@ -164,24 +140,24 @@ calm_return s past t quiet calm = go (find (is_of t) (open_calls past)) refl
         calm_returned s past o (made_of s past o) calm (all_found (λ x. same_command x.cmd cmd.CreateInstance ≡ false) (is_of t) (open_calls past) o calm.others is) (all_found IsIdle (is_of t) (open_calls past) o quiet.opens is)
 
 -- so it is of each accepted trace that makes no instance, where its last event begins no creation
-pub calm_judged : (s : Setup) (events : List TraceEvent) → are_accepted events ≡ true → list_any makes_instance events ≡ false → AllByRecursion IsWholeEvent events → last_begins events ≡ false → IsCalm (judged s events)
+pub calm_judged : (s : Setup) (events : List TraceEvent) → may_all_come events ≡ true → list_any makes_instance events ≡ false → AllByRecursion IsWholeEvent events → last_begins events ≡ false → IsCalm (judged s events)
 calm_judged s [] ok none whole last = record { others = tt; unused = λ f j low. refl }
 calm_judged s (Begin b ∷ before) ok none whole last =
-    let a = and_true (are_accepted before) (is_none (fault_after before (Begin b))) ok in
+    let a = and_true (may_all_come before) (may_come before (Begin b)) ok in
     let quiet : IsQuiet s (judged s before) = quiet_judged s before (or_right (makes_instance (Begin b)) (list_any makes_instance before) none) whole.1 in
     calm_begun s (judged s before) b (calm_judged s before a.0 (or_right (makes_instance (Begin b)) (list_any makes_instance before) none) whole.1 (after_no_begin before b a.1)) last
     (begun_idle s (judged s before) b quiet.born (or_left (makes_instance (Begin b)) (list_any makes_instance before) none) whole.0)
 calm_judged s (Return t ∷ []) ok none whole last = record { others = tt; unused = λ f j low. refl }
 calm_judged s (Return t ∷ Return u ∷ before) ok none whole last =
-    let a = and_true (are_accepted (Return u ∷ before)) (is_none (fault_after (Return u ∷ before) (Return t))) ok in
+    let a = and_true (may_all_come (Return u ∷ before)) (may_come (Return u ∷ before) (Return t)) ok in
     calm_return s (judged s (Return u ∷ before)) t (quiet_judged s (Return u ∷ before) none whole.1) (calm_judged s (Return u ∷ before) a.0 none whole.1 refl)
 calm_judged s (Return t ∷ Begin b ∷ before) ok none whole last =
-    let a = and_true (are_accepted (Begin b ∷ before)) (is_none (fault_after (Begin b ∷ before) (Return t))) ok in
+    let a = and_true (may_all_come (Begin b ∷ before)) (may_come (Begin b ∷ before) (Return t)) ok in
     let rest : list_any makes_instance before ≡ false = or_right (makes_instance (Begin b)) (list_any makes_instance before) none in
-    let c = and_true (are_accepted before) (is_none (fault_after before (Begin b))) a.0 in
+    let c = and_true (may_all_come before) (may_come before (Begin b)) a.0 in
     let broken = no_break_return (Begin b ∷ before) t a.1 in
     by_last (same_command b.cmd cmd.CreateInstance) refl (or_right (makes_instance (Return t) && list_any makes_instance (Begin b ∷ before)) (breaks_in (Begin b ∷ before) (Return t)) broken)
-    (quiet_judged s (Begin b ∷ before) none whole.1) (λ e. calm_judged s (Begin b ∷ before) a.0 none whole.1 e) (calm_judged s before c.0 rest whole.1.1 (after_no_begin before b c.1)) ((begins-idle s (Begin b ∷ before) a.0).0)
+    (quiet_judged s (Begin b ∷ before) none whole.1) (λ e. calm_judged s (Begin b ∷ before) a.0 none whole.1 e) (calm_judged s before c.0 rest whole.1.1 (after_no_begin before b c.1)) ((begins_idle s (Begin b ∷ before) a.0).0)
   where
     and_not : (x y : Bool) → x ≡ true → (x && not y) ≡ false → y ≡ true
     and_not true true e h = refl
@@ -221,12 +197,12 @@ no_earlier true y e h = h
 no_earlier false y e h = cc e
 
 -- at the return of the call that makes the first instance, nothing was born, each part has seen this call open and no other, and no other open call has come to a part
-pub first_instance : (s : Setup) (b : BeginEvent) (before : List TraceEvent) → are_accepted (Begin b ∷ before) ≡ true → AreShaped (Begin b ∷ before) → AllByRecursion IsWholeEvent (Begin b ∷ before) → makes_instance (Begin b) ≡ true
+pub first_instance : (s : Setup) (b : BeginEvent) (before : List TraceEvent) → may_all_come (Begin b ∷ before) ≡ true → AreShaped (Begin b ∷ before) → AllByRecursion IsWholeEvent (Begin b ∷ before) → makes_instance (Begin b) ≡ true
     → (begun_of s (judged s before) b).opened.refused ≡ false → (begun_of s (judged s before) b).opened.stop ≡ None
     → IsFirst (judged s (Begin b ∷ before)) (begun_of s (judged s before) b).opened × AllByRecursion (IsBeside (begun_of s (judged s before) b).opened) (open_calls (judged s (Begin b ∷ before)))
 first_instance s b before ok shaped whole makes goes passes =
     let o : Opened = (begun_of s (judged s before) b).opened in
-    let a = and_true (are_accepted before) (is_none (fault_after before (Begin b))) ok in
+    let a = and_true (may_all_come before) (may_come before (Begin b)) ok in
     let none : list_any makes_instance before ≡ false = no_earlier (makes_instance (Begin b)) (list_any makes_instance before) makes (or_left (makes_instance (Begin b) && list_any makes_instance before) (breaks_in before (Begin b)) (no_break before b a.1)) in
     let quiet : IsQuiet s (judged s before) = quiet_judged s before none whole.1 in
     let calm : IsCalm (judged s before) = calm_judged s before a.0 none whole.1 (after_no_begin before b a.1) in
@@ -243,7 +219,7 @@ first_instance s b before ok shaped whole makes goes passes =
             (calm.unused (token_in (births (history (judged s before)))) j low)
             ∙ ap (λ (us : List Use). record { number = o.number; thread = o.thread; uses = us } ∷ []) (uses_none (renamed (token_in (births (history (judged s before)))) (seen_past (judged s before) j)) b.cmd (renamed_args (token_in (births (history (judged s before)))) o.args) creates));
       },
-      all_append (IsBeside o) (open_calls (judged s before)) (o ∷ []) (beside_idle o (open_calls (judged s before)) ((begins-idle s (Begin b ∷ before) ok).0) calm.others quiet.opens)
+      all_append (IsBeside o) (open_calls (judged s before)) (o ∷ []) (beside_idle o (open_calls (judged s before)) ((begins_idle s (Begin b ∷ before) ok).0) calm.others quiet.opens)
           (record { own = λ h. (refl, no_args, reach); other = λ h j low. (let bad : true ≡ false = sym (eq-eqb o.thread o.thread refl) ∙ h in cc) }, tt),
     )
   where
@@ -274,11 +250,11 @@ quiet_fits s (Begin b ∷ before) none whole ps = begin_low s before b (or_right
 quiet_fits s (Return t ∷ before) none whole ps = return_fits s (judged s before) t ps (quiet_fits s before none whole.1 ps)
 
 -- the chain that comes in force at the first instance stands, and no call was stopped below a lifetimes part of it
-pub chain_starts : (s : Setup) (k : ChainKept) (b : BeginEvent) (before : List TraceEvent) (replies : List ReplyContent) (ps : List PartKind) → are_accepted (Begin b ∷ before) ≡ true → AreShaped (Begin b ∷ before) → AllByRecursion IsWholeEvent (Begin b ∷ before) → makes_instance (Begin b) ≡ true
+pub chain_starts : (s : Setup) (k : ChainKept) (b : BeginEvent) (before : List TraceEvent) (replies : List ReplyContent) (ps : List PartKind) → may_all_come (Begin b ∷ before) ≡ true → AreShaped (Begin b ∷ before) → AllByRecursion IsWholeEvent (Begin b ∷ before) → makes_instance (Begin b) ≡ true
     → (begun_of s (judged s before) b).opened.refused ≡ false → (begun_of s (judged s before) b).opened.stop ≡ None → ChainStands k (judged s (Begin b ∷ before)) replies → k.states ≡ [] → is_guarded (map (fresh_of (begun_of s (judged s before) b).opened) ps) ≡ true
     → ChainStands (with_parts k (begun_of s (judged s before) b).opened ps) (judged s (Begin b ∷ before)) replies × StopsFit ps (judged s (Begin b ∷ before))
 chain_starts s k b before replies ps ok shaped whole makes goes passes st none guard =
-    let a = and_true (are_accepted before) (is_none (fault_after before (Begin b))) ok in
+    let a = and_true (may_all_come before) (may_come before (Begin b)) ok in
     let first = first_instance s b before ok shaped whole makes goes passes in
     let accepted : IsAccepted (Begin b ∷ before) (judged s (Begin b ∷ before)) = accepted_judged s (Begin b ∷ before) ok shaped in
     let no_other : list_any makes_instance before ≡ false = no_earlier (makes_instance (Begin b)) (list_any makes_instance before) makes (or_left (makes_instance (Begin b) && list_any makes_instance before) (breaks_in before (Begin b)) (no_break before b a.1)) in (
@@ -296,19 +272,19 @@ others_left s past t others = go (find (is_of t) (open_calls past))
     go (Some o) = all_filter (λ x. same_command x.cmd cmd.CreateInstance ≡ false) (λ x. not (is_of o.thread x)) (open_calls past) others
 
 -- no creation is open in any accepted trace whose last event doesn't begin one
-pub others_judged : (s : Setup) (events : List TraceEvent) → are_accepted events ≡ true → last_begins events ≡ false → AllByRecursion (λ x. same_command x.cmd cmd.CreateInstance ≡ false) (open_calls (judged s events))
+pub others_judged : (s : Setup) (events : List TraceEvent) → may_all_come events ≡ true → last_begins events ≡ false → AllByRecursion (λ x. same_command x.cmd cmd.CreateInstance ≡ false) (open_calls (judged s events))
 others_judged s [] ok last = tt
 others_judged s (Begin b ∷ before) ok last =
-    let a = and_true (are_accepted before) (is_none (fault_after before (Begin b))) ok in
+    let a = and_true (may_all_come before) (may_come before (Begin b)) ok in
     all_append (λ x. same_command x.cmd cmd.CreateInstance ≡ false) (open_calls (judged s before)) ((begun_of s (judged s before) b).opened ∷ []) (others_judged s before a.0 (after_no_begin before b a.1)) (last, tt)
 others_judged s (Return t ∷ []) ok last = tt
 others_judged s (Return t ∷ Return u ∷ before) ok last =
-    let a = and_true (are_accepted (Return u ∷ before)) (is_none (fault_after (Return u ∷ before) (Return t))) ok in others_left s (judged s (Return u ∷ before)) t (others_judged s (Return u ∷ before) a.0 refl)
+    let a = and_true (may_all_come (Return u ∷ before)) (may_come (Return u ∷ before) (Return t)) ok in others_left s (judged s (Return u ∷ before)) t (others_judged s (Return u ∷ before) a.0 refl)
 others_judged s (Return t ∷ Begin b ∷ before) ok last =
-    let a = and_true (are_accepted (Begin b ∷ before)) (is_none (fault_after (Begin b ∷ before) (Return t))) ok in
-    let c = and_true (are_accepted before) (is_none (fault_after before (Begin b))) a.0 in
+    let a = and_true (may_all_come (Begin b ∷ before)) (may_come (Begin b ∷ before) (Return t)) ok in
+    let c = and_true (may_all_come before) (may_come before (Begin b)) a.0 in
     by_last (same_command b.cmd cmd.CreateInstance) refl (or_right (makes_instance (Return t) && list_any makes_instance (Begin b ∷ before)) (breaks_in (Begin b ∷ before) (Return t)) (no_break_return (Begin b ∷ before) t a.1))
-    (λ e. others_judged s (Begin b ∷ before) a.0 e) (others_judged s before c.0 (after_no_begin before b c.1)) ((begins-idle s (Begin b ∷ before) a.0).0)
+    (λ e. others_judged s (Begin b ∷ before) a.0 e) (others_judged s before c.0 (after_no_begin before b c.1)) ((begins_idle s (Begin b ∷ before) a.0).0)
   where
     and_not : (x y : Bool) → x ≡ true → (x && not y) ≡ false → y ≡ true
     and_not true true e h = refl

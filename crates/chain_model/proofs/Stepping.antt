@@ -7,7 +7,6 @@ use Rattle.replay_model.specs.declared.Born.{Born}
 use Rattle.object_model.specs.declared.PartKind.{PartKind}
 use Rattle.command_tables.specs.Calls.{ReplyContent}
 use Rattle.command_tables.specs.Table.{row_of}
-use Rattle.trace_format.specs.Accepting.{are_accepted}
 use Rattle.trace_format.specs.Content.{TraceEvent, BeginEvent, Begin, Return}
 use Rattle.object_model.specs.History.{Call, Birth, born_in, births, alive}
 use Rattle.object_model.specs.Rules.{loader_failures}
@@ -18,6 +17,7 @@ use Rattle.object_model.specs.Findings.{Findings, is_failing, at_place}
 use Rattle.replay_model.specs.ChainPlaces.{reaches, findings, parts_checked, parts_in_force}
 use Rattle.replay_model.specs.Judged.{judge, judged, begun_of, made_of, returned_by}
 use Rattle.replay_model.specs.Direct.{answers_of, sent}
+use Rattle.chain_model.specs.Gaps.{may_all_come}
 use Rattle.chain_model.specs.Tokens.{number_in}
 use Rattle.chain_model.specs.Stops.{StopOk, IsLifeAt, StopsFit}
 use Rattle.chain_model.proofs.Shapes.{AreShaped, AnsweredWell}
@@ -92,7 +92,7 @@ held_found states bs thread (x ∷ held) (y ∷ opens) h o s fh fo = go (x.threa
         let other : (y.thread == thread) ≡ false = ap (λ (n : ℕ). n == thread) (sym s.0) ∙ e in ih p (sym (ap (λ u. cond u (Some y) (find (is_of thread) opens)) other) ∙ q)
 
 -- the return of a call that was sent
-pub step_reply : {X : Type 0} (s : Setup) (k : ChainKept) (events : List TraceEvent) (thread : ℕ) (o : Opened) (h : Held) (lost : List X) (replies : List ReplyContent) → are_accepted events ≡ true → AreShaped events → ChainStands k (judged s events) replies
+pub step_reply : {X : Type 0} (s : Setup) (k : ChainKept) (events : List TraceEvent) (thread : ℕ) (o : Opened) (h : Held) (lost : List X) (replies : List ReplyContent) → may_all_come events ≡ true → AreShaped events → ChainStands k (judged s events) replies
     → StopsFit (map kind_of k.states) (judged s events) → find (is_of thread) (open_calls (judged s events)) ≡ Some o → find (λ (x : Held). x.thread == thread) k.held ≡ Some h → o.refused ≡ false → o.stop ≡ None
     → AnsweredWell o.cmd (answers_of (sent (judged s events) replies) o.thread) (made_of s (judged s events) o)
     → ChainStands (after_reply k o h (answers_of (sent (judged s events) replies) o.thread) (made_of s (judged s events) o) lost) (judged s (Return thread ∷ events)) replies
@@ -111,7 +111,7 @@ step_reply {X = X} s k events thread o h lost replies ok shaped st fits is held 
     (record { asks = asks_born (births (history past)) o.cmd o.payload o.args known; placed = well.placed; apart = well.apart; have = well.have; live = answered.live; sole = answered.sole }))
 
 -- the return of a skipped call
-pub step_skipped : {X : Type 0} (s : Setup) (k : ChainKept) (events : List TraceEvent) (thread : ℕ) (o : Opened) (h : Held) (lost : List X) (replies : List ReplyContent) → are_accepted events ≡ true → AreShaped events → ChainStands k (judged s events) replies
+pub step_skipped : {X : Type 0} (s : Setup) (k : ChainKept) (events : List TraceEvent) (thread : ℕ) (o : Opened) (h : Held) (lost : List X) (replies : List ReplyContent) → may_all_come events ≡ true → AreShaped events → ChainStands k (judged s events) replies
     → StopsFit (map kind_of k.states) (judged s events) → find (is_of thread) (open_calls (judged s events)) ≡ Some o → find (λ (x : Held). x.thread == thread) k.held ≡ Some h → is_skipped o ≡ true
     → ChainStands (after_skipped k o h lost) (judged s (Return thread ∷ events)) replies
 step_skipped {X = X} s k events thread o h lost replies ok shaped st fits is held skipped =

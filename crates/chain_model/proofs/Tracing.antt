@@ -3,13 +3,12 @@ use Rattle.std.proofs.Common.{◌≡◌, ◌==◌, ℕ, ◌+◌, Bool, true, fal
 use Rattle.std.proofs.lemmas.Bool.{eqb-true}
 use Rattle.std.specs.Prelude.{find, is_some}
 use Rattle.std.specs.List.{list_any, AllByRecursion}
-use Rattle.std.specs.Option.{is_none}
 use Rattle.command_tables.specs.Calls.{ReplyContent}
 use Rattle.command_tables.specs.declared.types.CommandId.TheVariants as cmd
 use Rattle.command_tables.specs.Effects.{succeeds, type_made}
 use Rattle.command_tables.specs.Table.{row_of}
 use Rattle.command_tables.specs.Tests.{same_command}
-use Rattle.trace_format.specs.Accepting.{are_accepted, breaks_in, fault_after, makes_instance}
+use Rattle.trace_format.specs.Accepting.{breaks_in, makes_instance}
 use Rattle.trace_format.specs.Content.{BeginEvent, TraceEvent, Begin, Return}
 use Rattle.object_model.specs.declared.Object.{Object}
 use Rattle.object_model.specs.declared.Argument.{Argument}
@@ -35,13 +34,15 @@ use Rattle.layer_model.specs.Walks.{PartState, are_parts_guarded, kind_of, nothi
 use Rattle.layer_model.proofs.Same.{and_true}
 use Rattle.chain_model.proofs.Passing.{AreTyped, births_then, results_above, retrievals_then}
 use Rattle.chain_model.proofs.OneRoute.{AreRouted}
+use Rattle.chain_model.specs.Gaps.{IsGapped, may_all_come, may_come}
 use Rattle.chain_model.specs.Routes.{routes_in}
 use Rattle.chain_model.specs.Simulated.{ChainKept, ChainStands, Held, IsBottom, after_none, after_reply, after_skipped, after_walk, base_of, born_flags, first_of, found_by, no_chain, walk_of, with_forms, with_parts}
 use Rattle.chain_model.proofs.Sound.{Sound}
 use Rattle.chain_model.proofs.Shapes.{AnsweredWell}
 use Rattle.chain_model.specs.Stops.{StopsFit}
-use Rattle.chain_model.specs.Traces.{GivesGuarded, GoesDown, IsSent, IsTrace, Simulates, held_in_force, in_force, loader_finds, starts_chain}
-use Rattle.chain_model.proofs.Accepted.{IsAccepted, accepted_judged, args_typed, begins_well}
+use Rattle.chain_model.specs.Traces.{GivesGuarded, GoesDown, IsSent, Simulates, held_in_force, in_force, loader_finds, starts_chain}
+use Rattle.chain_model.proofs.Coming.{begins_well, no_break}
+use Rattle.chain_model.proofs.Accepted.{IsAccepted, accepted_judged, args_typed}
 use Rattle.chain_model.proofs.Answering.{answered_well, is_nothing, or_parts, sent_well}
 use Rattle.chain_model.proofs.Eventing.{all_append, all_filter, all_found}
 use Rattle.chain_model.proofs.Grammar.{fit_length, shaped, whole}
@@ -51,7 +52,7 @@ use Rattle.chain_model.proofs.Naming.{MadeOf, found_passes}
 use Rattle.chain_model.proofs.Quieting.{creation_fails, quiet_judged}
 use Rattle.chain_model.proofs.Simulating.{begin_finds, begin_stands, found_all, fresh_kinds, left_kinds, told_well, walk_well}
 use Rattle.chain_model.proofs.Sounding.{arguments_known}
-use Rattle.chain_model.proofs.Starting.{after_no_begin, chain_starts, no_break, no_earlier, or_left, others_judged, params_none}
+use Rattle.chain_model.proofs.Starting.{after_no_begin, chain_starts, no_earlier, or_left, others_judged, params_none}
 use Rattle.chain_model.proofs.Terminating.{Answered_by, answers_well}
 use Rattle.chain_model.proofs.Stepping.{begin_fits, held_found, nothing_stands, return_fits, sound_of, step_reply, step_skipped}
 
@@ -69,7 +70,7 @@ quiet_parts past call (part.Threads ∷ ps) k none = rw none (ap (above []) (qui
 quiet_parts past call (part.Lifetimes ∷ ps) k none = rw none (ap (above []) (quiet_parts past call ps (k + 1) none))
 quiet_parts past call (part.Unique ∷ ps) k none = quiet_parts past call ps (k + 1) none
 
-module _ (s : Setup) (k : ChainKept) (events : List TraceEvent) (b : BeginEvent) (replies after : List ReplyContent) (trace : IsTrace (Begin b ∷ events)) (st : Simulates s k events replies) where
+module _ (s : Setup) (k : ChainKept) (events : List TraceEvent) (b : BeginEvent) (replies after : List ReplyContent) (trace : IsGapped (Begin b ∷ events)) (st : Simulates s k events replies) where
   abbrev past : Past
   past = judged s events
 
@@ -79,8 +80,8 @@ module _ (s : Setup) (k : ChainKept) (events : List TraceEvent) (b : BeginEvent)
   abbrev fs : List Failure
   fs = loader_finds (judged s events) (begun_of s (judged s events) b).opened
 
-  accepts : (are_accepted events ≡ true) × (is_none (fault_after events (Begin b)) ≡ true)
-  accepts = and_true (are_accepted events) (is_none (fault_after events (Begin b))) trace.accepted
+  accepts : (may_all_come events ≡ true) × (may_come events (Begin b) ≡ true)
+  accepts = and_true (may_all_come events) (may_come events (Begin b)) trace.each
 
   accepted : IsAccepted events past
   accepted = accepted_judged s events accepts.0 (shaped events trace.grammar.1)
@@ -161,12 +162,12 @@ pub record LastBegun (s : Setup) (events : List TraceEvent) (o : Opened) : Type 
 not_both : {u : Bool} → u ≡ true → u ≡ false → ⊥
 not_both a b = cc
 
-creation_last : (s : Setup) (events : List TraceEvent) (thread : ℕ) (o : Opened) → are_accepted events ≡ true → find (is_of thread) (open_calls (judged s events)) ≡ Some o → same_command o.cmd cmd.CreateInstance ≡ true → LastBegun s events o
+creation_last : (s : Setup) (events : List TraceEvent) (thread : ℕ) (o : Opened) → may_all_come events ≡ true → find (is_of thread) (open_calls (judged s events)) ≡ Some o → same_command o.cmd cmd.CreateInstance ≡ true → LastBegun s events o
 creation_last s [] thread o ok is creates = cc is
 creation_last s (Return t ∷ before) thread o ok is creates =
     absurd (not_both creates (all_found (λ x. same_command x.cmd cmd.CreateInstance ≡ false) (is_of thread) (open_calls (judged s (Return t ∷ before))) o (others_judged s (Return t ∷ before) ok refl) is))
 creation_last s (Begin b ∷ before) thread o ok is creates =
-    let a = and_true (are_accepted before) (is_none (fault_after before (Begin b))) ok in
+    let a = and_true (may_all_come before) (may_come before (Begin b)) ok in
     go (open_calls (judged s before)) (others_judged s before a.0 (after_no_begin before b a.1)) is
   where
     last : (find (is_of thread) ((begun_of s (judged s before) b).opened ∷ []) ≡ Some o) → LastBegun s (Begin b ∷ before) o
@@ -192,17 +193,17 @@ no_states (x ∷ states) e = cc e
 StartsWell : Setup → ChainKept → List TraceEvent → List ReplyContent → Opened → Type 0
 StartsWell s k events replies o = ChainStands (with_parts k o (parts_of (s.outcome o.payload))) (judged s events) replies × StopsFit (parts_of (s.outcome o.payload)) (judged s events)
 
-starts_last : (s : Setup) (k : ChainKept) (b : BeginEvent) (before : List TraceEvent) (replies : List ReplyContent) → IsTrace (Begin b ∷ before) → Simulates s k (Begin b ∷ before) replies → GivesGuarded s
+starts_last : (s : Setup) (k : ChainKept) (b : BeginEvent) (before : List TraceEvent) (replies : List ReplyContent) → IsGapped (Begin b ∷ before) → Simulates s k (Begin b ∷ before) replies → GivesGuarded s
     → is_skipped (begun_of s (judged s before) b).opened ≡ false → starts_chain (begun_of s (judged s before) b).opened ≡ true → StartsWell s k (Begin b ∷ before) replies (begun_of s (judged s before) b).opened
 unfolding StartsWell
 starts_last s k b before replies trace st guarded goes starts =
-    let a = and_true (are_accepted before) (is_none (fault_after before (Begin b))) trace.accepted in
+    let a = and_true (may_all_come before) (may_come before (Begin b)) trace.each in
     let parts = and_true (same_command b.cmd cmd.CreateInstance) (succeeds b.cmd b.code) starts in
     let all = whole (Begin b ∷ before) trace.grammar in
     let makes : makes_instance (Begin b) ≡ true = made (makes_instance (Begin b)) refl parts.0 parts.1 in
     let none : list_any makes_instance before ≡ false = no_earlier (makes_instance (Begin b)) (list_any makes_instance before) makes (or_left (makes_instance (Begin b) && list_any makes_instance before) (breaks_in before (Begin b)) (no_break before b a.1)) in
     let stop = or_parts (begun_of s (judged s before) b).opened.refused (is_some (begun_of s (judged s before) b).opened.stop) goes in
-    chain_starts s k b before replies (parts_of (s.outcome b.payload)) trace.accepted (shaped (Begin b ∷ before) trace.grammar) all makes stop.0 (is_nothing (begun_of s (judged s before) b).opened.stop stop.1) st.chain
+    chain_starts s k b before replies (parts_of (s.outcome b.payload)) trace.each (shaped (Begin b ∷ before) trace.grammar) all makes stop.0 (is_nothing (begun_of s (judged s before) b).opened.stop stop.1) st.chain
     (no_states k.states (st.kinds ∙ (quiet_judged s before none all.1).parts)) (ap are_parts_guarded (fresh_kinds (begun_of s (judged s before) b).opened (parts_of (s.outcome b.payload))) ∙ guarded b.payload)
   where
     made : (u : Bool) → makes_instance (Begin b) ≡ u → same_command b.cmd cmd.CreateInstance ≡ true → succeeds b.cmd b.code ≡ true → makes_instance (Begin b) ≡ true
@@ -213,11 +214,11 @@ starts_are : (s : Setup) (k : ChainKept) (events : List TraceEvent) (replies : L
 unfolding StartsWell
 starts_are s k events replies o w = w
 
-starts_well : (s : Setup) (k : ChainKept) (events : List TraceEvent) (replies : List ReplyContent) (o : Opened) → LastBegun s events o → IsTrace events → Simulates s k events replies → GivesGuarded s → is_skipped o ≡ false → starts_chain o ≡ true → StartsWell s k events replies o
+starts_well : (s : Setup) (k : ChainKept) (events : List TraceEvent) (replies : List ReplyContent) (o : Opened) → LastBegun s events o → IsGapped events → Simulates s k events replies → GivesGuarded s → is_skipped o ≡ false → starts_chain o ≡ true → StartsWell s k events replies o
 starts_well s k events replies o last trace st guarded goes starts =
     subst (λ (y : Opened). StartsWell s k events replies y) last.opened
     (subst (λ es. StartsWell s k es replies (begun_of s (judged s last.before) last.begin).opened) (sym last.events_are)
-    (starts_last s k last.begin last.before replies (subst IsTrace last.events_are trace) (subst (λ es. Simulates s k es replies) last.events_are st) guarded
+    (starts_last s k last.begin last.before replies (subst IsGapped last.events_are trace) (subst (λ es. Simulates s k es replies) last.events_are st) guarded
     (ap is_skipped last.opened ∙ goes) (ap starts_chain last.opened ∙ starts)))
 
 -- the held call then
@@ -260,7 +261,7 @@ and_false : (u : Bool) → (u && false) ≡ false
 and_false true = refl
 and_false false = refl
 
-module _ {X : Type 0} (s : Setup) (k : ChainKept) (events : List TraceEvent) (thread : ℕ) (o : Opened) (h : Held) (lost : List X) (replies : List ReplyContent) (trace : IsTrace events) (st : Simulates s k events replies)
+module _ {X : Type 0} (s : Setup) (k : ChainKept) (events : List TraceEvent) (thread : ℕ) (o : Opened) (h : Held) (lost : List X) (replies : List ReplyContent) (trace : IsGapped events) (st : Simulates s k events replies)
     (is : find (is_of thread) (open_calls (judged s events)) ≡ Some o) (held : find (λ (x : Held). x.thread == thread) k.held ≡ Some h) where
   abbrev so_far : Past
   so_far = judged s events
@@ -278,7 +279,7 @@ module _ {X : Type 0} (s : Setup) (k : ChainKept) (events : List TraceEvent) (th
   own_thread = eqb-true o.thread thread (found_passes (is_of thread) (open_calls so_far) o is)
 
   accepted_so : IsAccepted events so_far
-  accepted_so = accepted_judged s events trace.accepted (shaped events trace.grammar)
+  accepted_so = accepted_judged s events trace.each (shaped events trace.grammar)
 
   known_args : KnowsArgs (born_in bs0) o.args
   known_args = all_found (λ x. KnowsArgs (born_in bs0) x.args) (is_of thread) (open_calls so_far) o accepted_so.knowing.opens is
@@ -290,7 +291,7 @@ module _ {X : Type 0} (s : Setup) (k : ChainKept) (events : List TraceEvent) (th
   well_made = made_is s events so_far thread o accepted_so is
 
   routed_so : AreRouted bs0 (routed so_far)
-  routed_so = routed_judged s events trace.accepted (shaped events trace.grammar)
+  routed_so = routed_judged s events trace.each (shaped events trace.grammar)
 
   -- from what holds of the return itself
   returned : (x : ChainKept) → ChainStands x (judged s (Return thread ∷ events)) replies → map kind_of x.states ≡ parts_in_force s (Returned o made0 ∷ so_far) → StopsFit (map kind_of x.states) so_far → x.routes ≡ routes_in (births (history (Returned o made0 ∷ so_far))) (routed (Returned o made0 ∷ so_far))
@@ -314,7 +315,7 @@ module _ {X : Type 0} (s : Setup) (k : ChainKept) (events : List TraceEvent) (th
   pub skipped_up : is_skipped o ≡ true → Simulates s (after_skipped k o h lost) (Return thread ∷ events) replies
   skipped_up skipped =
       let kept = left_kinds o.thread k.states h.forms (map (λ _. 0) lost) in
-      returned (after_skipped k o h lost) (step_skipped s k events thread o h lost replies trace.accepted (shaped events trace.grammar) st.chain st.fits is held skipped)
+      returned (after_skipped k o h lost) (step_skipped s k events thread o h lost replies trace.each (shaped events trace.grammar) st.chain st.fits is held skipped)
       (kept ∙ (st.kinds ∙ sym (parts_then s so_far o made0 (starts_chain o) refl true skipped ∙ ap (λ u. cond u (parts_of (s.outcome o.payload)) (parts_in_force s so_far)) (and_false (starts_chain o)))))
       (subst (λ ps. StopsFit ps so_far) (sym kept) st.fits) (skipped_routes skipped)
 
@@ -329,8 +330,8 @@ module _ {X : Type 0} (s : Setup) (k : ChainKept) (events : List TraceEvent) (th
       let kept = left_kinds o.thread y.states g.forms all.results in
       let bottom : IsBottom bs0 o g.bottom = (held_found y.states bs0 thread y.held (open_calls so_far) g o stands.held there is).1 parts.0 stopless in
       returned (after_reply y o g answers0 made0 lost)
-      (step_reply s y events thread o g lost replies trace.accepted (shaped events trace.grammar) stands fits is there parts.0 stopless
-      (subst (λ t. AnsweredWell o.cmd (answers_of (sent so_far replies) t) made0) (sym own_thread) (answered_well s events replies thread o trace.grammar trace.accepted st.answers is goes well_made)))
+      (step_reply s y events thread o g lost replies trace.each (shaped events trace.grammar) stands fits is there parts.0 stopless
+      (subst (λ t. AnsweredWell o.cmd (answers_of (sent so_far replies) t) made0) (sym own_thread) (answered_well s events replies thread o trace.grammar trace.each st.answers is goes well_made)))
       (kept ∙ kinds) (subst (λ ps. StopsFit ps so_far) (sym kept) fits)
       (ap (λ rs. routes_then rs o.cmd o.drivers (type_made (row_of o.cmd).effect) all.results) (routes ∙ st.routes)
       ∙ routes_sent so_far o made0 lost (first_of (valued so_far replies ++ map (valued_of o answers0) made0)) all.results routed_so well_made (results_are y so_far replies o g answers0 made0 lost stands sound2 typed_args known_args bottom well_made))
@@ -342,7 +343,7 @@ module _ {X : Type 0} (s : Setup) (k : ChainKept) (events : List TraceEvent) (th
           → Simulates s (after_reply (cond (starts_chain o) (with_parts k o (parts_of (s.outcome o.payload))) k) o (cond (starts_chain o) (with_forms o (parts_of (s.outcome o.payload)) h) h) answers0 made0 lost) (Return thread ∷ events) replies
       go true e =
           let ps : List PartKind = parts_of (s.outcome o.payload) in
-          let start = starts_are s k events replies o (starts_well s k events replies o (creation_last s events thread o trace.accepted is (and_true (same_command o.cmd cmd.CreateInstance) (succeeds o.cmd o.code) e).0) trace st guarded goes e) in
+          let start = starts_are s k events replies o (starts_well s k events replies o (creation_last s events thread o trace.each is (and_true (same_command o.cmd cmd.CreateInstance) (succeeds o.cmd o.code) e).0) trace st guarded goes e) in
           rw e (sent_on (with_parts k o ps) (with_forms o ps h) start.0 (subst (λ qs. StopsFit qs so_far) (sym (fresh_kinds o ps)) start.1) (find_mapped o ps thread k.held h held) refl goes
           (fresh_kinds o ps ∙ sym (parts_then s so_far o made0 true e false goes)))
       go false e = rw e (sent_on k h st.chain st.fits held refl goes (st.kinds ∙ sym (parts_then s so_far o made0 false e false goes)))

@@ -5,4 +5,5 @@ pub mod Chained
 pub mod Stops
 pub mod Simulated
 pub mod Routes
+pub mod Gaps
 pub mod Traces

@@ -1,6 +1,6 @@
 //! That a chain of layers, as the exact machine of its parts and its terminator, simulates a trace.
 //! Promises, for every guarded chain and every number of drivers: what the machine finds is what the trace says, what the drivers are told
-//! is what the trace makes, and what is kept stands for the trace after each event.
+//! is what the trace makes, and what is kept stands for the trace after each event. The names of the trace may have gaps in their numbers.
 //! Leaves to others the code of the parts and of the session, which are proved equal to the machine.
 #![tactic(auto)]
 
@@ -18,6 +18,7 @@ ghost use Rattle.replay_model.specs.Past.{Opened, is_of, is_skipped, open_calls}
 ghost use Rattle.replay_model.specs.Direct.{answers_of, sent};
 ghost use Rattle.replay_model.specs.Judged.{begun_of, judged, made_of};
 ghost use Rattle.layer_model.specs.Walks.{enter_parts, new_part, nothing_found};
+ghost use Rattle.chain_model.specs.Gaps.{IsGapped};
 ghost use Rattle.chain_model.specs.Tokens.{token_in};
 ghost use Rattle.chain_model.specs.Simulated.{ChainKept, Held, after_reply, after_skipped, base_of, fresh_of, no_chain};
 ghost use Rattle.chain_model.specs.Traces.{GivesGuarded, GoesDown, IsTrace, Simulates, held_in_force, in_force};
@@ -33,22 +34,28 @@ pub fn no_chain_stands()
     ensures { (s : Setup) → Simulates s no_chain [] [] }
 {}
 
-/// A begin more of a trace: what the loader and the walk find is what the trace says, a call that passes goes to the drivers of the trace
-/// and is told to each of them as the trace says, and what is kept then stands for the trace with the begin.
+/// The names of a trace, numbered in each thread without gaps, are new and distinct: so a trace is such events as the laws below ask for.
+pub fn a_trace_has_new_names()
+    ensures { (events : List TraceEvent) → IsTrace events → IsGapped events }
+{}
+
+/// A begin more of a trace, whose names may have gaps in their numbers: what the loader and the walk find is what the trace says, a call that
+/// passes goes to the drivers of the trace and is told to each of them as the trace says, and what is kept then stands for the trace with
+/// the begin.
 pub fn a_begin_goes_down()
     ensures { (s : Setup) (k : ChainKept) (events : List TraceEvent) (b : BeginEvent) (replies after : List ReplyContent) →
-        IsTrace (Begin b ∷ events) → Simulates s k events replies → GoesDown s k events b replies after (begun_of s (judged s events) b).opened }
+        IsGapped (Begin b ∷ events) → Simulates s k events replies → GoesDown s k events b replies after (begun_of s (judged s events) b).opened }
 {}
 
 /// A return more: after the answers have gone up, or after a skipped call, what is kept stands for the trace with the return. At the
 /// return of the call that makes the instance its chain comes in force before.
 pub fn results_go_up()
     ensures sent { (s : Setup) (k : ChainKept) (events : List TraceEvent) (thread : ℕ) (o : Opened) (h : Held) (lost : List ℕ) (replies : List ReplyContent) →
-        IsTrace events → Simulates s k events replies → find (is_of thread) (open_calls (judged s events)) ≡ Some o → find (λ (x : Held). x.thread == thread) k.held ≡ Some h →
+        IsGapped events → Simulates s k events replies → find (is_of thread) (open_calls (judged s events)) ≡ Some o → find (λ (x : Held). x.thread == thread) k.held ≡ Some h →
         GivesGuarded s → is_skipped o ≡ false →
         Simulates s (after_reply (in_force s k o) o (held_in_force s o h) (answers_of (sent (judged s events) replies) o.thread) (made_of s (judged s events) o) lost) (Return thread ∷ events) replies }
     ensures skipped { (s : Setup) (k : ChainKept) (events : List TraceEvent) (thread : ℕ) (o : Opened) (h : Held) (lost : List ℕ) (replies : List ReplyContent) →
-        IsTrace events → Simulates s k events replies → find (is_of thread) (open_calls (judged s events)) ≡ Some o → find (λ (x : Held). x.thread == thread) k.held ≡ Some h →
+        IsGapped events → Simulates s k events replies → find (is_of thread) (open_calls (judged s events)) ≡ Some o → find (λ (x : Held). x.thread == thread) k.held ≡ Some h →
         is_skipped o ≡ true → Simulates s (after_skipped k o h lost) (Return thread ∷ events) replies }
 {}
 

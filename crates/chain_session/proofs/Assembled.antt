@@ -64,7 +64,7 @@ roomless t = record { ids = t.ids; routes = t.routes; drivers = t.drivers; spare
 
 -- what the program keeps of them
 abbrev pub read_of : Kept → Read
-read_of x = record { calls = x.calls; names = x.parts.names.names; births = x.parts.names.births; states = x.parts.states; handed = x.parts.names.handed; terminator = roomless x.parts.terminator }
+read_of x = record { calls = x.calls; names = x.parts.names.names; births = x.parts.names.births; states = x.parts.states.kept; handed = x.parts.names.handed; terminator = roomless x.parts.terminator }
 
 -- what the definitions keep of them
 abbrev pub read_in : Setup → SessionKept → Read
@@ -252,10 +252,10 @@ held_more s kinds (x ∷ calls) (g ∷ hs) c h all one = (all.0, held_more s kin
 pub record Stepped (s : Setup) (x : Kept) (e : BeginEvent) (number : ℕ) (refusal : Option Code) (judged sent : OpenCall) (verdict : Verdict) (mid : SessionParts) (new : Kept) (log0 log1 : Log) (lines0 lines1 : List ℕ) : Type 0 where
   pub counted : number ≡ x.calls + 1
   pub refused : refusal ≡ refusal_at s e.cmd e.payload
-  pub judges : IsJudged x.parts.names.births x.parts.names.handed x.parts.states (opened_first number x.parts.names.names e refusal) judged verdict mid.states
+  pub judges : IsJudged x.parts.names.births x.parts.names.handed x.parts.states.kept (opened_first number x.parts.names.names e refusal) judged verdict mid.states.kept
   pub passes : Passes x.parts (opened_of judged) mid
   pub keeps : judged.refusal ≡ refusal
-  pub kinds : kinds_of mid.states ≡ kinds_of x.parts.states
+  pub kinds : kinds_of mid.states.kept ≡ kinds_of x.parts.states.kept
   pub sends : IsSentTo x.parts.terminator judged sent log0 log1
   pub chained : same_command e.cmd cmd.CreateInstance ≡ true → is_refused s e.cmd e.payload ≡ false → kinds_chained sent.chain ≡ parts_of (s.outcome e.payload)
   pub begun : KeepsBegun (record x { parts = mid }) sent (length verdict.findings.items) new
@@ -264,7 +264,7 @@ pub record Stepped (s : Setup) (x : Kept) (e : BeginEvent) (number : ℕ) (refus
 pub begins_so : (s : Setup) (x : Kept) (e : BeginEvent) (number : ℕ) (refusal : Option Code) (judged sent : OpenCall) (verdict : Verdict) (mid : SessionParts) (new : Kept) (log0 log1 : Log) (lines0 lines1 : List ℕ)
     → Stepped s x e number refusal judged sent verdict mid new log0 log1 lines0 lines1 → (k : SessionKept) → Shows s x k → Begins s k e (map reply_shown sent.replies.items) new log0 log1 lines0 lines1
 begins_so s x e number refusal judged sent verdict mid new log0 log1 lines0 lines1 p k sh =
-    let after : List PartState = mid.states in
+    let after : List PartState = mid.states.kept in
     let st : Steps (read_in s k) e number refusal judged verdict after =
     subst (λ v. Steps v e number refusal judged verdict after) (read_same s x k sh) (record { counted = p.counted; judges = p.judges }) in
     let went : IsSentTo (read_in s k).terminator judged sent log0 log1 = subst (λ v. IsSentTo v.terminator judged sent log0 log1) (read_same s x k sh) (sent_roomless x.parts.terminator judged sent log0 log1 p.sends) in
@@ -277,10 +277,10 @@ begins_so s x e number refusal judged sent verdict mid new log0 log1 lines0 line
     subst (λ (y : SessionParts). ArePast k.births (begun_kept s k e).opened y.names.births) (sym p.begun.parts)
     (subst (λ (o : Opened). ArePast k.births o mid.names.births) opened (subst (λ (bs : List Birth). ArePast bs (opened_of sent) mid.names.births) sh.parts.births passed)) in
     let named : new.parts.names ≡ record x.parts.names { births = mid.names.births } = ap (λ (y : SessionParts). y.names) p.begun.parts ∙ p.passes.names in
-    let stays : new.parts.states ≡ after = ap (λ (y : SessionParts). y.states) p.begun.parts in
+    let stays : new.parts.states.kept ≡ after = ap (λ (y : SessionParts). y.states.kept) p.begun.parts in
     let ended : new.parts.terminator ≡ x.parts.terminator = ap (λ (y : SessionParts). y.terminator) p.begun.parts ∙ p.passes.terminator in
     let own : List ReplyContent = map reply_shown sent.replies.items in
-    let kinds : kinds_of new.parts.states ≡ kinds_of k.chain.states = ap kinds_of stays ∙ (p.kinds ∙ ap kinds_of sh.parts.states) in
+    let kinds : kinds_of new.parts.states.kept ≡ kinds_of k.chain.states = ap kinds_of stays ∙ (p.kinds ∙ ap kinds_of sh.parts.states) in
     record {
       births = new.parts.names.births;
       answers = answers_is s k e number refusal judged verdict after p.refused st sent log0 log1 went;
@@ -301,8 +301,8 @@ begins_so s x e number refusal judged sent verdict mid new log0 log1 lines0 line
         };
         sent = ap (map sent_of) p.begun.open_calls ∙ (map-append sent_of x.open_calls (sent ∷ []) ∙ (ap (λ cs. cs ++ sent_of sent ∷ []) sh.sent
             ∙ ap (λ (o : Opened). k.sent ++ record { opened = o; answers = answers_to o own } ∷ []) opened));
-        held = subst (λ hs. AreHeldAs s (kinds_of new.parts.states) new.open_calls hs) (held_is s k e number refusal judged verdict after p.refused st)
-            (subst (λ cs. AreHeldAs s (kinds_of new.parts.states) cs (k.chain.held ++ held s k e number refusal judged verdict after p.refused st (b s k e number refusal judged verdict after p.refused st) ∷ [])) (sym p.begun.open_calls)
+        held = subst (λ hs. AreHeldAs s (kinds_of new.parts.states.kept) new.open_calls hs) (held_is s k e number refusal judged verdict after p.refused st)
+            (subst (λ cs. AreHeldAs s (kinds_of new.parts.states.kept) cs (k.chain.held ++ held s k e number refusal judged verdict after p.refused st (b s k e number refusal judged verdict after p.refused st) ∷ [])) (sym p.begun.open_calls)
             (subst (λ qs. AreHeldAs s qs (x.open_calls ++ sent ∷ []) (k.chain.held ++ held s k e number refusal judged verdict after p.refused st (b s k e number refusal judged verdict after p.refused st) ∷ [])) (sym kinds)
             (held_more s (kinds_of k.chain.states) x.open_calls k.chain.held sent (held s k e number refusal judged verdict after p.refused st (b s k e number refusal judged verdict after p.refused st))
             (subst (λ ss. AreHeldAs s (kinds_of ss) x.open_calls k.chain.held) sh.parts.states sh.held)

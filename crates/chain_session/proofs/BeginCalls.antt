@@ -45,13 +45,13 @@ chained_from false o creation chain made f is not = cc
 
 module _ (s : Setup) (x : Kept) (e : BeginEvent) (number : ℕ) (refusal : Option Code) (judged : OpenCall) (verdict : Verdict) (mid : SessionParts)
     (counted : number ≡ x.calls + 1) (refused : refusal ≡ refusal_at s e.cmd e.payload)
-    (judges : IsJudged x.parts.names.births x.parts.names.handed x.parts.states (opened_first number x.parts.names.names e refusal) judged verdict mid.states) where
-  steps_in : (k : SessionKept) → Shows s x k → Steps (read_in s k) e number refusal judged verdict mid.states
-  steps_in k sh = subst (λ v. Steps v e number refusal judged verdict mid.states) (read_same s x k sh) (record { counted = counted; judges = judges })
+    (judges : IsJudged x.parts.names.births x.parts.names.handed x.parts.states.kept (opened_first number x.parts.names.names e refusal) judged verdict mid.states.kept) where
+  steps_in : (k : SessionKept) → Shows s x k → Steps (read_in s k) e number refusal judged verdict mid.states.kept
+  steps_in k sh = subst (λ v. Steps v e number refusal judged verdict mid.states.kept) (read_same s x k sh) (record { counted = counted; judges = judges })
 
   -- what the drivers are told of it is what the definitions say
   due_in : (k : SessionKept) → Shows s x k → calls_due x.parts.terminator judged ≡ calls_told s k e
-  due_in k sh = ap (λ v. calls_due v.terminator judged) (read_same s x k sh) ∙ (due s k e number refusal judged verdict mid.states refused (steps_in k sh)).0
+  due_in k sh = ap (λ v. calls_due v.terminator judged) (read_same s x k sh) ∙ (due s k e number refusal judged verdict mid.states.kept refused (steps_in k sh)).0
 
   pub shapes_so : (k : SessionKept) → Shows s x k → AllByRecursion HasShape (calls_told s k e) → is_skipped (opened_of judged) ≡ false → AllByRecursion HasShape (targets_of x.parts.terminator (call_content judged.bottom))
   shapes_so k sh shapes sent =
@@ -65,7 +65,7 @@ module _ (s : Setup) (x : Kept) (e : BeginEvent) (number : ℕ) (refusal : Optio
   number_so = ap (λ (o : Opened). o.number) judges.opened
 
   -- the begin is the definitions'
-  pub began_so : (y new : Kept) (log0 log1 : Log) (lines0 lines1 lines2 : List ℕ) → y ≡ record x { parts = mid } → Passes x.parts (opened_of judged) mid → kinds_of mid.states ≡ kinds_of x.parts.states → judged.refusal ≡ refusal
+  pub began_so : (y new : Kept) (log0 log1 : Log) (lines0 lines1 lines2 : List ℕ) → y ≡ record x { parts = mid } → Passes x.parts (opened_of judged) mid → kinds_of mid.states.kept ≡ kinds_of x.parts.states.kept → judged.refusal ≡ refusal
       → (same_command e.cmd cmd.CreateInstance ≡ true → (same_command e.cmd cmd.CreateInstance && is_some (refusal_of (s.outcome e.payload))) ≡ false → kinds_chained judged.chain ≡ parts_of (s.outcome e.payload))
       → lines1 ≡ lines0 ++ chain_text s e number → Tells y judged e verdict new log0 log1 lines1 lines2 → BeginsAs s x e new log0 log1 lines0 lines2
   began_so y new log0 log1 lines0 lines1 lines2 is passes kinds kept chained wrote tells =

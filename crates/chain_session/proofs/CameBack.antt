@@ -10,6 +10,7 @@ use Rattle.layer_model.specs.Walks.{PartState}
 use Rattle.terminator.specs.Calls.{TerminatorState}
 use Rattle.dispatch_chain.specs.Holding.{IsHeldOf}
 use Rattle.dispatch_chain.specs.Seats.{kinds_of}
+use Rattle.dispatch_chain.specs.Room.{ChainState}
 use Rattle.session_tables.specs.Lined.{AreAdded}
 use Rattle.session_tables.specs.Shown.{args_shown}
 use Rattle.chain_session.specs.declared.call.OpenCall.{OpenCall}
@@ -27,10 +28,10 @@ made_so x p drivers births retrieved born is_drivers is_births is_retrieved is =
     ∙ (ap (λ (bs : List Birth). made_by x.terminator.drivers bs (born_in bs) retrieved (opened_of p)) is_births
     ∙ ap (λ rs. made_by x.terminator.drivers x.names.births (born_in x.names.births) rs (opened_of p)) is_retrieved))
 
-module _ (x : SessionParts) (p : OpenCall) (states : List PartState) (t : TerminatorState) (raised settled : NamesKept) (count : ℕ) where
+module _ (x : SessionParts) (p : OpenCall) (states : ChainState) (t : TerminatorState) (raised settled : NamesKept) (count : ℕ) where
   -- by what was made
   came_back_with : count ≡ length (made_at x p) → raised ≡ record x.names { handed = raised.handed }
-      → ((forms : List CallContent) → IsHeldOf p.held (kinds_of x.states) forms → chain_at states t raised.handed ≡ chain_raised (chain_at x.states x.terminator x.names.handed) p forms (made_at x p))
+      → ((forms : List CallContent) → IsHeldOf p.held (kinds_of x.states.kept) forms → chain_at states.kept t raised.handed ≡ chain_raised (chain_at x.states.kept x.terminator x.names.handed) p forms (made_at x p))
       → t.drivers ≡ x.terminator.drivers → settled.names ≡ raised.names ++ map named_of (made_at x p)
       → AreAdded raised.births (births_given raised.births (args_shown p.args.items) (row_of p.cmd).effect (objects_of (made_at x p))) settled.births
       → settled.retrieved ≡ raised.retrieved ++ retrieved_by raised.births (opened_of p) (made_at x p) → settled.handed ≡ raised.handed
@@ -40,13 +41,13 @@ module _ (x : SessionParts) (p : OpenCall) (states : List PartState) (t : Termin
     names = names ∙ ap (λ (n : NamesKept). n.names ++ map named_of (made_at x p)) rest;
     births = subst (λ (n : NamesKept). AreAdded n.births (births_given n.births (args_shown p.args.items) (row_of p.cmd).effect (objects_of (made_at x p))) settled.births) rest births;
     retrieved = retrieved ∙ ap (λ (n : NamesKept). n.retrieved ++ retrieved_by n.births (opened_of p) (made_at x p)) rest;
-    chain = λ forms h. ap (chain_at states t) handed ∙ chain forms h;
+    chain = λ forms h. ap (chain_at states.kept t) handed ∙ chain forms h;
     drivers = drivers;
   }
 
   -- by what was handed on
   pub came_back : (born first second : List Born) → born ≡ made_at x p → first ≡ born → second ≡ born → count ≡ length born → raised ≡ record x.names { handed = raised.handed }
-      → ((forms : List CallContent) → IsHeldOf p.held (kinds_of x.states) forms → chain_at states t raised.handed ≡ chain_raised (chain_at x.states x.terminator x.names.handed) p forms first)
+      → ((forms : List CallContent) → IsHeldOf p.held (kinds_of x.states.kept) forms → chain_at states.kept t raised.handed ≡ chain_raised (chain_at x.states.kept x.terminator x.names.handed) p forms first)
       → t.drivers ≡ x.terminator.drivers → settled.names ≡ raised.names ++ map named_of second
       → AreAdded raised.births (births_given raised.births (args_shown p.args.items) (row_of p.cmd).effect (objects_of second)) settled.births
       → settled.retrieved ≡ raised.retrieved ++ retrieved_by raised.births (opened_of p) second → settled.handed ≡ raised.handed
@@ -55,7 +56,7 @@ module _ (x : SessionParts) (p : OpenCall) (states : List PartState) (t : Termin
       came_back_with
       (counted ∙ ap (λ (ms : List Born). length ms) is)
       rest
-      (λ forms h. chain forms h ∙ ap (chain_raised (chain_at x.states x.terminator x.names.handed) p forms) (one ∙ is))
+      (λ forms h. chain forms h ∙ ap (chain_raised (chain_at x.states.kept x.terminator x.names.handed) p forms) (one ∙ is))
       drivers
       (names ∙ ap (λ ms. raised.names ++ map named_of ms) (two ∙ is))
       (subst (λ (ms : List Born). AreAdded raised.births (births_given raised.births (args_shown p.args.items) (row_of p.cmd).effect (objects_of ms)) settled.births) (two ∙ is) births)

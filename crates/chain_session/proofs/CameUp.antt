@@ -14,6 +14,7 @@ use Rattle.chain_model.specs.Handed.{hand_all}
 use Rattle.terminator.specs.Calls.{TerminatorState, routes_left}
 use Rattle.dispatch_chain.specs.Holding.{HeldCalls, IsHeldOf}
 use Rattle.dispatch_chain.specs.Seats.{kinds_of}
+use Rattle.dispatch_chain.specs.Room.{ChainState}
 use Rattle.session_tables.specs.Lined.{AreAdded}
 use Rattle.chain_session.specs.declared.parts.SessionParts.{SessionParts}
 use Rattle.chain_session.specs.Leaving.{ComesUp, Rising, chain_of, chain_up, left_of, made_again, opened_again, recalled, rising_again}
@@ -24,8 +25,8 @@ use Rattle.chain_session.specs.Raising.{chain_at}
 -- ---- through the chain
 
 -- the terminator, the parts and the handles
-pub risen : (x : SessionParts) (r : Rising) (forms : List CallContent) (all : IssuedAll (List Value)) (states : List PartState) (t : TerminatorState) (above : List ℕ) (names : NamesKept) → all ≡ left_of x.terminator r → t.ids ≡ all.ids
-    → t.routes ≡ routes_left x.terminator r.call all.results → states ≡ (leave_parts r.thread x.states forms all.results).states → above ≡ (leave_parts r.thread x.states forms all.results).results
+pub risen : (x : SessionParts) (r : Rising) (forms : List CallContent) (all : IssuedAll (List Value)) (states : ChainState) (t : TerminatorState) (above : List ℕ) (names : NamesKept) → all ≡ left_of x.terminator r → t.ids ≡ all.ids
+    → t.routes ≡ routes_left x.terminator r.call all.results → states.kept ≡ (leave_parts r.thread x.states.kept forms all.results).states → above ≡ (leave_parts r.thread x.states.kept forms all.results).results
     → names.handed ≡ hand_all x.names.handed r.made above → chain_of (record { states = states; terminator = t; names = names }) ≡ chain_up x r forms
 risen x r forms all states t above names is ids routes stand up hands =
     (λ i. record {
@@ -36,10 +37,10 @@ risen x r forms all states t above names is ids routes stand up hands =
       held = [];
     })
     ∙ (λ i. record {
-      states = (leave_parts r.thread x.states forms (is i).results).states;
+      states = (leave_parts r.thread x.states.kept forms (is i).results).states;
       terminator = (is i).ids;
       routes = routes_left x.terminator r.call (is i).results;
-      handed = hand_all x.names.handed r.made (leave_parts r.thread x.states forms (is i).results).results;
+      handed = hand_all x.names.handed r.made (leave_parts r.thread x.states.kept forms (is i).results).results;
       held = [];
     })
 
@@ -60,7 +61,7 @@ pub rising_so : (x : SessionParts) (e : BeginEvent) (call : CallContent) (replie
 rising_so x e call replies born is = ap (λ (ms : List Born). record { thread = e.thread; call = call; replies = replies; made = ms; lost = drop (length ms) e.results }) is
 
 pub came_up : (x y : SessionParts) (e : BeginEvent) (call : CallContent) (held : HeldCalls) (replies : List ReplyContent) (o : Opened) (born : List Born) (settled : NamesKept) (count : ℕ) → o ≡ opened_again x e call → born ≡ made_again x e call → count ≡ length born
-    → ((forms : List CallContent) → IsHeldOf held (kinds_of x.states) forms → chain_of y ≡ chain_up x (rising_again x e call replies) forms) → y.terminator.drivers ≡ x.terminator.drivers → y.names ≡ record x.names { handed = y.names.handed }
+    → ((forms : List CallContent) → IsHeldOf held (kinds_of x.states.kept) forms → chain_of y ≡ chain_up x (rising_again x e call replies) forms) → y.terminator.drivers ≡ x.terminator.drivers → y.names ≡ record x.names { handed = y.names.handed }
     → settled.names ≡ y.names.names ++ map named_of born → AreAdded y.names.births (births_given y.names.births o.args (row_of o.cmd).effect (objects_of born)) settled.births
     → settled.retrieved ≡ y.names.retrieved ++ retrieved_by y.names.births o born → settled.handed ≡ y.names.handed → ComesUp x e call held replies (record y { names = settled }) count
 came_up x y e call held replies o born settled count again is counted chain drivers rest names births retrieved handed = record {
@@ -69,6 +70,6 @@ came_up x y e call held replies o born settled count again is counted chain driv
   births = subst (λ (bs : List Birth). AreAdded bs (births_given bs (opened_again x e call).args (row_of e.cmd).effect (objects_of (made_again x e call))) settled.births) (ap (λ (n : NamesKept). n.births) rest)
       (subst (λ (given : List Birth). AreAdded y.names.births given settled.births) (λ i. births_given y.names.births (again i).args (row_of (again i).cmd).effect (objects_of (is i))) births);
   retrieved = retrieved ∙ (λ i. (rest i).retrieved ++ retrieved_by (rest i).births (again i) (is i));
-  chain = λ forms h. ap (chain_at y.states y.terminator) handed ∙ chain forms h;
+  chain = λ forms h. ap (chain_at y.states.kept y.terminator) handed ∙ chain forms h;
   drivers = drivers;
 }

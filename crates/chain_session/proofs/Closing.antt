@@ -162,8 +162,8 @@ module _ (s : Setup) (x : Kept) (k : SessionKept) (thread : ℕ) (p : OpenCall) 
   abbrev flags : List Bool
   flags = born_flags (made_kept s k (opened_of p)) (lost_kept s k (opened_of p))
 
-  is : IsHeldAs s (kinds_of x.parts.states) p h
-  is = held_found s (kinds_of x.parts.states) thread x.open_calls k.chain.held p h shows.held opens held
+  is : IsHeldAs s (kinds_of x.parts.states.kept) p h
+  is = held_found s (kinds_of x.parts.states.kept) thread x.open_calls k.chain.held p h shows.held opens held
 
   own : (h.thread == p.thread) ≡ true
   own = eq-eqb h.thread p.thread is.thread
@@ -174,10 +174,10 @@ module _ (s : Setup) (x : Kept) (k : SessionKept) (thread : ℕ) (p : OpenCall) 
       ∙ (ap (λ (bs : List Birth). made_by s.drivers bs (born_in bs) x.parts.names.retrieved o) shows.parts.births ∙ ap (λ rs. made_by s.drivers k.births (born_in k.births) rs o) shows.parts.retrieved)
 
   -- the chain in force then
-  states_then : is_skipped o ≡ false → states_due x.parts.states p ≡ (in_force s k.chain o).states
+  states_then : is_skipped o ≡ false → states_due x.parts.states.kept p ≡ (in_force s k.chain o).states
   states_then goes = go (starts_chain o) refl
     where
-      go : (u : Bool) → starts_chain o ≡ u → cond u (map (fresh_of o) (kinds_chained p.chain)) x.parts.states ≡ (cond u (with_parts k.chain o parts) k.chain).states
+      go : (u : Bool) → starts_chain o ≡ u → cond u (map (fresh_of o) (kinds_chained p.chain)) x.parts.states.kept ≡ (cond u (with_parts k.chain o parts) k.chain).states
       go true e = ap (map (fresh_of o)) (is.chain goes e)
       go false e = shows.parts.states
 
@@ -232,7 +232,7 @@ module _ (s : Setup) (x : Kept) (k : SessionKept) (thread : ℕ) (p : OpenCall) 
     replies = enough p.drivers.items p.replies.items returns.steps.answers.drivers;
   }
 
-  goes_up : is_skipped o ≡ false → MayGoUp x.parts.states x.parts.terminator p h.forms made
+  goes_up : is_skipped o ≡ false → MayGoUp x.parts.states.kept x.parts.terminator p h.forms made
   goes_up goes = record {
     guarded = ap is_guarded (states_then goes) ∙ returns.guarded_in_force goes;
     idle = λ starts. shows.parts.states ∙ returns.idle goes starts;
@@ -243,17 +243,17 @@ module _ (s : Setup) (x : Kept) (k : SessionKept) (thread : ℕ) (p : OpenCall) 
         (subst (λ (all : IssuedAll (List Value)). ComeUpApart p.thread (in_force s k.chain o).states (held_in_force s o h).forms all.results) (sym (results_then goes)) (returns.steps.sent goes)));
   }
 
-  pub may_raise : MayRaise x.parts.states x.parts.terminator p made
+  pub may_raise : MayRaise x.parts.states.kept x.parts.terminator p made
   may_raise = record { forms = h.forms; holds = is.forms; guarded = ap is_guarded shows.parts.states ∙ returns.guarded; goes = goes_up }
 
-  pub held_is : IsHeldOf p.held (kinds_of x.parts.states) h.forms
+  pub held_is : IsHeldOf p.held (kinds_of x.parts.states.kept) h.forms
   held_is = is.forms
 
   pub refusal_is : p.refusal ≡ refusal_at s p.cmd p.payload.items
   refusal_is = is.refusal
 
   -- what is kept of the chain, beside the open calls
-  raised_then : chain_raised (chain_at x.parts.states x.parts.terminator x.parts.names.handed) p h.forms made ≡ record (chain_after_return s k (sent_of p) h) { held = [] }
+  raised_then : chain_raised (chain_at x.parts.states.kept x.parts.terminator x.parts.names.handed) p h.forms made ≡ record (chain_after_return s k (sent_of p) h) { held = [] }
   raised_then = go (is_skipped o) refl
     where
       skipped_chain : List PartState → Terminator → List Routed → List Handed → ChainKept
@@ -269,7 +269,7 @@ module _ (s : Setup) (x : Kept) (k : SessionKept) (thread : ℕ) (p : OpenCall) 
       }
 
       go : (u : Bool) → is_skipped o ≡ u
-          → cond u (after_skipped (chain_at x.parts.states x.parts.terminator x.parts.names.handed) o (held_at p h.forms) (lost_of p made)) (chain_sent (chain_at (states_due x.parts.states p) x.parts.terminator x.parts.names.handed) p (forms_due p h.forms) made)
+          → cond u (after_skipped (chain_at x.parts.states.kept x.parts.terminator x.parts.names.handed) o (held_at p h.forms) (lost_of p made)) (chain_sent (chain_at (states_due x.parts.states.kept p) x.parts.terminator x.parts.names.handed) p (forms_due p h.forms) made)
           ≡ record (cond u (after_skipped k.chain o h (lost_kept s k o)) (after_reply (in_force s k.chain o) o (held_in_force s o h) (sent_of p).answers made (lost_kept s k o))) { held = [] }
       go true e =
           ap (λ ss. skipped_chain ss x.parts.terminator.ids x.parts.terminator.routes x.parts.names.handed) shows.parts.states
@@ -314,8 +314,8 @@ module _ (s : Setup) (x : Kept) (k : SessionKept) (thread : ℕ) (p : OpenCall) 
   module _ (y : Kept) (calls : y.calls ≡ x.calls) (skipped : y.skipped ≡ x.skipped) (reports : y.reports ≡ x.reports) (names : y.parts.names.names ≡ x.parts.names.names ++ map named_of made)
       (births : AreAdded x.parts.names.births (births_given x.parts.names.births (args_shown p.args.items) (row_of p.cmd).effect (objects_of made)) y.parts.names.births)
       (retrieved : y.parts.names.retrieved ≡ x.parts.names.retrieved ++ retrieved_by x.parts.names.births o made) (closed : y.open_calls ≡ filter (λ (c : OpenCall). not (is_of thread (opened_of c))) x.open_calls)
-      (chain : chain_at y.parts.states y.parts.terminator y.parts.names.handed ≡ chain_raised (chain_at x.parts.states x.parts.terminator x.parts.names.handed) p h.forms made) (drivers : y.parts.terminator.drivers ≡ x.parts.terminator.drivers) where
-    chain_is : chain_at y.parts.states y.parts.terminator y.parts.names.handed ≡ record (chain_after_return s k (sent_of p) h) { held = [] }
+      (chain : chain_at y.parts.states.kept y.parts.terminator y.parts.names.handed ≡ chain_raised (chain_at x.parts.states.kept x.parts.terminator x.parts.names.handed) p h.forms made) (drivers : y.parts.terminator.drivers ≡ x.parts.terminator.drivers) where
+    chain_is : chain_at y.parts.states.kept y.parts.terminator y.parts.names.handed ≡ record (chain_after_return s k (sent_of p) h) { held = [] }
     chain_is = chain ∙ raised_then
 
     thread_is : p.thread ≡ thread
@@ -340,8 +340,8 @@ module _ (s : Setup) (x : Kept) (k : SessionKept) (thread : ℕ) (p : OpenCall) 
         drivers = drivers ∙ shows.parts.drivers;
       };
       sent = ap (map sent_of) closed ∙ (sent_filter thread x.open_calls ∙ (ap (filter (λ (c : Sent). not (is_of thread c.opened))) shows.sent ∙ ap (λ n. filter (λ (c : Sent). not (is_of n c.opened)) k.sent) (sym thread_is)));
-      held = subst (λ cs. AreHeldAs s (kinds_of y.parts.states) cs (chain_after_return s k (sent_of p) h).held) (ap (λ n. filter (λ (c : OpenCall). not (is_of n (opened_of c))) x.open_calls) thread_is ∙ sym closed)
-          (held_then (kinds_of y.parts.states) (ap (λ (c : ChainKept). kinds_of c.states) chain_is));
+      held = subst (λ cs. AreHeldAs s (kinds_of y.parts.states.kept) cs (chain_after_return s k (sent_of p) h).held) (ap (λ n. filter (λ (c : OpenCall). not (is_of n (opened_of c))) x.open_calls) thread_is ∙ sym closed)
+          (held_then (kinds_of y.parts.states.kept) (ap (λ (c : ChainKept). kinds_of c.states) chain_is));
     }
 
 -- ---- the whole return
@@ -360,9 +360,9 @@ born_so s x k thread p call held born shows opens found holds returns is =
 
 -- its results may come up
 pub can_raise : (x : Kept) (thread : ℕ) (p : OpenCall) (born : List Born) → CanFinish x thread → Some p ≡ find (λ (c : OpenCall). is_of thread (opened_of c)) x.open_calls
-    → born ≡ made_by x.parts.terminator.drivers x.parts.names.births (born_in x.parts.names.births) x.parts.names.retrieved (opened_of p) → MayRaise x.parts.states x.parts.terminator p born
+    → born ≡ made_by x.parts.terminator.drivers x.parts.names.births (born_in x.parts.names.births) x.parts.names.retrieved (opened_of p) → MayRaise x.parts.states.kept x.parts.terminator p born
 can_raise x thread p born can opens is =
-    subst (λ ms. MayRaise x.parts.states x.parts.terminator p ms) (sym (born_so can.setup x can.kept thread p can.call can.held born can.shows opens can.found can.holds can.returns is))
+    subst (λ ms. MayRaise x.parts.states.kept x.parts.terminator p ms) (sym (born_so can.setup x can.kept thread p can.call can.held born can.shows opens can.found can.holds can.returns is))
     (may_raise can.setup x can.kept thread p can.held can.shows opens can.holds (subst (λ (c : Sent). Returns can.setup can.kept c can.held) (same_call can.setup x can.kept thread p can.call can.shows opens can.found) can.returns))
 
 -- where no call is open, none returns
@@ -375,7 +375,7 @@ pub finishes_so : (x y : Kept) (thread : ℕ) (p : OpenCall) (born : List Born) 
     → born ≡ made_by x.parts.terminator.drivers x.parts.names.births (born_in x.parts.names.births) x.parts.names.retrieved (opened_of p) → y.calls ≡ x.calls → y.skipped ≡ x.skipped → y.reports ≡ x.reports → y.parts.names.names ≡ x.parts.names.names ++ map named_of born
     → AreAdded x.parts.names.births (births_given x.parts.names.births (args_shown p.args.items) (row_of p.cmd).effect (objects_of born)) y.parts.names.births
     → y.parts.names.retrieved ≡ x.parts.names.retrieved ++ retrieved_by x.parts.names.births (opened_of p) born → y.open_calls ≡ filter (λ (c : OpenCall). not (is_of thread (opened_of c))) x.open_calls
-    → ((forms : List CallContent) → IsHeldOf p.held (kinds_of x.parts.states) forms → chain_at y.parts.states y.parts.terminator y.parts.names.handed ≡ chain_raised (chain_at x.parts.states x.parts.terminator x.parts.names.handed) p forms born) → y.parts.terminator.drivers ≡ x.parts.terminator.drivers
+    → ((forms : List CallContent) → IsHeldOf p.held (kinds_of x.parts.states.kept) forms → chain_at y.parts.states.kept y.parts.terminator y.parts.names.handed ≡ chain_raised (chain_at x.parts.states.kept x.parts.terminator x.parts.names.handed) p forms born) → y.parts.terminator.drivers ≡ x.parts.terminator.drivers
     → ((s : Setup) → p.refusal ≡ refusal_at s p.cmd p.payload.items → s.drivers ≡ x.parts.terminator.drivers → lines ≡ old_lines ++ return_text s (opened_of p) (length born)) → Finishes x y thread old_lines lines
 finishes_so x y thread p born old_lines lines opens is calls skipped reports names births retrieved closed chain drivers line = λ s k call held shows found holds returns.
     let same : call ≡ sent_of p = same_call s x k thread p call shows opens found in
@@ -386,8 +386,8 @@ finishes_so x y thread p born old_lines lines opens is calls skipped reports nam
     let births2 : AreAdded x.parts.names.births (births_given x.parts.names.births (args_shown p.args.items) (row_of p.cmd).effect (objects_of (made_kept s k (opened_of p)))) y.parts.names.births
     = subst (λ (ms : List Born). AreAdded x.parts.names.births (births_given x.parts.names.births (args_shown p.args.items) (row_of p.cmd).effect (objects_of ms)) y.parts.names.births) made births in
     let retrieved2 : y.parts.names.retrieved ≡ x.parts.names.retrieved ++ retrieved_by x.parts.names.births (opened_of p) (made_kept s k (opened_of p)) = retrieved ∙ ap (λ (ms : List Born). x.parts.names.retrieved ++ retrieved_by x.parts.names.births (opened_of p) ms) made in
-    let chain2 : chain_at y.parts.states y.parts.terminator y.parts.names.handed ≡ chain_raised (chain_at x.parts.states x.parts.terminator x.parts.names.handed) p held.forms (made_kept s k (opened_of p))
-    = chain held.forms (held_is s x k thread p held shows opens holds mine) ∙ ap (chain_raised (chain_at x.parts.states x.parts.terminator x.parts.names.handed) p held.forms) made in
+    let chain2 : chain_at y.parts.states.kept y.parts.terminator y.parts.names.handed ≡ chain_raised (chain_at x.parts.states.kept x.parts.terminator x.parts.names.handed) p held.forms (made_kept s k (opened_of p))
+    = chain held.forms (held_is s x k thread p held shows opens holds mine) ∙ ap (chain_raised (chain_at x.parts.states.kept x.parts.terminator x.parts.names.handed) p held.forms) made in
     subst (λ (c : Sent). Returned s k c held y old_lines lines) (sym same) (record {
       births = y.parts.names.births;
       since = since_then s x k thread p held shows opens holds mine y calls skipped reports names2 births2 retrieved2 closed chain2 drivers;

@@ -30,6 +30,7 @@ use Rattle.chain_model.specs.Traces.{held_in_force, in_force, starts_chain}
 use Rattle.terminator.specs.Calls.{answered, drivers_for}
 use Rattle.dispatch_chain.specs.Holding.{HeldCalls, IsHeldOf}
 use Rattle.dispatch_chain.specs.Seats.{kinds_of}
+use Rattle.dispatch_chain.specs.Room.{ChainState}
 use Rattle.session_model.specs.Session.{SessionKept}
 use Rattle.session_model.specs.Returning.{chain_after_return, lost_kept, made_kept}
 use Rattle.session_model.specs.Steps.{ComeUpApart}
@@ -105,7 +106,7 @@ module _ (s : Setup) (x : SessionParts) (k : SessionKept) (e : BeginEvent) (call
   abbrev made : List Born
   made = made_kept s k c.opened
 
-  holds_so : IsHeldOf held (kinds_of x.states) h.forms
+  holds_so : IsHeldOf held (kinds_of x.states.kept) h.forms
   holds_so = subst (λ ss. IsHeldOf held (kinds_of ss) h.forms) (sym shows.states) opens.left.forms
 
   -- ---- one that was sent
@@ -170,14 +171,14 @@ module _ (s : Setup) (x : SessionParts) (k : SessionKept) (e : BeginEvent) (call
         ∙ (ap (λ u. record (after_reply (cond u (with_parts k.chain o (parts_of (s.outcome o.payload))) k.chain) o (cond u (with_forms o (parts_of (s.outcome o.payload)) h) h) c.answers made (lost_kept s k o)) { held = [] }) (sym (stays goes))
         ∙ ap (λ u. record (cond u (after_skipped k.chain o h (lost_kept s k o)) (after_reply (in_force s k.chain o) o (held_in_force s o h) c.answers made (lost_kept s k o))) { held = [] }) (sym goes))
 
-    whole_is : length h.forms ≡ length x.states
+    whole_is : length h.forms ≡ length x.states.kept
     whole_is =
         ap (λ u. length (cond u (with_forms o (parts_of (s.outcome o.payload)) h) h).forms) (sym (stays goes))
         ∙ (returns.whole goes ∙ ap (λ (ss : List PartState). length ss) (same_chain ∙ sym shows.states))
 
-    apart_is : ComeUpApart e.thread x.states h.forms (left_of x.terminator (rising_again x e call replies)).results
+    apart_is : ComeUpApart e.thread x.states.kept h.forms (left_of x.terminator (rising_again x e call replies)).results
     apart_is =
-        subst (λ (all : IssuedAll (List Value)). ComeUpApart e.thread x.states h.forms all.results) (sym left_is)
+        subst (λ (all : IssuedAll (List Value)). ComeUpApart e.thread x.states.kept h.forms all.results) (sym left_is)
         (subst (λ ss. ComeUpApart e.thread ss h.forms (terminator_leave k.chain.terminator h.bottom c.answers (born_flags made (lost_kept s k o))).results) (sym shows.states)
         (subst (λ n. ComeUpApart n k.chain.states h.forms (terminator_leave k.chain.terminator h.bottom c.answers (born_flags made (lost_kept s k o))).results) opens.left.thread
         (subst (λ u. ComeUpApart o.thread (cond u (with_parts k.chain o (parts_of (s.outcome o.payload))) k.chain).states (cond u (with_forms o (parts_of (s.outcome o.payload)) h) h).forms
@@ -213,8 +214,8 @@ module _ (s : Setup) (x : SessionParts) (k : SessionKept) (e : BeginEvent) (call
 
   -- ---- a skipped one
 
-  pub departed_skipped : (states : List PartState) → is_skipped c.opened ≡ true
-      → ((forms : List CallContent) → IsHeldOf held (kinds_of x.states) forms → states ≡ (leave_parts e.thread x.states forms (map (λ _. 0) e.results)).states) → Departed s k c h (record x { states = states }) 0
+  pub departed_skipped : (states : ChainState) → is_skipped c.opened ≡ true
+      → ((forms : List CallContent) → IsHeldOf held (kinds_of x.states.kept) forms → states.kept ≡ (leave_parts e.thread x.states.kept forms (map (λ _. 0) e.results)).states) → Departed s k c h (record x { states = states }) 0
   departed_skipped states skipped left =
       let none : made ≡ [] = made_skipped s.drivers k.births (born_in k.births) k.retrieved o skipped in
       let lost : lost_kept s k o ≡ e.results = ap (λ (ms : List Born). drop (length ms) o.results) none ∙ opens.left.results in
@@ -248,10 +249,10 @@ pub leaves_sent : (x y : SessionParts) (e : BeginEvent) (call : CallContent) (he
     → Leaves x e call held skip replies y count
 leaves_sent x y e call held skip replies count goes up = λ s k c h shows opens stays returns. departed_sent s x k e call held skip replies c h shows opens stays returns (sym opens.left.skips ∙ goes) y count up
 
-pub leaves_skipped : (x : SessionParts) (states : List PartState) (e : BeginEvent) (call : CallContent) (held : HeldCalls) (skip : Bool) (replies : List ReplyContent) → skip ≡ true
-    → ((forms : List CallContent) → IsHeldOf held (kinds_of x.states) forms → states ≡ (leave_parts e.thread x.states forms (map (λ _. 0) e.results)).states) → Leaves x e call held skip replies (record x { states = states }) 0
+pub leaves_skipped : (x : SessionParts) (states : ChainState) (e : BeginEvent) (call : CallContent) (held : HeldCalls) (skip : Bool) (replies : List ReplyContent) → skip ≡ true
+    → ((forms : List CallContent) → IsHeldOf held (kinds_of x.states.kept) forms → states.kept ≡ (leave_parts e.thread x.states.kept forms (map (λ _. 0) e.results)).states) → Leaves x e call held skip replies (record x { states = states }) 0
 leaves_skipped x states e call held skip replies skipped left = λ s k c h shows opens stays returns. departed_skipped s x k e call held skip replies c h shows opens stays returns states (sym opens.left.skips ∙ skipped) left
 
 -- its parts are guarded
-pub can_guarded : (x : SessionParts) (e : BeginEvent) (call : CallContent) (held : HeldCalls) (skip : Bool) (replies : List ReplyContent) → CanLeave x e call held skip replies → is_guarded x.states ≡ true
+pub can_guarded : (x : SessionParts) (e : BeginEvent) (call : CallContent) (held : HeldCalls) (skip : Bool) (replies : List ReplyContent) → CanLeave x e call held skip replies → is_guarded x.states.kept ≡ true
 can_guarded x e call held skip replies can = ap is_guarded can.shows.states ∙ can.returns.guarded

@@ -23,6 +23,7 @@ use Rattle.terminator.specs.Calls.{TerminatorState, targets_of}
 use Rattle.chain_model.specs.Simulated.{after_none, after_walk, base_of, found_by, held_of}
 use Rattle.dispatch_chain.specs.Holding.{HeldCalls, IsHeldOf}
 use Rattle.dispatch_chain.specs.Seats.{kinds_of}
+use Rattle.dispatch_chain.specs.Room.{ChainState, PartRoom}
 use Rattle.session_model.specs.Session.{SessionKept}
 use Rattle.session_model.specs.Living.{ArePast}
 use Rattle.session_model.specs.Beginning.{begun_kept, calls_told, drivers_kept, findings_kept, loader_kept, walk_kept}
@@ -76,25 +77,25 @@ none_failing false rs found h = refl
 
 -- ---- the parts as the definitions have them
 
--- the room of the chain's end is any, since the definitions say nothing of it
-abbrev pub shown_parts : Setup → SessionKept → TerminatorState → SessionParts
-shown_parts s k t = record {
-  states = k.chain.states;
+-- the room of the parts and of the chain's end is any, since the definitions say nothing of it
+abbrev pub shown_parts : Setup → SessionKept → List PartRoom → TerminatorState → SessionParts
+shown_parts s k rooms t = record {
+  states = record { kept = k.chain.states; rooms = rooms };
   terminator = record { ids = k.chain.terminator; routes = k.chain.routes; drivers = s.drivers; spare = t.spare; values = t.values; bytes = t.bytes };
   names = record { names = k.names; births = k.births; retrieved = k.retrieved; handed = k.chain.handed };
 }
 
-parts_same : (s : Setup) (x : SessionParts) (k : SessionKept) → PartsShow s x k → x ≡ shown_parts s k x.terminator
+parts_same : (s : Setup) (x : SessionParts) (k : SessionKept) → PartsShow s x k → x ≡ shown_parts s k x.states.rooms x.terminator
 parts_same s x k sh = λ i. record {
-  states = sh.states i;
+  states = record { kept = sh.states i; rooms = x.states.rooms };
   terminator = record { ids = sh.ids i; routes = sh.routes i; drivers = sh.drivers i; spare = x.terminator.spare; values = x.terminator.values; bytes = x.terminator.bytes };
   names = record { names = sh.names i; births = sh.births i; retrieved = sh.retrieved i; handed = sh.handed i };
 }
 
 -- ---- an entered call
 
-module _ (s : Setup) (k : SessionKept) (t : TerminatorState) (e : BeginEvent) (form : CallContent) (held : HeldCalls) (verdict : Verdict) (y : SessionParts) (allowed : is_refused s e.cmd e.payload ≡ false)
-    (down : ComesDown (shown_parts s k t) (opened_read (k.calls + 1) e (arguments_in k.names e.args)) form held verdict y) where
+module _ (s : Setup) (k : SessionKept) (rooms : List PartRoom) (t : TerminatorState) (e : BeginEvent) (form : CallContent) (held : HeldCalls) (verdict : Verdict) (y : SessionParts) (allowed : is_refused s e.cmd e.payload ≡ false)
+    (down : ComesDown (shown_parts s k rooms t) (opened_read (k.calls + 1) e (arguments_in k.names e.args)) form held verdict y) where
   abbrev o : Opened
   o = opened_read (k.calls + 1) e (arguments_in k.names e.args)
 
@@ -124,7 +125,7 @@ module _ (s : Setup) (k : SessionKept) (t : TerminatorState) (e : BeginEvent) (f
   states_in_turn true = refl
   states_in_turn false = refl
 
-  states_are : y.states ≡ (cond (is_refused s e.cmd e.payload || failing) (after_none k.chain begun) (after_walk k.chain begun (walk_kept k e))).states
+  states_are : y.states.kept ≡ (cond (is_refused s e.cmd e.payload || failing) (after_none k.chain begun) (after_walk k.chain begun (walk_kept k e))).states
   states_are = down.found.states ∙ (states_in_turn failing ∙ ap (λ r. (cond (r || failing) (after_none k.chain begun) (after_walk k.chain begun (walk_kept k e))).states) (sym allowed))
 
   rest_stays : (b : Bool) → ((cond b (after_none k.chain begun) (after_walk k.chain begun (walk_kept k e))).terminator ≡ k.chain.terminator)
@@ -143,7 +144,7 @@ module _ (s : Setup) (k : SessionKept) (t : TerminatorState) (e : BeginEvent) (f
   told_is h =
       let goes : is_skipped begun ≡ false = sym skip_is ∙ h in
       ap (λ (u : TerminatorState). targets_of u form) down.passes.terminator
-      ∙ (ap (targets_of (shown_parts s k t).terminator) (form_is goes)
+      ∙ (ap (targets_of (shown_parts s k rooms t).terminator) (form_is goes)
       ∙ ap (λ b. map (told_call k.chain.terminator (walk_kept k e).bottom) (cond b [] (drivers_at s.drivers k.chain.routes (walk_kept k e).bottom))) (sym goes))
 
   -- what is left of it
@@ -202,4 +203,4 @@ entered_so x y number e args form held verdict is down = λ s k shows counted al
     let named : args ≡ arguments_in k.names e.args = is ∙ ap (λ ns. arguments_in ns e.args) shows.names in
     let counted_so : ComesDown x (opened_read (k.calls + 1) e args) form held verdict y = subst (λ n. ComesDown x (opened_read n e args) form held verdict y) counted down in
     let named_so : ComesDown x (opened_read (k.calls + 1) e (arguments_in k.names e.args)) form held verdict y = subst (λ read. ComesDown x (opened_read (k.calls + 1) e read) form held verdict y) named counted_so in
-    entered s k x.terminator e form held verdict y allowed (subst (λ z. ComesDown z (opened_read (k.calls + 1) e (arguments_in k.names e.args)) form held verdict y) (parts_same s x k shows) named_so)
+    entered s k x.states.rooms x.terminator e form held verdict y allowed (subst (λ z. ComesDown z (opened_read (k.calls + 1) e (arguments_in k.names e.args)) form held verdict y) (parts_same s x k shows) named_so)

@@ -4,10 +4,9 @@ use Rattle.std.proofs.lemmas.Bool.{eqb-true}
 use Rattle.std.proofs.lemmas.List.{length-map}
 use Rattle.std.specs.Prelude.{find, nat_le}
 use Rattle.std.specs.List.{AllByRecursion}
-use Rattle.std.specs.Option.{is_none, option_map_or}
+use Rattle.std.specs.Option.{option_map_or}
 use Rattle.command_tables.specs.Calls.{CallContent, ReplyContent}
 use Rattle.model_driver.specs.Logs.{Log, logged}
-use Rattle.trace_format.specs.Accepting.{are_accepted, fault_after}
 use Rattle.trace_format.specs.Content.{TraceEvent, Return}
 use Rattle.object_model.specs.declared.PartKind.{PartKind}
 use Rattle.object_model.specs.History.{Birth, births}
@@ -18,10 +17,11 @@ use Rattle.replay_model.specs.Judged.{judged}
 use Rattle.replay_model.specs.Direct.{Sent}
 use Rattle.layer_model.specs.Walks.{PartState, are_parts_guarded, is_guarded}
 use Rattle.layer_model.proofs.Same.{and_true}
+use Rattle.chain_model.specs.Gaps.{IsGapped, may_all_come, may_come}
 use Rattle.chain_model.specs.Chained.{AreForms, form_by}
 use Rattle.chain_model.specs.Simulated.{Held, HeldStand, IsBottom, base_of, fresh_of, with_forms, with_parts}
 use Rattle.chain_model.specs.Tokens.{number_in}
-use Rattle.chain_model.specs.Traces.{GivesGuarded, IsTrace, held_in_force, in_force, starts_chain}
+use Rattle.chain_model.specs.Traces.{GivesGuarded, held_in_force, in_force, starts_chain}
 use Rattle.chain_model.proofs.Answering.{is_nothing, or_parts}
 use Rattle.chain_model.proofs.Simulating.{fresh_kinds}
 use Rattle.chain_model.proofs.Stepping.{held_found}
@@ -77,7 +77,7 @@ found_call thread (g ∷ cs) c e = go (g.opened.thread == thread) refl e (found_
 
 -- ---- what a return relies on
 
-module _ (s : Setup) (k : SessionKept) (events : List TraceEvent) (thread : ℕ) (replies : List ReplyContent) (c : Sent) (h : Held) (guarded : GivesGuarded s) (trace : IsTrace events) (st : Stands s k events replies)
+module _ (s : Setup) (k : SessionKept) (events : List TraceEvent) (thread : ℕ) (replies : List ReplyContent) (c : Sent) (h : Held) (guarded : GivesGuarded s) (trace : IsGapped events) (st : Stands s k events replies)
     (is : sent_of_thread k thread ≡ Some c) (held : held_of_thread k thread ≡ Some h) where
   abbrev o : Opened
   o = c.opened
@@ -138,8 +138,8 @@ module _ (s : Setup) (k : SessionKept) (events : List TraceEvent) (thread : ℕ)
 
 -- ---- one event more
 
-shorter : (e : TraceEvent) (before : List TraceEvent) → IsTrace (e ∷ before) → IsTrace before
-shorter e before trace = record { grammar = trace.grammar.1; accepted = (and_true (are_accepted before) (is_none (fault_after before e)) trace.accepted).0 }
+shorter : (e : TraceEvent) (before : List TraceEvent) → IsGapped (e ∷ before) → IsGapped before
+shorter e before trace = record { grammar = trace.grammar.1; each = (and_true (may_all_come before) (may_come before e) trace.each).0 }
 
 -- a return that can come can be taken
 pub can_finish : (s : Setup) (x : Kept) (thread : ℕ) → GivesGuarded s → CanCome s (Some x) (Return thread) → CanFinish x thread
@@ -170,7 +170,7 @@ return_advances s x new thread log lines0 lines1 guarded f = record {
   replies = [];
   stands = λ events before st trace.
       let has : HasCall st.kept thread = returns_busy s st.kept events thread before trace st.stands in
-      let so_far : IsTrace events = shorter (Return thread) events trace in
+      let so_far : IsGapped events = shorter (Return thread) events trace in
       let g : Returned s st.kept has.call has.form new lines0 lines1 = f s st.kept has.call has.form st.shows has.sent has.held (returns_of s st.kept events thread before has.call has.form guarded so_far st.stands has.sent has.held) in
       let well : ReturnsWell s st.kept events thread before has.call has.form = returns_well s st.kept events thread before has.call has.form guarded so_far st.stands has.sent has.held in
       record { kept = kept_after_return s st.kept has.call has.form g.births; shows = g.shows; stands = well.stands g.births g.since };
@@ -178,7 +178,7 @@ return_advances s x new thread log lines0 lines1 guarded f = record {
   told = λ events before st trace. none_logged log;
   wrote = λ events before st trace.
       let has : HasCall st.kept thread = returns_busy s st.kept events thread before trace st.stands in
-      let so_far : IsTrace events = shorter (Return thread) events trace in
+      let so_far : IsGapped events = shorter (Return thread) events trace in
       let g : Returned s st.kept has.call has.form new lines0 lines1 = f s st.kept has.call has.form st.shows has.sent has.held (returns_of s st.kept events thread before has.call has.form guarded so_far st.stands has.sent has.held) in
       let well : ReturnsWell s st.kept events thread before has.call has.form = returns_well s st.kept events thread before has.call has.form guarded so_far st.stands has.sent has.held in
       g.wrote ∙ ap (λ ls. lines0 ++ ls) well.line;

@@ -19,6 +19,7 @@ use Rattle.chain_model.specs.Simulated.{base_of}
 use Rattle.dispatch_chain.specs.Holding.{HeldCalls, IsHeldOf}
 use Rattle.dispatch_chain.specs.Rows.{picked}
 use Rattle.dispatch_chain.specs.Seats.{kinds_of}
+use Rattle.dispatch_chain.specs.Room.{ChainState}
 use Rattle.trace_format.specs.Content.{BeginEvent}
 use Rattle.replay_model.specs.Past.{Opened, arguments_in, is_skipped}
 use Rattle.session_model.specs.Living.{ArePast}
@@ -119,16 +120,16 @@ module _ (x y : SessionParts) (number : ℕ) (e : BeginEvent) (shown : List (Lis
   came : ComesDown x o form held verdict y
   came = subst (λ (p : Opened). ComesDown x p form held verdict y) same_call down
 
-  stops : opened_of new ≡ record o { stop = (found_at x.names.births x.states x.names.handed o).stop }
+  stops : opened_of new ≡ record o { stop = (found_at x.names.births x.states.kept x.names.handed o).stop }
   stops = stopped ∙ (ap (λ (p : Opened). record p { stop = stopped_by verdict.skip (reports_of verdict.findings.items) }) opened ∙ ap (λ (t : Option ℕ). record o { stop = t }) came.found.stop)
 
-  pub came_judged : call_content new.bottom ≡ form → new.held ≡ held → IsJudged x.names.births x.names.handed x.states o new verdict y.states
+  pub came_judged : call_content new.bottom ≡ form → new.held ≡ held → IsJudged x.names.births x.names.handed x.states.kept o new verdict y.states.kept
   came_judged bottom holds = record {
     opened = stops;
     reports = came.found.reports;
     states = came.found.states;
     bottom = λ h. bottom ∙ came.found.bottom h;
-    held = subst (λ (h : HeldCalls). IsHeldOf h (kinds_of x.states) (cond (comes_down x.names.births o) (walk_at x.states x.names.handed o).forms [])) (sym holds) came.found.forms;
+    held = subst (λ (h : HeldCalls). IsHeldOf h (kinds_of x.states.kept) (cond (comes_down x.names.births o) (walk_at x.states.kept x.names.handed o).forms [])) (sym holds) came.found.forms;
   }
 
   pub came_passes : Passes x (opened_of new) y
@@ -136,14 +137,14 @@ module _ (x y : SessionParts) (number : ℕ) (e : BeginEvent) (shown : List (Lis
 
 -- ---- the steps of a call that comes down
 
-pub came_down : (x : SessionParts) (births : List Birth) (handed : List Handed) (o : Opened) (form : CallContent) (held : HeldCalls) (verdict : Verdict) (states : List PartState) (names : NamesKept)
-    → births ≡ x.names.births → handed ≡ x.names.handed → o.refused ≡ false → IsFound births handed x.states o form held verdict states
+pub came_down : (x : SessionParts) (births : List Birth) (handed : List Handed) (o : Opened) (form : CallContent) (held : HeldCalls) (verdict : Verdict) (states : ChainState) (names : NamesKept)
+    → births ≡ x.names.births → handed ≡ x.names.handed → o.refused ≡ false → IsFound births handed x.states.kept o form held verdict states.kept
     → ((p : Opened) → p.cmd ≡ o.cmd → p.args ≡ o.args → is_skipped p ≡ verdict.skip → ArePast x.names.births p names.births) → names ≡ record x.names { births = names.births }
     → ComesDown x o form held verdict (record { states = states; terminator = x.terminator; names = names })
 came_down x births handed o form held verdict states names is_births is_handed refused look ends rest =
-    let found : IsFound x.names.births x.names.handed x.states o form held verdict states =
-    subst (λ hs. IsFound x.names.births hs x.states o form held verdict states) is_handed (subst (λ bs. IsFound bs handed x.states o form held verdict states) is_births look) in
-    let stop : Option ℕ = (found_at x.names.births x.states x.names.handed o).stop in
+    let found : IsFound x.names.births x.names.handed x.states.kept o form held verdict states.kept =
+    subst (λ hs. IsFound x.names.births hs x.states.kept o form held verdict states.kept) is_handed (subst (λ bs. IsFound bs handed x.states.kept o form held verdict states.kept) is_births look) in
+    let stop : Option ℕ = (found_at x.names.births x.states.kept x.names.handed o).stop in
     record {
       found = found;
       passes = record {

@@ -22,8 +22,9 @@ use Rattle.replay_model.specs.declared.Named.{Named}
 use Rattle.replay_model.specs.declared.Born.{Born}
 use Rattle.layer_model.specs.Terminator.{told_call}
 use Rattle.lifetime_layer.specs.declared.verdict.Verdict.{Verdict}
+use Rattle.chain_model.specs.Gaps.{IsGapped}
 use Rattle.chain_model.specs.Simulated.{Held, after_none, after_reply, after_skipped, after_walk, base_of, held_of, other_held, walk_of, with_parts}
-use Rattle.chain_model.specs.Traces.{GivesGuarded, IsTrace, held_in_force, in_force, starts_chain}
+use Rattle.chain_model.specs.Traces.{GivesGuarded, held_in_force, in_force, starts_chain}
 use Rattle.chain_model.proofs.Simulating.{left_kinds}
 use Rattle.dispatch_chain.specs.Holding.{HeldCalls, IsHeldOf}
 use Rattle.dispatch_chain.specs.Seats.{kinds_of}
@@ -72,7 +73,7 @@ split_stand s k x events replies st alike =
 
 -- ---- a begin
 
-pub may_enter : (s : Setup) (x : SessionParts) (events : List TraceEvent) (replies : List ReplyContent) (ls : List LeftCall) (e : BeginEvent) → PartsStand s x events replies ls → IsTrace (Begin e ∷ events) → is_refused s e.cmd e.payload ≡ false
+pub may_enter : (s : Setup) (x : SessionParts) (events : List TraceEvent) (replies : List ReplyContent) (ls : List LeftCall) (e : BeginEvent) → PartsStand s x events replies ls → IsGapped (Begin e ∷ events) → is_refused s e.cmd e.payload ≡ false
     → CanEnter x (calls_in (judged s events) + 1) e
 may_enter s x events replies ls e st trace allowed = record {
   setup = s;
@@ -103,7 +104,7 @@ found_before is (x ∷ xs) ys y there = go (is x) there (found_before is xs ys y
     go false e ih = ih e
 
 module _ (s : Setup) (x y : SessionParts) (events : List TraceEvent) (replies : List ReplyContent) (ls : List LeftCall) (e : BeginEvent) (call : CallContent) (held : HeldCalls) (verdict : Verdict) (st : PartsStand s x events replies ls)
-    (trace : IsTrace (Begin e ∷ events)) (allowed : is_refused s e.cmd e.payload ≡ false) (f : Enters x (calls_in (judged s events) + 1) e call held verdict y) where
+    (trace : IsGapped (Begin e ∷ events)) (allowed : is_refused s e.cmd e.payload ≡ false) (f : Enters x (calls_in (judged s events) + 1) e call held verdict y) where
   abbrev o : Opened
   o = (begun_kept s st.kept e).opened
 
@@ -234,7 +235,7 @@ all_more names more [] (at ∷ args) are = absurd are
 all_more names more (w ∷ written) [] are = absurd are
 all_more names more (w ∷ written) (at ∷ args) are = (places_more names more w.names at are.0, all_more names more written args are.1)
 
-module _ (s : Setup) (x : SessionParts) (events : List TraceEvent) (replies : List ReplyContent) (ls : List LeftCall) (thread : ℕ) (l : LeftCall) (guarded : GivesGuarded s) (trace : IsTrace events) (st : PartsStand s x events replies ls)
+module _ (s : Setup) (x : SessionParts) (events : List TraceEvent) (replies : List ReplyContent) (ls : List LeftCall) (thread : ℕ) (l : LeftCall) (guarded : GivesGuarded s) (trace : IsGapped events) (st : PartsStand s x events replies ls)
     (there : find (is_left_by thread) ls ≡ Some l) (none : StartsNone l) where
   mine : IsLeftOpen st.kept l
   mine = (found_open st.kept thread ls l st.opens there).0
@@ -335,7 +336,7 @@ module _ (s : Setup) (x : SessionParts) (events : List TraceEvent) (replies : Li
 
 -- ---- new parts
 
-pub new_stand : (s : Setup) (x : SessionParts) → x.states ≡ [] → x.terminator.ids ≡ no_ids → x.terminator.routes ≡ [] → x.terminator.drivers ≡ s.drivers → x.names ≡ no_names → PartsStand s x [] [] []
+pub new_stand : (s : Setup) (x : SessionParts) → x.states.kept ≡ [] → x.terminator.ids ≡ no_ids → x.terminator.routes ≡ [] → x.terminator.drivers ≡ s.drivers → x.names ≡ no_names → PartsStand s x [] [] []
 new_stand s x states ids routes drivers names = record {
   kept = nothing_kept;
   shows = record {

@@ -4,7 +4,7 @@ use Rattle.command_tables.specs.Calls.{ReplyContent}
 use Rattle.trace_format.specs.Content.{TraceEvent, Return}
 use Rattle.replay_model.specs.Direct.{Sent}
 use Rattle.replay_model.specs.Setup.{Setup}
-use Rattle.chain_model.specs.Traces.{IsTrace}
+use Rattle.chain_model.specs.Gaps.{IsGapped}
 use Rattle.session_model.specs.Session.{nothing_kept}
 use Rattle.session_model.specs.Returning.{sent_of_thread}
 use Rattle.session_model.specs.Stands.{HasCall}
@@ -18,7 +18,7 @@ none_sent : (thread : ℕ) (c : Sent) → sent_of_thread nothing_kept thread ≡
 none_sent thread c is = cc
 
 -- where nothing is kept, no call can return
-none_returns : {T : Type 0} (s : Setup) (thread : ℕ) (events : List TraceEvent) (before : List ReplyContent) → StandsFor s None events before → IsTrace (Return thread ∷ events) → T
+none_returns : {T : Type 0} (s : Setup) (thread : ℕ) (events : List TraceEvent) (before : List ReplyContent) → StandsFor s None events before → IsGapped (Return thread ∷ events) → T
 none_returns s thread events before st trace =
     let busy : HasCall st.kept thread = returns_busy s st.kept events thread before trace st.stands in
     absurd (none_sent thread busy.call (subst (λ k. sent_of_thread k thread ≡ Some busy.call) st.shows busy.sent))

@@ -91,5 +91,5 @@ pub record Passes (old : SessionParts) (o : Opened) (new : SessionParts) : Type 
 
 -- a call came down: it was looked at, and what it ends has ended
 pub record ComesDown (old : SessionParts) (o : Opened) (call : CallContent) (held : HeldCalls) (verdict : Verdict) (new : SessionParts) : Type 0 where
-  pub found : IsFound old.names.births old.names.handed old.states o call held verdict new.states
-  pub passes : Passes old (record o { stop = (found_at old.names.births old.states old.names.handed o).stop }) new
+  pub found : IsFound old.names.births old.names.handed old.states.kept o call held verdict new.states.kept
+  pub passes : Passes old (record o { stop = (found_at old.names.births old.states.kept old.names.handed o).stop }) new

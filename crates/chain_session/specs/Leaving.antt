@@ -81,21 +81,21 @@ left_of t r = terminator_leave t.ids r.call (answered (drivers_for t r.call) r.r
 
 -- what the parts of a session keep of the chain
 abbrev pub chain_of : SessionParts → ChainKept
-chain_of x = chain_at x.states x.terminator x.names.handed
+chain_of x = chain_at x.states.kept x.terminator x.names.handed
 
 -- and what they keep when results have come up through the parts, above which the call stood in these forms
 abbrev pub chain_up : SessionParts → Rising → List CallContent → ChainKept
 chain_up x r forms =
     let all = left_of x.terminator r in
-    let up = leave_parts r.thread x.states forms all.results in
+    let up = leave_parts r.thread x.states.kept forms all.results in
     record { states = up.states; terminator = all.ids; routes = routes_left x.terminator r.call all.results; handed = hand_all x.names.handed r.made up.results; held = [] }
 
 -- results may come up: each checking part has a unique one below it, each driver of the call replied, and the call came to all parts, at each checking one
 -- of which the results are new once
 pub record MayComeUp (x : SessionParts) (r : Rising) (held : HeldCalls) : Type 0 where
-  pub guarded : is_guarded x.states ≡ true
+  pub guarded : is_guarded x.states.kept ≡ true
   pub count : length r.replies ≡ length (drivers_for x.terminator r.call)
-  pub rise : MayRise r.thread x.states held (left_of x.terminator r).results
+  pub rise : MayRise r.thread x.states.kept held (left_of x.terminator r).results
 
 -- A call that was sent has come up: so many of its results are born, they are kept with what they stand for, and what the chain keeps is what it keeps when
 -- they have come up.
@@ -104,7 +104,7 @@ pub record ComesUp (old : SessionParts) (e : BeginEvent) (call : CallContent) (h
   pub names : new.names.names ≡ old.names.names ++ map named_of (made_again old e call)
   pub births : AreAdded old.names.births (births_given old.names.births (opened_again old e call).args (row_of e.cmd).effect (objects_of (made_again old e call))) new.names.births
   pub retrieved : new.names.retrieved ≡ old.names.retrieved ++ retrieved_by old.names.births (opened_again old e call) (made_again old e call)
-  pub chain : (forms : List CallContent) → IsHeldOf held (kinds_of old.states) forms → chain_of new ≡ chain_up old (rising_again old e call replies) forms
+  pub chain : (forms : List CallContent) → IsHeldOf held (kinds_of old.states.kept) forms → chain_of new ≡ chain_up old (rising_again old e call replies) forms
   pub drivers : new.terminator.drivers ≡ old.terminator.drivers
 
 -- ---- a return

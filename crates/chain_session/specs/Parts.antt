@@ -9,7 +9,7 @@ pub record PartsShow (s : Setup) (x : SessionParts) (k : SessionKept) : Type 0 w
   pub names : x.names.names ≡ k.names
   pub births : x.names.births ≡ k.births
   pub retrieved : x.names.retrieved ≡ k.retrieved
-  pub states : x.states ≡ k.chain.states
+  pub states : x.states.kept ≡ k.chain.states
   pub ids : x.terminator.ids ≡ k.chain.terminator
   pub routes : x.terminator.routes ≡ k.chain.routes
   pub handed : x.names.handed ≡ k.chain.handed

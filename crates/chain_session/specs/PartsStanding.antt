@@ -14,8 +14,9 @@ use Rattle.layer_model.specs.Ids.{no_ids}
 use Rattle.lifetime_layer.specs.declared.verdict.Verdict.{Verdict}
 use Rattle.lifetime_layer.specs.Reports.{reports_of}
 use Rattle.terminator.specs.Calls.{targets_of}
+use Rattle.chain_model.specs.Gaps.{IsGapped}
 use Rattle.chain_model.specs.Simulated.{Held}
-use Rattle.chain_model.specs.Traces.{GivesGuarded, IsTrace}
+use Rattle.chain_model.specs.Traces.{GivesGuarded}
 use Rattle.dispatch_chain.specs.Holding.{HeldCalls}
 use Rattle.session_model.specs.Session.{SessionKept}
 use Rattle.session_model.specs.Stands.{AreRepliesTo, Stands}
@@ -59,7 +60,7 @@ pub record PartsStand (s : Setup) (x : SessionParts) (events : List TraceEvent) 
 -- parts that keep nothing, above as many drivers as the setup has, stand for no events
 abbrev pub NewStand : Type 0
 NewStand =
-    (s : Setup) (x : SessionParts) → x.states ≡ [] → x.terminator.ids ≡ no_ids → x.terminator.routes ≡ [] → x.terminator.drivers ≡ s.drivers → x.names ≡ no_names → PartsStand s x [] [] []
+    (s : Setup) (x : SessionParts) → x.states.kept ≡ [] → x.terminator.ids ≡ no_ids → x.terminator.routes ≡ [] → x.terminator.drivers ≡ s.drivers → x.names ≡ no_names → PartsStand s x [] [] []
 
 -- parts that are split from a session which has begun stand for the events and replies for which it stands; they have no call that could leave
 abbrev pub SplitStand : Type 0
@@ -76,17 +77,17 @@ pub record EntersTrace (s : Setup) (events : List TraceEvent) (replies : List Re
   pub stands : (own : List ReplyContent) → AreRepliesTo (driver_calls (valued (judged s events) replies) (begun_of s (judged s events) e).opened) own
       → PartsStand s new (Begin e ∷ events) (reverse own ++ replies) (record { begin = e; call = call; held = held; skip = verdict.skip; replies = own } ∷ ls)
 
--- a begin of a trace may enter with its number, where its chain isn't refused
+-- a begin of a trace, the names of which may have gaps in their numbers, may enter with its own number, where its chain isn't refused
 abbrev pub MayEnterTrace : Type 0
 MayEnterTrace =
-    (s : Setup) (x : SessionParts) (events : List TraceEvent) (replies : List ReplyContent) (ls : List LeftCall) (e : BeginEvent) → PartsStand s x events replies ls → IsTrace (Begin e ∷ events) → is_refused s e.cmd e.payload ≡ false
+    (s : Setup) (x : SessionParts) (events : List TraceEvent) (replies : List ReplyContent) (ls : List LeftCall) (e : BeginEvent) → PartsStand s x events replies ls → IsGapped (Begin e ∷ events) → is_refused s e.cmd e.payload ≡ false
     → CanEnter x (calls_in (judged s events) + 1) e
 
 -- and what enters is that begin
 abbrev pub EntersAsTraced : Type 0
 EntersAsTraced =
     (s : Setup) (x y : SessionParts) (events : List TraceEvent) (replies : List ReplyContent) (ls : List LeftCall) (e : BeginEvent) (call : CallContent) (held : HeldCalls) (verdict : Verdict) → PartsStand s x events replies ls
-    → IsTrace (Begin e ∷ events) → is_refused s e.cmd e.payload ≡ false → Enters x (calls_in (judged s events) + 1) e call held verdict y → EntersTrace s events replies ls e call held verdict y
+    → IsGapped (Begin e ∷ events) → is_refused s e.cmd e.payload ≡ false → Enters x (calls_in (judged s events) + 1) e call held verdict y → EntersTrace s events replies ls e call held verdict y
 
 -- ---- a return
 
@@ -106,14 +107,14 @@ pub record LeavesTrace (s : Setup) (events : List TraceEvent) (replies : List Re
   pub open_there : find (is_of thread) (open_calls (judged s events)) ≡ Some opened
   pub counted : count ≡ length (made_of s (judged s events) opened)
 
--- the open call of a thread may leave, where no chain comes in force and every chain of the setup is guarded
+-- the open call of a thread of such a trace may leave, where no chain comes in force and every chain of the setup is guarded
 abbrev pub MayLeaveTrace : Type 0
 MayLeaveTrace =
-    (s : Setup) (x : SessionParts) (events : List TraceEvent) (replies : List ReplyContent) (ls : List LeftCall) (thread : ℕ) (l : LeftCall) → GivesGuarded s → IsTrace events → PartsStand s x events replies ls
+    (s : Setup) (x : SessionParts) (events : List TraceEvent) (replies : List ReplyContent) (ls : List LeftCall) (thread : ℕ) (l : LeftCall) → GivesGuarded s → IsGapped events → PartsStand s x events replies ls
     → find (is_left_by thread) ls ≡ Some l → StartsNone l → CanLeave x l.begin l.call l.held l.skip l.replies
 
 -- and that is its return
 abbrev pub LeavesAsTraced : Type 0
 LeavesAsTraced =
-    (s : Setup) (x y : SessionParts) (events : List TraceEvent) (replies : List ReplyContent) (ls : List LeftCall) (thread : ℕ) (l : LeftCall) (count : ℕ) → GivesGuarded s → IsTrace events → PartsStand s x events replies ls
+    (s : Setup) (x y : SessionParts) (events : List TraceEvent) (replies : List ReplyContent) (ls : List LeftCall) (thread : ℕ) (l : LeftCall) (count : ℕ) → GivesGuarded s → IsGapped events → PartsStand s x events replies ls
     → find (is_left_by thread) ls ≡ Some l → StartsNone l → Leaves x l.begin l.call l.held l.skip l.replies y count → LeavesTrace s events replies ls thread y count

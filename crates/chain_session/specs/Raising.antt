@@ -117,6 +117,6 @@ pub record ComesBack (old : SessionParts) (p : OpenCall) (new : SessionParts) (c
   pub names : new.names.names ≡ old.names.names ++ map named_of (made_at old p)
   pub births : AreAdded old.names.births (births_given old.names.births (args_shown p.args.items) (row_of p.cmd).effect (objects_of (made_at old p))) new.names.births
   pub retrieved : new.names.retrieved ≡ old.names.retrieved ++ retrieved_by old.names.births (opened_of p) (made_at old p)
-  pub chain : (forms : List CallContent) → IsHeldOf p.held (kinds_of old.states) forms
-      → chain_at new.states new.terminator new.names.handed ≡ chain_raised (chain_at old.states old.terminator old.names.handed) p forms (made_at old p)
+  pub chain : (forms : List CallContent) → IsHeldOf p.held (kinds_of old.states.kept) forms
+      → chain_at new.states.kept new.terminator new.names.handed ≡ chain_raised (chain_at old.states.kept old.terminator old.names.handed) p forms (made_at old p)
   pub drivers : new.terminator.drivers ≡ old.terminator.drivers

@@ -56,4 +56,4 @@ pub record Shows (s : Setup) (x : Kept) (k : SessionKept) : Type 0 where
   pub reports : x.reports ≡ k.reports
   pub parts : PartsShow s x.parts k
   pub sent : map sent_of x.open_calls ≡ k.sent
-  pub held : AreHeldAs s (kinds_of x.parts.states) x.open_calls k.chain.held
+  pub held : AreHeldAs s (kinds_of x.parts.states.kept) x.open_calls k.chain.held

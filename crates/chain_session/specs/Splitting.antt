@@ -9,7 +9,7 @@ use Rattle.chain_session.specs.Names.{no_names}
 
 -- two parts of sessions keep the same
 pub record KeepAlike (x y : SessionParts) : Type 0 where
-  pub states : x.states ≡ y.states
+  pub states : x.states.kept ≡ y.states.kept
   pub ids : x.terminator.ids ≡ y.terminator.ids
   pub routes : x.terminator.routes ≡ y.terminator.routes
   pub drivers : x.terminator.drivers ≡ y.terminator.drivers
@@ -17,7 +17,7 @@ pub record KeepAlike (x y : SessionParts) : Type 0 where
 
 -- they keep nothing, and there is no driver
 pub record KeepNothing (x : SessionParts) : Type 0 where
-  pub states : x.states ≡ []
+  pub states : x.states.kept ≡ []
   pub ids : x.terminator.ids ≡ no_ids
   pub routes : x.terminator.routes ≡ []
   pub drivers : x.terminator.drivers ≡ 0
@@ -31,4 +31,4 @@ AreSplit (Some k) x = KeepAlike x k.parts
 -- the kinds of the parts of the chain in force: none where there is no chain
 abbrev pub kinds_in_force : Option Kept → List PartKind
 kinds_in_force None = []
-kinds_in_force (Some k) = kinds_of k.parts.states
+kinds_in_force (Some k) = kinds_of k.parts.states.kept

@@ -10,7 +10,8 @@ use Rattle.replay_model.specs.Setup.{Setup}
 use Rattle.replay_model.specs.Judged.{begun_of, judged}
 use Rattle.replay_model.specs.Direct.{driver_calls, exchanges_at, sends_at, valued}
 use Rattle.replay_model.specs.Text.{lines_at}
-use Rattle.chain_model.specs.Traces.{GivesGuarded, IsTrace}
+use Rattle.chain_model.specs.Gaps.{IsGapped}
+use Rattle.chain_model.specs.Traces.{GivesGuarded}
 use Rattle.session_tables.specs.Births.{AreApart}
 use Rattle.session_model.specs.Session.{SessionKept, nothing_kept}
 use Rattle.session_model.specs.Stands.{Stands}
@@ -31,22 +32,22 @@ pub record StandsFor (s : Setup) (x : Option Kept) (events : List TraceEvent) (r
   pub shows : ShowsOnce s x kept
   pub stands : Stands s kept events replies
 
--- one event more of a trace can come
+-- one event more of a trace can come, the names of which may have gaps in their numbers
 pub record CanCome (s : Setup) (x : Option Kept) (e : TraceEvent) : Type 0 where
   pub events : List TraceEvent
   pub replies : List ReplyContent
   pub stands : StandsFor s x events replies
-  pub trace : IsTrace (e ∷ events)
+  pub trace : IsGapped (e ∷ events)
 
 -- One event more, with the drivers' replies to it, for each list of events and replies for which the session stood and which the event may follow: it stands for
 -- them with this one, the drivers' log has gained the event's calls, each with its reply, and the lines are the event's.
 pub record Advances (s : Setup) (old new : Option Kept) (e : TraceEvent) (old_log log : Log) (old_lines lines : List ℕ) : Type 0 where
   pub replies : List ReplyContent
-  pub stands : (events : List TraceEvent) (before : List ReplyContent) → StandsFor s old events before → IsTrace (e ∷ events) → StandsFor s new (e ∷ events) (replies ++ before)
-  pub each : (events : List TraceEvent) (before : List ReplyContent) → StandsFor s old events before → IsTrace (e ∷ events) → length replies ≡ sends_at s (judged s events) e
-  pub told : (events : List TraceEvent) (before : List ReplyContent) → StandsFor s old events before → IsTrace (e ∷ events)
+  pub stands : (events : List TraceEvent) (before : List ReplyContent) → StandsFor s old events before → IsGapped (e ∷ events) → StandsFor s new (e ∷ events) (replies ++ before)
+  pub each : (events : List TraceEvent) (before : List ReplyContent) → StandsFor s old events before → IsGapped (e ∷ events) → length replies ≡ sends_at s (judged s events) e
+  pub told : (events : List TraceEvent) (before : List ReplyContent) → StandsFor s old events before → IsGapped (e ∷ events)
       → log ≡ logged old_log (exchanges_at s (judged s events) e (replies ++ before))
-  pub wrote : (events : List TraceEvent) (before : List ReplyContent) → StandsFor s old events before → IsTrace (e ∷ events)
+  pub wrote : (events : List TraceEvent) (before : List ReplyContent) → StandsFor s old events before → IsGapped (e ∷ events)
       → lines ≡ old_lines ++ lines_at s (judged s events) e
 
 -- the open call of a thread can return, under a setup whose chains are guarded
@@ -69,7 +70,7 @@ Holds x held = (s : Setup) (k : SessionKept) → ShowsOnce s x k → (held ≡ l
 
 -- a begin that memory cut short: the first so many of its calls were told
 abbrev pub CutBefore : Setup → Option Kept → BeginEvent → Log → Log → Type 0
-CutBefore s old e old_log log = (events : List TraceEvent) (before : List ReplyContent) → StandsFor s old events before → IsTrace (Begin e ∷ events)
+CutBefore s old e old_log log = (events : List TraceEvent) (before : List ReplyContent) → StandsFor s old events before → IsGapped (Begin e ∷ events)
     → FrontAsked (driver_calls (valued (judged s events) before) (begun_of s (judged s events) e).opened) old_log log
 
 -- how many calls there were

@@ -77,18 +77,18 @@ fn open_judged(
     start: Start,
     verdict: &mut Verdict,
 ) -> Result<Box<OpenCall>, NoMemory>
-    requires table { table.now.rows ≡ kinds_of kept.old.parts.states }
+    requires table { table.now.rows ≡ kinds_of kept.old.parts.states.kept }
     requires fits { FitsCall (opened_first number kept.old.parts.names.names (begin_content begin) None) }
     requires lined { AreLined kept.old.parts.names.births }
     requires goes { verdict.old.skip ≡ false }
     requires empty { verdict.old.findings.items ≡ [] }
-    ensures judged { IfOk result (λ b. IsJudged kept.old.parts.names.births kept.old.parts.names.handed kept.old.parts.states (opened_first number kept.old.parts.names.names (begin_content begin.entry) start.refusal) (box_value b) verdict.new kept.new.parts.states) }
+    ensures judged { IfOk result (λ b. IsJudged kept.old.parts.names.births kept.old.parts.names.handed kept.old.parts.states.kept (opened_first number kept.old.parts.names.names (begin_content begin.entry) start.refusal) (box_value b) verdict.new kept.new.parts.states.kept) }
     ensures passes { IfOk result (λ b. Passes kept.old.parts (opened_of (box_value b)) kept.new.parts) }
     ensures refusal { IfOk result (λ b. (box_value b).refusal ≡ start.refusal) }
     ensures chain { IfOk result (λ b. (box_value b).chain ≡ start.chain) }
     ensures replies { IfOk result (λ b. (box_value b).replies.items ≡ []) }
     ensures kept { kept.new ≡ record kept.old { parts = kept.new.parts } }
-    ensures kinds { kinds_of kept.new.parts.states ≡ kinds_of kept.old.parts.states }
+    ensures kinds { kinds_of kept.new.parts.states.kept ≡ kinds_of kept.old.parts.states.kept }
 {
     let mut call = open_call(
         room,
@@ -156,7 +156,7 @@ pub(crate) fn begin_call<D: Driver>(
     driver: &mut D,
     lines: &mut Vec<u8>,
 ) -> Result<(), SessionError>
-    requires table { table.now.rows ≡ kinds_of kept.old.parts.states }
+    requires table { table.now.rows ≡ kinds_of kept.old.parts.states.kept }
     requires can { CanBegin (trace_setup (setup_content setup.now)) kept.old (begin_content begin) }
     requires number { number ≡ kept.old.calls + 1 }
     requires few { length (setup_content setup.now).drivers.list < 2 ^ 32 }
@@ -165,7 +165,7 @@ pub(crate) fn begin_call<D: Driver>(
     ensures fault { IfErr result (IsFault (same_command begin.entry.cmd CommandId.CreateInstance) ((trace_setup (setup_content setup.now)).outcome begin.entry.payload.now)) }
     ensures within { OnOk result (exceeds_layers (trace_setup (setup_content setup.now)) (Begin (begin_content begin.entry)) ≡ false) }
     ensures untold { OnErr result (exceeds_layers (trace_setup (setup_content setup.now)) (Begin (begin_content begin.entry)) ≡ true → D.log driver.new ≡ D.log driver.old) }
-    ensures kinds { kinds_of kept.new.parts.states ≡ kinds_of kept.old.parts.states }
+    ensures kinds { kinds_of kept.new.parts.states.kept ≡ kinds_of kept.old.parts.states.kept }
     ensures policy { D.answers_by driver.new ≡ D.answers_by driver.old }
 {
     let creation = create(room.alloc, number, begin.cmd, begin.payload, setup, lines)?;

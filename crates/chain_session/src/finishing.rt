@@ -58,11 +58,11 @@ fn come_back(
     drivers: u32,
     call: &OpenCall,
 ) -> Result<usize, NoMemory>
-    requires table { table.old.rows ≡ kinds_of parts.old.states }
+    requires table { table.old.rows ≡ kinds_of parts.old.states.kept }
     requires drivers { drivers ≡ parts.old.terminator.drivers }
-    requires may { MayRaise parts.old.states parts.old.terminator call.now (made_at parts.old call.now) }
+    requires may { MayRaise parts.old.states.kept parts.old.terminator call.now (made_at parts.old call.now) }
     ensures ok { IfOk result (ComesBack parts.old call.now parts.new) }
-    ensures table { table.new.rows ≡ kinds_of parts.new.states }
+    ensures table { table.new.rows ≡ kinds_of parts.new.states.kept }
 {
     let born = made(
         room,
@@ -97,11 +97,11 @@ pub(crate) fn finish_call(
     thread: u32,
     lines: &mut Vec<u8>,
 ) -> Result<(), NoMemory>
-    requires table { table.old.rows ≡ kinds_of kept.old.parts.states }
+    requires table { table.old.rows ≡ kinds_of kept.old.parts.states.kept }
     requires drivers { drivers ≡ kept.old.parts.terminator.drivers }
     requires can { CanFinish kept.old thread }
     ensures ok { OnOk result (Finishes kept.old kept.new thread lines.old.items lines.new.items) }
-    ensures table { table.new.rows ≡ kinds_of kept.new.parts.states }
+    ensures table { table.new.rows ≡ kinds_of kept.new.parts.states.kept }
     ensures calls { kept.new.calls ≡ kept.old.calls }
 {
     match kept.open_calls.find(thread) {

@@ -116,16 +116,16 @@ fn walk_down(
     held: &mut Held,
     verdict: &mut Verdict,
 ) -> Result<(), NoMemory>
-    requires table { table.now.rows ≡ kinds_of states.old }
+    requires table { table.now.rows ≡ kinds_of states.old.kept }
     requires fits { FitsCall (opened_read number (begin_content begin) (args_shown args.now)) }
     requires goes { verdict.old.skip ≡ false }
     requires empty { verdict.old.findings.items ≡ [] }
-    ensures reports { OnOk result (reports_of verdict.new.findings.items ≡ (walk_at states.old handed.now (opened_read number (begin_content begin.entry) (args_shown args.now))).found.reports) }
-    ensures skip { OnOk result (verdict.new.skip ≡ is_some (walk_at states.old handed.now (opened_read number (begin_content begin.entry) (args_shown args.now))).found.stop) }
-    ensures states { OnOk result (states.new ≡ (walk_at states.old handed.now (opened_read number (begin_content begin.entry) (args_shown args.now))).states) }
-    ensures bottom { OnOk result (call_content form.new ≡ (walk_at states.old handed.now (opened_read number (begin_content begin.entry) (args_shown args.now))).bottom) }
-    ensures held { OnOk result (IsHeldOf held.new (kinds_of states.old) (walk_at states.old handed.now (opened_read number (begin_content begin.entry) (args_shown args.now))).forms) }
-    ensures kinds { kinds_of states.new ≡ kinds_of states.old }
+    ensures reports { OnOk result (reports_of verdict.new.findings.items ≡ (walk_at states.old.kept handed.now (opened_read number (begin_content begin.entry) (args_shown args.now))).found.reports) }
+    ensures skip { OnOk result (verdict.new.skip ≡ is_some (walk_at states.old.kept handed.now (opened_read number (begin_content begin.entry) (args_shown args.now))).found.stop) }
+    ensures states { OnOk result (states.new.kept ≡ (walk_at states.old.kept handed.now (opened_read number (begin_content begin.entry) (args_shown args.now))).states) }
+    ensures bottom { OnOk result (call_content form.new ≡ (walk_at states.old.kept handed.now (opened_read number (begin_content begin.entry) (args_shown args.now))).bottom) }
+    ensures held { OnOk result (IsHeldOf held.new (kinds_of states.old.kept) (walk_at states.old.kept handed.now (opened_read number (begin_content begin.entry) (args_shown args.now))).forms) }
+    ensures kinds { kinds_of states.new.kept ≡ kinds_of states.old.kept }
 {
     let passed = Passed {
         cmd: begin.cmd,
@@ -151,13 +151,13 @@ pub(crate) fn look(
     held: &mut Held,
     verdict: &mut Verdict,
 ) -> Result<(), NoMemory>
-    requires table { table.now.rows ≡ kinds_of states.old }
+    requires table { table.now.rows ≡ kinds_of states.old.kept }
     requires fits { FitsCall (opened_read number (begin_content begin) (args_shown args.now)) }
     requires goes { verdict.old.skip ≡ false }
     requires empty { verdict.old.findings.items ≡ [] }
     requires unheld { held.old.forms ≡ [] }
-    ensures found { OnOk result (IsFound objects.now handed.now states.old (opened_read number (begin_content begin.entry) (args_shown args.now)) (call_content form.new) held.new verdict.new states.new) }
-    ensures kinds { kinds_of states.new ≡ kinds_of states.old }
+    ensures found { OnOk result (IsFound objects.now handed.now states.old.kept (opened_read number (begin_content begin.entry) (args_shown args.now)) (call_content form.new) held.new verdict.new states.new.kept) }
+    ensures kinds { kinds_of states.new.kept ≡ kinds_of states.old.kept }
 {
     if is_reported(objects, begin.cmd, args) {
         report_first(verdict)?;
@@ -180,7 +180,7 @@ fn judge_passed(
     call: &mut OpenCall,
     verdict: &mut Verdict,
 ) -> Result<(), NoMemory>
-    requires table { table.now.rows ≡ kinds_of parts.old.states }
+    requires table { table.now.rows ≡ kinds_of parts.old.states.kept }
     requires allowed { is_some call.old.refusal ≡ false }
     requires opened { opened_of call.old ≡ opened_first number parts.old.names.names (begin_content begin) call.old.refusal }
     requires fits { FitsCall (opened_first number parts.old.names.names (begin_content begin) None) }
@@ -188,12 +188,12 @@ fn judge_passed(
     requires goes { verdict.old.skip ≡ false }
     requires empty { verdict.old.findings.items ≡ [] }
     requires unheld { call.old.held.forms ≡ [] }
-    ensures judged { OnOk result (IsJudged parts.old.names.births parts.old.names.handed parts.old.states (opened_first number parts.old.names.names (begin_content begin.entry) call.old.refusal) call.new verdict.new parts.new.states) }
+    ensures judged { OnOk result (IsJudged parts.old.names.births parts.old.names.handed parts.old.states.kept (opened_first number parts.old.names.names (begin_content begin.entry) call.old.refusal) call.new verdict.new parts.new.states.kept) }
     ensures passes { OnOk result (Passes parts.old (opened_of call.new) parts.new) }
     ensures refusal { call.new.refusal ≡ call.old.refusal }
     ensures chain { call.new.chain ≡ call.old.chain }
     ensures replies { call.new.replies ≡ call.old.replies }
-    ensures kinds { kinds_of parts.new.states ≡ kinds_of parts.old.states }
+    ensures kinds { kinds_of parts.new.states.kept ≡ kinds_of parts.old.states.kept }
 {
     parts.come_down(
         table,
@@ -219,19 +219,19 @@ pub(crate) fn judge(
     call: &mut OpenCall,
     verdict: &mut Verdict,
 ) -> Result<(), NoMemory>
-    requires table { table.now.rows ≡ kinds_of parts.old.states }
+    requires table { table.now.rows ≡ kinds_of parts.old.states.kept }
     requires opened { opened_of call.old ≡ opened_first number parts.old.names.names (begin_content begin) call.old.refusal }
     requires fits { FitsCall (opened_first number parts.old.names.names (begin_content begin) None) }
     requires lined { AreLined parts.old.names.births }
     requires goes { verdict.old.skip ≡ false }
     requires empty { verdict.old.findings.items ≡ [] }
     requires unheld { call.old.held.forms ≡ [] }
-    ensures judged { OnOk result (IsJudged parts.old.names.births parts.old.names.handed parts.old.states (opened_first number parts.old.names.names (begin_content begin.entry) call.old.refusal) call.new verdict.new parts.new.states) }
+    ensures judged { OnOk result (IsJudged parts.old.names.births parts.old.names.handed parts.old.states.kept (opened_first number parts.old.names.names (begin_content begin.entry) call.old.refusal) call.new verdict.new parts.new.states.kept) }
     ensures passes { OnOk result (Passes parts.old (opened_of call.new) parts.new) }
     ensures refusal { call.new.refusal ≡ call.old.refusal }
     ensures chain { call.new.chain ≡ call.old.chain }
     ensures replies { call.new.replies ≡ call.old.replies }
-    ensures kinds { kinds_of parts.new.states ≡ kinds_of parts.old.states }
+    ensures kinds { kinds_of parts.new.states.kept ≡ kinds_of parts.old.states.kept }
 {
     if call.refusal.is_some() {
         Ok(())

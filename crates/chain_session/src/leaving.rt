@@ -32,13 +32,13 @@ fn rise_flagged(
     lost: &[Name],
     results: &mut [u64],
 ) -> Result<(), NoMemory>
-    requires table { table.now.rows ≡ kinds_of parts.old.states }
+    requires table { table.now.rows ≡ kinds_of parts.old.states.kept }
     requires flags { born_where results.old ≡ born_flags made.now lost.now }
     requires may { MayComeUp parts.old (record { thread = thread; call = call_content call.now; replies = map reply_shown replies.now; made = made.now; lost = lost.now }) held.now }
-    ensures chain { OnOk result ((forms : List CallContent) → IsHeldOf held.now (kinds_of parts.old.states) forms → chain_of parts.new ≡ chain_up parts.old (record { thread = thread; call = call_content call.now; replies = map reply_shown replies.now; made = made.now; lost = lost.now }) forms) }
+    ensures chain { OnOk result ((forms : List CallContent) → IsHeldOf held.now (kinds_of parts.old.states.kept) forms → chain_of parts.new ≡ chain_up parts.old (record { thread = thread; call = call_content call.now; replies = map reply_shown replies.now; made = made.now; lost = lost.now }) forms) }
     ensures drivers { parts.new.terminator.drivers ≡ parts.old.terminator.drivers }
     ensures rest { parts.new.names ≡ record parts.old.names { handed = parts.new.names.handed } }
-    ensures kinds { kinds_of parts.new.states ≡ kinds_of parts.old.states }
+    ensures kinds { kinds_of parts.new.states.kept ≡ kinds_of parts.old.states.kept }
 {
     parts.terminator.leave(call, replies, results)?;
     walk_leave(table, &mut parts.states, thread, held, results)?;
@@ -58,12 +58,12 @@ fn rise(
     lost: &[Name],
     results: &mut Vec<u64>,
 ) -> Result<(), NoMemory>
-    requires table { table.now.rows ≡ kinds_of parts.old.states }
+    requires table { table.now.rows ≡ kinds_of parts.old.states.kept }
     requires may { MayComeUp parts.old (record { thread = thread; call = call_content call.now; replies = map reply_shown replies.now; made = made.now; lost = lost.now }) held.now }
-    ensures chain { OnOk result ((forms : List CallContent) → IsHeldOf held.now (kinds_of parts.old.states) forms → chain_of parts.new ≡ chain_up parts.old (record { thread = thread; call = call_content call.now; replies = map reply_shown replies.now; made = made.now; lost = lost.now }) forms) }
+    ensures chain { OnOk result ((forms : List CallContent) → IsHeldOf held.now (kinds_of parts.old.states.kept) forms → chain_of parts.new ≡ chain_up parts.old (record { thread = thread; call = call_content call.now; replies = map reply_shown replies.now; made = made.now; lost = lost.now }) forms) }
     ensures drivers { parts.new.terminator.drivers ≡ parts.old.terminator.drivers }
     ensures rest { parts.new.names ≡ record parts.old.names { handed = parts.new.names.handed } }
-    ensures kinds { kinds_of parts.new.states ≡ kinds_of parts.old.states }
+    ensures kinds { kinds_of parts.new.states.kept ≡ kinds_of parts.old.states.kept }
 {
     put_flags(made, lost, results)?;
     rise_flagged(
@@ -82,10 +82,10 @@ pub(crate) fn leave_sent(
     replies: &[DriverReply],
     results: &mut Vec<u64>,
 ) -> Result<usize, NoMemory>
-    requires table { table.now.rows ≡ kinds_of parts.old.states }
+    requires table { table.now.rows ≡ kinds_of parts.old.states.kept }
     requires may { MayComeUp parts.old (rising_again parts.old (begin_content begin) (call_content call.now) (map reply_shown replies.now)) held.now }
     ensures ok { IfOk result (ComesUp parts.old (begin_content begin.entry) (call_content call.now) held.now (map reply_shown replies.now) parts.new) }
-    ensures kinds { kinds_of parts.new.states ≡ kinds_of parts.old.states }
+    ensures kinds { kinds_of parts.new.states.kept ≡ kinds_of parts.old.states.kept }
 {
     let mut room = parts.names.take_room();
     let open = reopen(&mut room, parts.names.named(), begin, call)?;

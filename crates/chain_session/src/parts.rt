@@ -53,7 +53,7 @@ fn end_some(names: &mut NameTable, cmd: CommandId, args: &[Vec<Argument>], skipp
 impl SessionParts {
     /// There is no chain, and nothing is kept yet, above so many drivers. Takes no memory.
     pub(crate) fn new(alloc: Global, drivers: u32) -> SessionParts
-        ensures states { result.states ≡ [] }
+        ensures states { result.states.kept ≡ [] }
         ensures ids { result.terminator.ids ≡ no_ids }
         ensures routes { result.terminator.routes ≡ [] }
         ensures drivers { result.terminator.drivers ≡ drivers }
@@ -69,7 +69,7 @@ impl SessionParts {
     /// Parts of their own that keep the same. Of room nothing is said.
     pub fn copy(&self) -> Result<SessionParts, NoMemory>
         ensures alike { IfOk result (λ copy. KeepAlike copy self.now) }
-        ensures kinds { IfOk result (λ copy. kinds_of copy.states ≡ kinds_of self.now.states) }
+        ensures kinds { IfOk result (λ copy. kinds_of copy.states.kept ≡ kinds_of self.now.states.kept) }
     {
         Ok(SessionParts {
             states: self.states.copy()?,
@@ -92,14 +92,14 @@ impl SessionParts {
         held: &mut Held,
         verdict: &mut Verdict,
     ) -> Result<(), NoMemory>
-        requires table { table.now.rows ≡ kinds_of self.old.states }
+        requires table { table.now.rows ≡ kinds_of self.old.states.kept }
         requires fits { FitsCall (opened_read number (begin_content begin) (args_shown args.now)) }
         requires lined { AreLined self.old.names.births }
         requires goes { verdict.old.skip ≡ false }
         requires empty { verdict.old.findings.items ≡ [] }
         requires unheld { held.old.forms ≡ [] }
         ensures down { OnOk result (ComesDown self.old (opened_read number (begin_content begin.entry) (args_shown args.now)) (call_content form.new) held.new verdict.new self.new) }
-        ensures kinds { kinds_of self.new.states ≡ kinds_of self.old.states }
+        ensures kinds { kinds_of self.new.states.kept ≡ kinds_of self.old.states.kept }
     {
         look(
             table,
@@ -128,13 +128,13 @@ impl SessionParts {
         held: &mut Held,
         verdict: &mut Verdict,
     ) -> Result<(), NoMemory>
-        requires table { table.now.rows ≡ kinds_of self.old.states }
+        requires table { table.now.rows ≡ kinds_of self.old.states.kept }
         requires can { CanEnter self.old number (begin_content begin) }
         requires goes { verdict.old.skip ≡ false }
         requires empty { verdict.old.findings.items ≡ [] }
         requires unheld { held.old.forms ≡ [] }
         ensures ok { OnOk result (Enters self.old number (begin_content begin.entry) (call_content call.new) held.new verdict.new self.new) }
-        ensures kinds { kinds_of self.new.states ≡ kinds_of self.old.states }
+        ensures kinds { kinds_of self.new.states.kept ≡ kinds_of self.old.states.kept }
     {
         let args = self.names.read(begin.args)?;
         let mut handles = self.names.take_handles();
@@ -165,10 +165,10 @@ impl SessionParts {
         held: &mut Held,
         verdict: &mut Verdict,
     ) -> Result<(), NoMemory>
-        requires table { table.now.rows ≡ kinds_of self.old.states }
+        requires table { table.now.rows ≡ kinds_of self.old.states.kept }
         requires can { CanEnterAt self.old number (content event.now) }
         ensures ok { OnOk result (EntersAt self.old number (content event.now) (call_content call.new) held.new verdict.new self.new) }
-        ensures kinds { kinds_of self.new.states ≡ kinds_of self.old.states }
+        ensures kinds { kinds_of self.new.states.kept ≡ kinds_of self.old.states.kept }
     {
         match event {
             Event::Return { .. } => Ok(()),
@@ -208,10 +208,10 @@ impl SessionParts {
         replies: &[DriverReply],
         results: &mut Vec<u64>,
     ) -> Result<u32, NoMemory>
-        requires table { table.now.rows ≡ kinds_of self.old.states }
+        requires table { table.now.rows ≡ kinds_of self.old.states.kept }
         requires can { CanLeave self.old (begin_content begin) (call_content call.now) held.now skipped (map reply_shown replies.now) }
         ensures ok { IfOk result (Leaves self.old (begin_content begin.entry) (call_content call.now) held.now skipped (map reply_shown replies.now) self.new) }
-        ensures kinds { kinds_of self.new.states ≡ kinds_of self.old.states }
+        ensures kinds { kinds_of self.new.states.kept ≡ kinds_of self.old.states.kept }
     {
         if skipped {
             raise_lost(
@@ -244,10 +244,10 @@ impl SessionParts {
         replies: &[DriverReply],
         results: &mut Vec<u64>,
     ) -> Result<u32, NoMemory>
-        requires table { table.now.rows ≡ kinds_of self.old.states }
+        requires table { table.now.rows ≡ kinds_of self.old.states.kept }
         requires can { CanLeaveAt self.old (content event.now) (call_content call.now) held.now verdict.now.skip (map reply_shown replies.now) }
         ensures ok { IfOk result (LeavesAt self.old (content event.now) (call_content call.now) held.now verdict.now.skip (map reply_shown replies.now) self.new) }
-        ensures kinds { kinds_of self.new.states ≡ kinds_of self.old.states }
+        ensures kinds { kinds_of self.new.states.kept ≡ kinds_of self.old.states.kept }
     {
         match event {
             Event::Return { .. } => Ok(0),

@@ -95,15 +95,15 @@ fn raise_flagged(
     made: &[Born],
     results: &mut [u64],
 ) -> Result<(), NoMemory>
-    requires table { table.now.rows ≡ kinds_of states.old }
-    requires guarded { is_guarded states.old ≡ true }
+    requires table { table.now.rows ≡ kinds_of states.old.kept }
+    requires guarded { is_guarded states.old.kept ≡ true }
     requires answers { HasAnswers terminator.old call.now }
-    requires rise { MayRise call.now.thread states.old held.now (left_at terminator.old call.now made.now).results }
+    requires rise { MayRise call.now.thread states.old.kept held.now (left_at terminator.old call.now made.now).results }
     requires flags { born_where results.old ≡ born_flags made.now (lost_of call.now made.now) }
-    ensures chain { OnOk result ((forms : List CallContent) → IsHeldOf held.now (kinds_of states.old) forms → chain_at states.new terminator.new names.new.handed ≡ chain_sent (chain_at states.old terminator.old names.old.handed) call.now forms made.now) }
+    ensures chain { OnOk result ((forms : List CallContent) → IsHeldOf held.now (kinds_of states.old.kept) forms → chain_at states.new.kept terminator.new names.new.handed ≡ chain_sent (chain_at states.old.kept terminator.old names.old.handed) call.now forms made.now) }
     ensures drivers { terminator.new.drivers ≡ terminator.old.drivers }
     ensures rest { names.new ≡ record names.old { handed = names.new.handed } }
-    ensures kinds { kinds_of states.new ≡ kinds_of states.old }
+    ensures kinds { kinds_of states.new.kept ≡ kinds_of states.old.kept }
 {
     answer(terminator, call, results)?;
     walk_leave(table, states, call.thread, held, results)?;
@@ -122,14 +122,14 @@ fn raise_sent(
     made: &[Born],
     flags: &mut Vec<u64>,
 ) -> Result<(), NoMemory>
-    requires table { table.now.rows ≡ kinds_of states.old }
-    requires guarded { is_guarded states.old ≡ true }
+    requires table { table.now.rows ≡ kinds_of states.old.kept }
+    requires guarded { is_guarded states.old.kept ≡ true }
     requires answers { HasAnswers terminator.old call.now }
-    requires rise { MayRise call.now.thread states.old held.now (left_at terminator.old call.now made.now).results }
-    ensures chain { OnOk result ((forms : List CallContent) → IsHeldOf held.now (kinds_of states.old) forms → chain_at states.new terminator.new names.new.handed ≡ chain_sent (chain_at states.old terminator.old names.old.handed) call.now forms made.now) }
+    requires rise { MayRise call.now.thread states.old.kept held.now (left_at terminator.old call.now made.now).results }
+    ensures chain { OnOk result ((forms : List CallContent) → IsHeldOf held.now (kinds_of states.old.kept) forms → chain_at states.new.kept terminator.new names.new.handed ≡ chain_sent (chain_at states.old.kept terminator.old names.old.handed) call.now forms made.now) }
     ensures drivers { terminator.new.drivers ≡ terminator.old.drivers }
     ensures rest { names.new ≡ record names.old { handed = names.new.handed } }
-    ensures kinds { kinds_of states.new ≡ kinds_of states.old }
+    ensures kinds { kinds_of states.new.kept ≡ kinds_of states.old.kept }
 {
     put_flags(made, lost_by(call, made), flags)?;
     raise_flagged(table, states, terminator, names, call, held, made, flags)
@@ -145,10 +145,10 @@ pub(crate) fn raise_lost(
     lost: &[Name],
     results: &mut Vec<u64>,
 ) -> Result<(), NoMemory>
-    requires table { table.now.rows ≡ kinds_of states.old }
-    requires guarded { is_guarded states.old ≡ true }
-    ensures states { OnOk result ((forms : List CallContent) → IsHeldOf held.now (kinds_of states.old) forms → states.new ≡ (leave_parts thread states.old forms (map (λ _. 0) lost.now)).states) }
-    ensures kinds { kinds_of states.new ≡ kinds_of states.old }
+    requires table { table.now.rows ≡ kinds_of states.old.kept }
+    requires guarded { is_guarded states.old.kept ≡ true }
+    ensures states { OnOk result ((forms : List CallContent) → IsHeldOf held.now (kinds_of states.old.kept) forms → states.new.kept ≡ (leave_parts thread states.old.kept forms (map (λ _. 0) lost.now)).states) }
+    ensures kinds { kinds_of states.new.kept ≡ kinds_of states.old.kept }
 {
     results.clear();
     flag_lost(lost, results)?;
@@ -164,10 +164,10 @@ fn raise_skipped(
     made: &[Born],
     results: &mut Vec<u64>,
 ) -> Result<(), NoMemory>
-    requires table { table.now.rows ≡ kinds_of states.old }
-    requires guarded { is_guarded states.old ≡ true }
-    ensures states { OnOk result ((forms : List CallContent) → IsHeldOf call.now.held (kinds_of states.old) forms → states.new ≡ (leave_parts call.now.thread states.old forms (map (λ _. 0) (lost_of call.now made.now))).states) }
-    ensures kinds { kinds_of states.new ≡ kinds_of states.old }
+    requires table { table.now.rows ≡ kinds_of states.old.kept }
+    requires guarded { is_guarded states.old.kept ≡ true }
+    ensures states { OnOk result ((forms : List CallContent) → IsHeldOf call.now.held (kinds_of states.old.kept) forms → states.new.kept ≡ (leave_parts call.now.thread states.old.kept forms (map (λ _. 0) (lost_of call.now made.now))).states) }
+    ensures kinds { kinds_of states.new.kept ≡ kinds_of states.old.kept }
 {
     let lost = lost_by(call, made);
     raise_lost(table, states, call.thread, &call.held, lost, results)
@@ -185,12 +185,12 @@ pub(crate) fn raise(
     made: &[Born],
     room: &mut Room,
 ) -> Result<(), NoMemory>
-    requires table { table.old.rows ≡ kinds_of states.old }
-    requires may { MayRaise states.old terminator.old call.now made.now }
-    ensures chain { OnOk result ((forms : List CallContent) → IsHeldOf call.now.held (kinds_of states.old) forms → chain_at states.new terminator.new names.new.handed ≡ chain_raised (chain_at states.old terminator.old names.old.handed) call.now forms made.now) }
+    requires table { table.old.rows ≡ kinds_of states.old.kept }
+    requires may { MayRaise states.old.kept terminator.old call.now made.now }
+    ensures chain { OnOk result ((forms : List CallContent) → IsHeldOf call.now.held (kinds_of states.old.kept) forms → chain_at states.new.kept terminator.new names.new.handed ≡ chain_raised (chain_at states.old.kept terminator.old names.old.handed) call.now forms made.now) }
     ensures drivers { terminator.new.drivers ≡ terminator.old.drivers }
     ensures rest { names.new ≡ record names.old { handed = names.new.handed } }
-    ensures table { table.new.rows ≡ kinds_of states.new }
+    ensures table { table.new.rows ≡ kinds_of states.new.kept }
 {
     if is_skipped(call) {
         raise_skipped(table, states, call, made, &mut room.handles)

@@ -63,7 +63,7 @@ impl Session {
     /// themselves over the same rows. Of room nothing is said. Before the first begin no driver is known to them.
     pub fn split(&self) -> Result<SessionParts, NoMemory>
         ensures parts { IfOk result (λ parts. AreSplit (option_map (λ x. x.value.kept) self.now.started) parts) }
-        ensures kinds { IfOk result (λ parts. kinds_of parts.states ≡ kinds_in_force (option_map (λ x. x.value.kept) self.now.started)) }
+        ensures kinds { IfOk result (λ parts. kinds_of parts.states.kept ≡ kinds_in_force (option_map (λ x. x.value.kept) self.now.started)) }
     {
         match &self.started {
             None => Ok(SessionParts::new(self.alloc, 0)),

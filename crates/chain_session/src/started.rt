@@ -36,13 +36,13 @@ pub struct Started {
     pub(crate) kept: Kept,
     table: DispatchTable,
     room: Room,
-    ghost agrees: { table.rows ≡ kinds_of kept.parts.states },
+    ghost agrees: { table.rows ≡ kinds_of kept.parts.states.kept },
 }
 
 // Nothing is kept yet, above so many drivers.
 fn nothing(alloc: Global, drivers: u32) -> Kept
     ensures shows { (s : TraceSetup) → drivers ≡ s.drivers → Shows s result nothing_kept }
-    ensures states { result.parts.states ≡ [] }
+    ensures states { result.parts.states.kept ≡ [] }
 {
     Kept {
         calls: 0,
@@ -68,7 +68,7 @@ impl Started {
 
     /// The rows of the chain in force.
     pub(crate) fn table(&self) -> &DispatchTable
-        ensures { result.now.rows ≡ kinds_of self.now.kept.parts.states }
+        ensures { result.now.rows ≡ kinds_of self.now.kept.parts.states.kept }
     {
         &self.table
     }

@@ -55,8 +55,8 @@ fn take_in(
     room: &mut Room,
 ) -> Result<(), NoMemory>
     requires starts { starts_chain (opened_of call.now) ≡ true }
-    requires fresh { states.old ≡ map new_part table.now.rows }
-    ensures states { OnOk result (states.new ≡ map (fresh_of (opened_of call.now)) table.now.rows) }
+    requires fresh { states.old.kept ≡ map new_part table.now.rows }
+    ensures states { OnOk result (states.new.kept ≡ map (fresh_of (opened_of call.now)) table.now.rows) }
     ensures held { OnOk result (IsHeldOf held.new table.now.rows (map (λ _. base_of (opened_of call.now)) table.now.rows)) }
 {
     let mut form = LayerCall::with_room(room.alloc, 0, 0)?;
@@ -92,7 +92,7 @@ fn new_chain(
 ) -> Result<NewChain, NoMemory>
     requires { starts_chain (opened_of call.now) ≡ true }
     ensures rows { IfOk result (λ n. n.table.rows ≡ kinds_placed chain.now.parts.items) }
-    ensures states { IfOk result (λ n. n.states ≡ map (fresh_of (opened_of call.now)) (kinds_placed chain.now.parts.items)) }
+    ensures states { IfOk result (λ n. n.states.kept ≡ map (fresh_of (opened_of call.now)) (kinds_placed chain.now.parts.items)) }
     ensures held { IfOk result (λ n. IsHeldOf n.held (kinds_placed chain.now.parts.items) (map (λ _. base_of (opened_of call.now)) (kinds_placed chain.now.parts.items))) }
 {
     let table = table.of_chain(room.alloc, chain)?;
@@ -116,11 +116,11 @@ pub(crate) fn start(
     room: &mut Room,
 ) -> Result<Held, NoMemory>
     requires starts { starts_chain (opened_of call.now) ≡ true }
-    requires table { table.old.rows ≡ kinds_of states.old }
-    requires none { states.old ≡ [] }
-    ensures states { OnOk result (states.new ≡ map (fresh_of (opened_of call.now)) (kinds_chained call.now.chain)) }
+    requires table { table.old.rows ≡ kinds_of states.old.kept }
+    requires none { states.old.kept ≡ [] }
+    ensures states { OnOk result (states.new.kept ≡ map (fresh_of (opened_of call.now)) (kinds_chained call.now.chain)) }
     ensures held { IfOk result (λ held. IsHeldOf held (kinds_chained call.now.chain) (map (λ _. base_of (opened_of call.now)) (kinds_chained call.now.chain))) }
-    ensures table { table.new.rows ≡ kinds_of states.new }
+    ensures table { table.new.rows ≡ kinds_of states.new.kept }
 {
     match &call.chain {
         None => Ok(Held::new(room.alloc)),

@@ -1,5 +1,5 @@
 -- No two results of a call that a unique part gives ids are the same.
-use Rattle.std.proofs.Common.{◌≡◌, ◌≢◌, ℕ, zero, suc, ◌+◌, ◌<◌, ◌≤◌, ◌++◌, ◌==◌, ◌&&◌, max, Bool, true, false, if◌then◌else◌, cond, Option, Some, None, List, [], ◌∷◌, ◌⊎◌, inl, inr, map, find, ap, sym, ◌∙◌, refl, subst, arith}
+use Rattle.std.proofs.Common.{◌≡◌, ◌≢◌, ℕ, zero, suc, ◌+◌, ◌<◌, ◌≤◌, ◌++◌, ◌==◌, ◌&&◌, Bool, true, false, if◌then◌else◌, cond, Option, Some, None, List, [], ◌∷◌, ◌⊎◌, inl, inr, find, ap, sym, ◌∙◌, refl, arith}
 use Rattle.std.proofs.lemmas.Bool.{eqb-true}
 use Rattle.std.specs.Option.{option_map}
 use Rattle.std.specs.Str.{bytes_eq}
@@ -7,7 +7,7 @@ use Rattle.command_tables.specs.Tests.{same_type}
 use Rattle.command_tables.specs.declared.types.ObjectType.{ObjectType}
 use Rattle.object_model.specs.Objects.{are_same}
 use Rattle.handle_map.specs.Pairs.{MapEntry, greatest_id, is_pair, with_values}
-use Rattle.layer_model.specs.Ids.{IdMap, Issued, IssuedAll, Key, KeptId, at_key, has_key, issue, issue_all, issue_where, keep_new, kept_for, kept_id, known, new_id, next_id}
+use Rattle.layer_model.specs.Ids.{IdMap, Key, KeptId, at_key, has_key, issue, issue_all, issue_where, keep_new, kept_for, kept_id, next_id}
 use Rattle.dispatch_chain.specs.Kept.{AreRising}
 
 first_true : (a b : Bool) → (a && b) ≡ true → a ≡ true

@@ -1,5 +1,5 @@
 -- On the walk up no two results are the same that are new to a checking part, and what unique parts keep goes on rising.
-use Rattle.std.proofs.Common.{◌≡◌, ◌≢◌, ℕ, zero, suc, ◌+◌, ◌-◌, ◌<◌, ◌==◌, ◌&&◌, ◌||◌, Bool, true, false, if◌then◌else◌, cond, Option, Some, None, List, [], ◌∷◌, ◌++◌, ◌⊎◌, inl, inr, length, map, slice_get, slice_set, not, eq-eqb, ap, sym, ◌∙◌, refl, subst, append_assoc, arith}
+use Rattle.std.proofs.Common.{◌≡◌, ◌≢◌, ℕ, suc, ◌+◌, ◌-◌, ◌<◌, ◌==◌, ◌&&◌, ◌||◌, Bool, true, false, if◌then◌else◌, cond, Option, Some, None, List, [], ◌∷◌, ◌++◌, ◌⊎◌, inl, inr, length, map, slice_get, slice_set, not, eq-eqb, ap, sym, ◌∙◌, refl, subst, append_assoc, arith}
 use Rattle.std.specs.List.{IsDistinct, AllByRecursion, list_any}
 use Rattle.std.specs.Option.{option_map_or}
 use Rattle.command_tables.specs.declared.types.CommandId.{CommandId}
@@ -8,7 +8,6 @@ use Rattle.command_tables.specs.Calls.{CallContent}
 use Rattle.command_tables.specs.Effects.{type_made}
 use Rattle.command_tables.specs.Table.{row_of}
 use Rattle.command_tables.specs.Tests.{same_type}
-use Rattle.object_model.specs.declared.Object.{Object}
 use Rattle.object_model.specs.declared.PartKind.{PartKind}
 use Rattle.object_model.specs.declared.PartKind.TheVariants as kind
 use Rattle.object_model.specs.History.{Birth, born_in}
@@ -30,7 +29,6 @@ use Rattle.dispatch_chain.specs.Seats.{kinds_of}
 use Rattle.dispatch_chain.specs.Steps.{left, left_results}
 use Rattle.dispatch_chain.proofs.Issuing.{AllOfThem, AreApart, apart, differ, rises_all}
 use Rattle.dispatch_chain.proofs.Stepping.{left_state}
-use Rattle.dispatch_chain.proofs.Upwards.{none_left}
 use Rattle.dispatch_chain.proofs.Whole.{get_behind, index_there, next_place, set_behind}
 
 -- ---- results that are apart

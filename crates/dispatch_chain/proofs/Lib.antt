@@ -11,3 +11,8 @@ pub mod Issuing
 pub mod Lasting
 pub mod Lost
 pub mod Copies
+pub mod Buffers
+pub mod Entering
+pub mod Reserved
+pub mod Roomy
+pub mod Taken

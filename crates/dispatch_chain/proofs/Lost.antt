@@ -1,12 +1,10 @@
 -- Lost results, a single one, and those that get ids are new once to each checking part.
-use Rattle.std.proofs.Common.{◌≡◌, ℕ, true, List, [], ◌∷◌}
+use Rattle.std.proofs.Common.{[], ◌∷◌}
 use Rattle.command_tables.specs.Effects.{type_made}
 use Rattle.command_tables.specs.Table.{row_of}
-use Rattle.command_tables.specs.declared.types.CommandId.{CommandId}
-use Rattle.layer_model.specs.Walks.{PartState}
 use Rattle.layer_model.specs.Walks.{Threads, Lifetimes, Unique}
 use Rattle.object_records.proofs.Once.{one_once}
-use Rattle.dispatch_chain.specs.Kept.{AllBareOnce, AllLost, LostAreOnce, OneIsOnce, WrappedAreOnce, makes_wrapped}
+use Rattle.dispatch_chain.specs.Kept.{LostAreOnce, OneIsOnce, WrappedAreOnce}
 use Rattle.dispatch_chain.proofs.Lasting.{apart_once, lost_apart}
 
 pub lost_once : LostAreOnce

@@ -1,7 +1,8 @@
 -- A unique part leaves the shape of a call.
-use Rattle.std.proofs.Common.{◌≡◌, ◌≤◌, ℕ, zero, suc, List, [], ◌∷◌, length, map, ap, sym, subst, refl, ◌∙◌, true, false, if◌then◌else◌, unwrap_or, arith}
+use Rattle.std.proofs.Common.{◌≡◌, ◌≤◌, ◌+◌, ℕ, zero, suc, List, [], ◌∷◌, length, map, ap, sym, subst, refl, ◌∙◌, true, false, if◌then◌else◌, unwrap_or, arith}
+use Rattle.std.proofs.lemmas.List.Sums.{sum_by-cons}
 use Rattle.command_tables.specs.Calls.{CallContent, call_content}
-use Rattle.command_tables.specs.Handles.{list_at}
+use Rattle.command_tables.specs.Handles.{count_in, list_at}
 use Rattle.command_tables.specs.Table.{ParamSpec, row_of}
 use Rattle.command_tables.specs.declared.types.CommandId.{CommandId}
 use Rattle.command_tables.specs.declared.types.ObjectType.{ObjectType}
@@ -11,6 +12,7 @@ use Rattle.layer_model.specs.Parts.{below_handles, below_params, unique_enter}
 use Rattle.handle_map.specs.Pairs.{values_of}
 use Rattle.object_records.specs.Shape.{HasParams}
 use Rattle.lifetime_layer.specs.Shape.{HasFewPlaces}
+use Rattle.dispatch_chain.specs.Forms.{IsAsLarge}
 
 mapped_as_long : (f : ℕ → ℕ) (xs : List ℕ) → length (map f xs) ≡ length xs
 mapped_as_long f [] = refl
@@ -39,3 +41,19 @@ params_below m c d e h =
 -- and few places
 pub few_places_below : (m : IdMap ℕ) (c d : LayerCall) → call_content d ≡ unique_enter m (call_content c) → HasFewPlaces c → HasFewPlaces d
 few_places_below m c d e h p = subst (λ (xs : List (List ℕ)). length (list_at xs p) ≤ 1024) (sym (ap (λ (x : CallContent). x.args) e)) (few_below m (row_of c.cmd).params c.args.lists h p)
+
+counted_below : (m : IdMap ℕ) (ps : List ParamSpec) (lists : List (List ℕ)) → length ps ≡ length lists → count_in (below_params m ps lists) ≡ count_in lists
+counted_below m [] lists h = refl
+counted_below m (p ∷ ps) [] h = refl
+counted_below m (p ∷ ps) (hs ∷ lists) h =
+    sum_by-cons (λ (xs : List ℕ). length xs) (below_handles m p.ty hs) (below_params m ps lists)
+    ∙ (ap (λ (n : ℕ). n + count_in (below_params m ps lists)) (handles_as_long m p.ty hs)
+    ∙ (ap (λ (n : ℕ). length hs + n) (counted_below m ps lists (omega (arith, h))) ∙ sym (sum_by-cons (λ (xs : List ℕ). length xs) hs lists)))
+
+-- and is as large
+pub as_large_below : (m : IdMap ℕ) (c d : LayerCall) → call_content d ≡ unique_enter m (call_content c) → HasParams c → IsAsLarge (call_content d) (call_content c)
+as_large_below m c d e h = record {
+  slots = ap (λ (x : CallContent). length x.args) e ∙ params_as_many m (row_of c.cmd).params c.args.lists (sym h);
+  handles = ap (λ (x : CallContent). count_in x.args) e ∙ counted_below m (row_of c.cmd).params c.args.lists (sym h);
+  bytes = ap (λ (x : CallContent). length x.payload) e;
+}

@@ -53,13 +53,13 @@ picked_none cmd (k ∷ ks) = refl
 
 -- one part of a row
 module _ (thread number k : ℕ) (done : List PartState) (p : PartState) (ps : List PartState) (d : Down) (hk : k ≡ suc (length done)) (hx : d.states ≡ done ++ p ∷ ps) where
-  there : slice_get d.states (k - 1) ≡ Some p
+  pub there : slice_get d.states (k - 1) ≡ Some p
   there = ap (λ xs. slice_get xs (k - 1)) hx ∙ ap (slice_get (done ++ p ∷ ps)) (index_there k done hk) ∙ get_behind done p ps
 
   moved : (q : PartState) → slice_set d.states (k - 1) q ≡ (done ++ q ∷ []) ++ ps
   moved q = ap (λ xs. slice_set xs (k - 1) q) hx ∙ ap (λ i. slice_set (done ++ p ∷ ps) i q) (index_there k done hk) ∙ set_behind done p q ps
 
-  next : step_down thread number (record { place = k; kind = kind_of p }) d ≡ down_at ((done ++ (entered thread number k p d.call).state ∷ []) ++ ps) (entered thread number k p d.call).call (d.reports ++ (entered thread number k p d.call).reports) (entered thread number k p d.call).skip
+  pub next : step_down thread number (record { place = k; kind = kind_of p }) d ≡ down_at ((done ++ (entered thread number k p d.call).state ∷ []) ++ ps) (entered thread number k p d.call).call (d.reports ++ (entered thread number k p d.call).reports) (entered thread number k p d.call).skip
   next = ap (stepped thread number k d) there ∙ ap (λ xs. down_at xs (entered thread number k p d.call).call (d.reports ++ (entered thread number k p d.call).reports) (entered thread number k p d.call).skip) (moved (entered thread number k p d.call).state)
 
   one : (es : List Entry) → d.skip ≡ false → enter_entries thread number (record { place = k; kind = kind_of p } ∷ es) d

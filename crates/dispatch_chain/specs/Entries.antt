@@ -93,3 +93,8 @@ CanLeave thread (e ∷ es) (c ∷ cs) w =
 abbrev pub AllWithin : ℕ → List Entry → Type 0
 AllWithin n [] = Unit {0}
 AllWithin n (e ∷ es) = (0 < e.place) × ((e.place - 1 < n) × AllWithin n es)
+
+-- the places of entries rise, from above this number
+abbrev pub ArePlacesRising : ℕ → List Entry → Type 0
+ArePlacesRising n [] = Unit {0}
+ArePlacesRising n (e ∷ es) = (n < e.place) × ArePlacesRising e.place es

@@ -5,12 +5,14 @@ use Rattle.command_tables.specs.declared.call.LayerCall.{LayerCall}
 use Rattle.command_tables.specs.Calls.{CallContent, call_content}
 use Rattle.command_tables.specs.Table.{row_of}
 use Rattle.object_model.specs.declared.PartKind.{PartKind}
+use Rattle.dispatch_chain.specs.Forms.{FormRoom}
 use Rattle.dispatch_chain.specs.Rows.{picked}
 
--- the command of a walk, and the call as it stood above each part that it came to
+-- the command of a walk, and the call as it stood above each part that it came to; and the room of each buffer, from the first on
 pub record HeldCalls : Type 0 where
   pub cmd : CommandId
   pub forms : List CallContent
+  pub rooms : List FormRoom
 
 -- each is a call of the command
 abbrev pub AllOf : CommandId → List CallContent → Type 0

@@ -3,5 +3,7 @@ pub mod Rows
 pub mod Seats
 pub mod Steps
 pub mod Entries
+pub mod Room
+pub mod Forms
 pub mod Holding
 pub mod Kept

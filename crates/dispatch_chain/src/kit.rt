@@ -1,11 +1,12 @@
 //! The functions of the three kinds of part, each beside what it answers.
-ghost use Rattle.std.specs.Prelude.{◌≡◌, ◌++◌, false, if◌then◌else◌, IsOk, OnOk, OnErr};
+ghost use Rattle.std.specs.Prelude.{◌≡◌, ◌≤◌, ◌+◌, ◌++◌, false, if◌then◌else◌, length, vec_capacity, IsOk, OnOk, OnErr};
 ghost use Rattle.command_tables.specs.Calls.{call_content};
 ghost use Rattle.object_model.specs.Findings.{at_place, is_failing};
 ghost use Rattle.layer_model.specs.Parts.{life_failures, life_leave, life_passed, unique_enter, unique_leave, use_enter, use_failures, use_leave};
 ghost use Rattle.object_records.specs.Shape.{AreNewOnce, HasParams, arguments_of, made_of};
 ghost use Rattle.lifetime_layer.specs.Reports.{reports_of};
 ghost use Rattle.lifetime_layer.specs.Shape.{HasFewPlaces};
+ghost use Rattle.thread_layer.specs.Room.{HaveRoom};
 ghost use Rattle.dispatch_chain.specs.Answers.{LifeEnters, LifeLeaves, LifeMayEnter, LifeMayLeave, UniqueEnters, UniqueLeaves, UniqueMayEnter, UniqueMayLeave, UseEnters, UseLeaves, UseMayEnter, UseMayLeave};
 
 use command_tables::{LayerCall, NoMemory};
@@ -101,7 +102,9 @@ impl Kit {
         call: &LayerCall,
         results: &mut [u64],
     ) -> Result<(), NoMemory>
-        ensures { OnOk result (record { results = results.new; ids = unique.new.ids } ≡ unique_leave unique.old.ids (call_content call.now) results.old) }
+        ensures left { OnOk result (record { results = results.new; ids = unique.new.ids } ≡ unique_leave unique.old.ids (call_content call.now) results.old) }
+        ensures succeeds { length results.old ≤ unique.old.spare → IsOk result }
+        ensures spare { unique.old.spare ≤ unique.new.spare + length results.old }
     {
         (self.unique_leave)(unique, call, results)
     }
@@ -119,6 +122,9 @@ impl Kit {
         ensures skip { OnOk result (verdict.new.skip ≡ is_failing (life_failures life.old.kept call.now.cmd (arguments_of call.now))) }
         ensures kept { OnOk result (life.new.kept ≡ (if verdict.new.skip then life.old.kept else life_passed life.old.kept call.now.cmd (arguments_of call.now))) }
         ensures place { life.new.place ≡ life.old.place }
+        ensures spare { life.new.spare ≡ life.old.spare }
+        ensures room { vec_capacity verdict.old.findings ≤ vec_capacity verdict.new.findings }
+        ensures succeeds { length verdict.old.findings.items + length (life_failures life.old.kept call.now.cmd (arguments_of call.now)) ≤ vec_capacity verdict.old.findings → IsOk result }
     {
         (self.life_enter)(life, call, verdict)
     }
@@ -134,6 +140,8 @@ impl Kit {
         requires once { AreNewOnce life.old.kept.births (made_of call.now results.now) }
         ensures kept { OnOk result (life.new.kept ≡ life_leave life.old.kept call.now.cmd (arguments_of call.now) (made_of call.now results.now)) }
         ensures place { life.new.place ≡ life.old.place }
+        ensures succeeds { length results.now ≤ life.old.spare → IsOk result }
+        ensures spare { life.old.spare ≤ life.new.spare + length results.now }
     {
         (self.life_leave)(life, call, results)
     }
@@ -153,6 +161,11 @@ impl Kit {
         ensures kept { OnOk result (uses.new.kept ≡ use_enter uses.old.kept thread number call.now.cmd (arguments_of call.now)) }
         ensures skip { verdict.new.skip ≡ verdict.old.skip }
         ensures place { uses.new.place ≡ uses.old.place }
+        ensures spare { uses.new.spare ≡ uses.old.spare }
+        ensures room { uses.old.room ≤ uses.new.room }
+        ensures findings_room { vec_capacity verdict.old.findings ≤ vec_capacity verdict.new.findings }
+        ensures succeeds { HaveRoom (use_enter uses.old.kept thread number call.now.cmd (arguments_of call.now)).opens uses.old.room →
+            length verdict.old.findings.items + length (use_failures uses.old.kept thread call.now.cmd (arguments_of call.now)) ≤ vec_capacity verdict.old.findings → IsOk result }
     {
         (self.use_enter)(uses, thread, number, call, verdict)
     }
@@ -169,6 +182,9 @@ impl Kit {
         requires once { AreNewOnce uses.old.kept.births (made_of call.now results.now) }
         ensures kept { OnOk result (uses.new.kept ≡ use_leave uses.old.kept thread call.now.cmd (arguments_of call.now) (made_of call.now results.now)) }
         ensures place { uses.new.place ≡ uses.old.place }
+        ensures succeeds { length results.now ≤ uses.old.spare → IsOk result }
+        ensures spare { uses.old.spare ≤ uses.new.spare + length results.now }
+        ensures room { uses.new.room ≡ uses.old.room }
     {
         (self.use_leave)(uses, thread, call, results)
     }

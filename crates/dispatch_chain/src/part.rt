@@ -1,12 +1,14 @@
 //! A part of a chain: what it keeps, and its two steps.
-ghost use Rattle.std.specs.Prelude.{◌≡◌, ◌++◌, false, IfOk, OnOk};
+ghost use Rattle.std.specs.Prelude.{◌≡◌, ◌≤◌, ◌+◌, ◌++◌, false, length, vec_capacity, IfOk, IsOk, OnOk};
 ghost use Rattle.command_tables.specs.Calls.{call_content};
 ghost use Rattle.object_records.specs.Shape.{HasParams};
 ghost use Rattle.lifetime_layer.specs.Reports.{reports_of};
 ghost use Rattle.lifetime_layer.specs.Shape.{HasFewPlaces};
 ghost use Rattle.layer_model.specs.Parts.{unique_enter, unique_leave};
 ghost use Rattle.layer_model.specs.Walks.{new_part};
+ghost use Rattle.dispatch_chain.specs.Forms.{IsAsLarge};
 ghost use Rattle.dispatch_chain.specs.Kept.{IsKept, IsRising};
+ghost use Rattle.dispatch_chain.specs.Room.{CanEnter, CanOpen, room_of};
 ghost use Rattle.dispatch_chain.specs.Seats.{seat_at, seat_of, state_of};
 ghost use Rattle.dispatch_chain.specs.Steps.{MayLeave, entered, left, left_results};
 
@@ -51,6 +53,22 @@ pub(crate) fn copy_part(part: &Part) -> Result<Part, NoMemory>
     }
 }
 
+// A part gets room for so many further births, and a threads part for so many further open calls with so many uses in all.
+pub(crate) fn reserve_part(part: &mut Part, births: usize, uses: usize) -> Result<(), NoMemory>
+    ensures state { state_of part.new ≡ state_of part.old }
+    ensures seat { seat_of part.new ≡ seat_of part.old }
+    ensures births_room { (room_of part.old).births ≤ (room_of part.new).births }
+    ensures uses_room { (room_of part.old).uses ≤ (room_of part.new).uses }
+    ensures births { OnOk result (births ≤ (room_of part.new).births) }
+    ensures uses { OnOk result (CanOpen uses (state_of part.old) (room_of part.new)) }
+{
+    match part {
+        Part::Threads(state) => state.reserve(births, uses),
+        Part::Lifetimes(life) => life.reserve(births),
+        Part::Unique(unique) => unique.reserve(births),
+    }
+}
+
 // A call comes to a unique part; its shape stays.
 fn enter_unique(kit: &Kit, unique: &UniqueState, call: &mut LayerCall)
     requires shape { HasParams call.old }
@@ -58,11 +76,13 @@ fn enter_unique(kit: &Kit, unique: &UniqueState, call: &mut LayerCall)
     ensures call { call_content call.new ≡ unique_enter unique.now.ids (call_content call.old) }
     ensures shape { HasParams call.new }
     ensures few { HasFewPlaces call.new }
+    ensures size { IsAsLarge (call_content call.new) (call_content call.old) }
 {
     kit.enter_unique(unique, call);
 }
 
 // A call comes to a part.
+#[tactic(auto, using(lifetime_layer::proofs::Room::long_at))]
 pub(crate) fn enter_part(
     kit: &Kit,
     part: &mut Part,
@@ -84,6 +104,12 @@ pub(crate) fn enter_part(
     ensures kept { IsKept (state_of part.old) → IsKept (state_of part.new) }
     ensures shape { HasParams call.new }
     ensures few { HasFewPlaces call.new }
+    ensures size { IsAsLarge (call_content call.new) (call_content call.old) }
+    ensures births_room { (room_of part.old).births ≤ (room_of part.new).births }
+    ensures uses_room { (room_of part.old).uses ≤ (room_of part.new).uses }
+    ensures findings_room { vec_capacity verdict.old.findings ≤ vec_capacity verdict.new.findings }
+    ensures succeeds { CanEnter thread number (state_of part.old) (room_of part.old) (call_content call.old) →
+        length verdict.old.findings.items + length (entered thread number place (state_of part.old) (call_content call.old)).reports ≤ vec_capacity verdict.old.findings → IsOk result }
 {
     match part {
         Part::Threads(uses) => kit.enter_use(uses, thread, number, call, verdict),
@@ -105,6 +131,8 @@ fn leave_unique(
 ) -> Result<(), NoMemory>
     ensures left { OnOk result (record { results = results.new; ids = unique.new.ids } ≡ unique_leave unique.old.ids (call_content form.now) results.old) }
     ensures kept { IsRising unique.old.ids → IsRising unique.new.ids }
+    ensures succeeds { length results.old ≤ unique.old.spare → IsOk result }
+    ensures spare { OnOk result (unique.old.spare ≤ unique.new.spare + length results.old) }
 {
     if let Err(error) = kit.leave_unique(unique, form, results) {
         *unique = UniqueState::new(alloc);
@@ -128,6 +156,9 @@ pub(crate) fn leave_part(
     ensures results { OnOk result (results.new ≡ left_results (state_of part.old) (call_content form.now) results.old) }
     ensures seat { seat_of part.new ≡ seat_of part.old }
     ensures kept { IsKept (state_of part.old) → IsKept (state_of part.new) }
+    ensures succeeds { length results.old ≤ (room_of part.old).births → IsOk result }
+    ensures births { OnOk result ((room_of part.old).births ≤ (room_of part.new).births + length results.old) }
+    ensures uses { (room_of part.new).uses ≡ (room_of part.old).uses }
 {
     match part {
         Part::Threads(uses) => kit.leave_use(uses, thread, form, results),

@@ -23,8 +23,8 @@ pub(crate) struct Machine {
     table: DispatchTable,
     states: LayerStates,
     guarded: bool,
-    ghost same: { table.rows ≡ kinds_of states },
-    ghost guards: { guarded ≡ are_parts_guarded (kinds_of states) },
+    ghost same: { table.rows ≡ kinds_of states.kept },
+    ghost guards: { guarded ≡ are_parts_guarded (kinds_of states.kept) },
 }
 
 // Whether one of these parts is a unique one.

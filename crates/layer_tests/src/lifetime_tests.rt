@@ -283,10 +283,11 @@ static OF_THE_COPY: [Step; 2] = [
 static OF_THE_ORIGINAL: [Step; 1] = [Step::Finds(DESTROY, &[])];
 
 // A copy with room for four births.
-fn copy_with_room(state: &LifeState) -> Result<LifeState, Fail> {
+fn copy_goes_on(rt: &impl Abort, alloc: Global, state: &LifeState) -> Result<(), Fail> {
     let mut copy = state.copy().ok().ok_or("memory")?;
     copy.reserve(4).ok().ok_or("memory")?;
-    Ok(copy)
+    assert_eq!(rt; copy.live_count(), state.live_count());
+    all_go(rt, alloc, &mut copy, &OF_THE_COPY)
 }
 
 // A part's copy stands at its place, and goes on by itself.
@@ -295,9 +296,7 @@ fn a_copy_goes_on_by_itself(rt: HostRuntime) -> Result<(), Fail> {
     let alloc = rt.alloc();
     let mut state = with_devices(&rt, alloc)?;
     all_go(&rt, alloc, &mut state, &BEFORE_THE_COPY)?;
-    let mut copy = copy_with_room(&state)?;
-    assert_eq!(rt; copy.live_count(), state.live_count());
-    all_go(&rt, alloc, &mut copy, &OF_THE_COPY)?;
+    copy_goes_on(&rt, alloc, &state)?;
     all_go(&rt, alloc, &mut state, &OF_THE_ORIGINAL)
 }
 

@@ -62,11 +62,11 @@ static OF_THE_COPY: [Step; 4] = [
 
 static OF_THE_ORIGINAL: [Step; 1] = [Step::Begins(3, 23, WAIT, &[Overlap(0, 0, 20)])];
 
-// A copy with room for three births.
-fn copy_with_room(state: &UseState) -> Result<UseState, Fail> {
+// A copy with room for three births, and for three further open calls with three uses.
+fn copy_goes_on(rt: &impl Abort, alloc: Global, state: &UseState) -> Result<(), Fail> {
     let mut copy = state.copy().ok().ok_or("memory")?;
-    copy.reserve_births(3).ok().ok_or("memory")?;
-    Ok(copy)
+    copy.reserve(3, 3).ok().ok_or("memory")?;
+    all_go(rt, alloc, &mut copy, &OF_THE_COPY)
 }
 
 // A part's copy keeps the open calls with their numbers, and goes on by itself.
@@ -75,7 +75,6 @@ fn a_copy_goes_on_by_itself(rt: HostRuntime) -> Result<(), Fail> {
     let alloc = rt.alloc();
     let mut state = with_queue(&rt, alloc)?;
     all_go(&rt, alloc, &mut state, &BEFORE_THE_COPY)?;
-    let mut copy = copy_with_room(&state)?;
-    all_go(&rt, alloc, &mut copy, &OF_THE_COPY)?;
+    copy_goes_on(&rt, alloc, &state)?;
     all_go(&rt, alloc, &mut state, &OF_THE_ORIGINAL)
 }

@@ -61,6 +61,7 @@ impl LifeState {
         ensures kept { self.new.kept ≡ self.old.kept }
         ensures ok { OnOk result (births ≤ self.new.spare) }
         ensures spare { self.old.spare ≤ self.new.spare }
+        ensures succeeds { births ≤ self.old.spare → IsOk result }
     {
         self.records.reserve(births)
     }

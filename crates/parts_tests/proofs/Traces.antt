@@ -21,6 +21,7 @@ use Rattle.replay_model.proofs.Accepted.{calls-judged}
 use Rattle.lifetime_layer.specs.declared.verdict.Verdict.{Verdict}
 use Rattle.terminator.specs.Calls.{targets_of}
 use Rattle.chain_model.specs.Traces.{GivesGuarded, IsTrace}
+use Rattle.chain_model.proofs.Gapped.{gapped}
 use Rattle.dispatch_chain.specs.Holding.{HeldCalls}
 use Rattle.session_model.specs.Session.{SessionKept, nothing_kept}
 use Rattle.session_model.specs.Stands.{AreRepliesTo}
@@ -62,23 +63,23 @@ calls_shown s (Some x) k shows = shows.calls
 pub may_take : (s : Setup) (old state : TraceSeen) (x : Option Kept) (step : AreInStep s old x) (e : TraceEvent) (n : ℕ) → IsEvent e → Accepted state step.events e n → n < 2 ^ 64 - 1 → MayTake s x e n
 may_take s old state x step (Begin b) n grammar accepted few =
     let calls : calls_before x ≡ calls_begun step.events = calls_shown s x step.session_stands.kept step.session_stands.shows ∙ (step.session_stands.stands.calls ∙ calls-judged s step.events) in (
-      record { events = step.events; replies = step.replies; stands = step.session_stands; trace = trace_next step.events (Begin b) step.trace grammar accepted.fault },
+      record { events = step.events; replies = step.replies; stands = step.session_stands; trace = gapped (Begin b ∷ step.events) (trace_next step.events (Begin b) step.trace grammar accepted.fault) },
       grind (arith, calls, few, accepted.number),
     )
 may_take s old state x step (Return thread) n grammar accepted few =
-    record { events = step.events; replies = step.replies; stands = step.session_stands; trace = trace_next step.events (Return thread) step.trace grammar accepted.fault }
+    record { events = step.events; replies = step.replies; stands = step.session_stands; trace = gapped (Return thread ∷ step.events) (trace_next step.events (Return thread) step.trace grammar accepted.fault) }
 
 -- a return may be taken under a setup whose chains are guarded
 pub may_return : (s : Setup) (x : Option Kept) (e : TraceEvent) (thread n : ℕ) → GivesGuarded s → e ≡ Return thread → MayTake s x e n → CanReturn x thread
 may_return s x e thread n guarded is can = record { setup = s; guarded = guarded; can = subst (λ ev. MayTake s x ev n) is can }
 
 pub goes_begun : (s : Setup) (old new : Option Kept) (e : TraceEvent) (l0 l1 : Log) (ls0 ls1 : List ℕ) → Advances s old new e l0 l1 ls0 ls1 → GoesOn s old new e
-goes_begun s old new e l0 l1 ls0 ls1 adv = record { replies = adv.replies; stands = adv.stands }
+goes_begun s old new e l0 l1 ls0 ls1 adv = record { replies = adv.replies; stands = λ events before stands trace. adv.stands events before stands (gapped (e ∷ events) trace) }
 
 pub goes_returned : (s : Setup) (old new : Option Kept) (e : TraceEvent) (thread : ℕ) (ls0 ls1 : List ℕ) → GivesGuarded s → e ≡ Return thread → ReturnsAs old new thread ls0 ls1 → GoesOn s old new e
 goes_returned s old new e thread ls0 ls1 guarded is returns =
     let adv = returns s guarded None in
-    let goes : GoesOn s old new (Return thread) = record { replies = adv.replies; stands = adv.stands } in
+    let goes : GoesOn s old new (Return thread) = record { replies = adv.replies; stands = λ events before stands trace. adv.stands events before stands (gapped (Return thread ∷ events) trace) } in
     subst (λ ev. GoesOn s old new ev) (sym is) goes
 
 -- it is one event more for the session and for the state
@@ -118,7 +119,7 @@ not_refused s b other = ap (λ t. t && is_some (refusal_of (s.outcome b.payload)
 pub may_come : MayEnterTrace → (old state : TraceSeen) (x : SessionParts) (step : PartsInStep old x) (e : TraceEvent) (n : ℕ) → IsEvent e → BeginsOther e → Accepted state step.events e n → n < 2 ^ 64 - 1 → CanEnterAt x n e
 may_come law old state x step (Begin b) n grammar other accepted few =
     subst (λ m. CanEnter x m b) (number_is step.setup step.events state b n accepted few)
-    (law step.setup x step.events step.replies [] b step.parts_stand (trace_next step.events (Begin b) step.trace grammar accepted.fault) (not_refused step.setup b other))
+    (law step.setup x step.events step.replies [] b step.parts_stand (gapped (Begin b ∷ step.events) (trace_next step.events (Begin b) step.trace grammar accepted.fault)) (not_refused step.setup b other))
 may_come law old state x step (Return thread) n grammar other accepted few = absurd other
 
 -- and then it has come
@@ -136,7 +137,7 @@ has_come law old state x y step (Begin b) n call held verdict grammar other acce
       other = other;
       state_stands = accepted.stands;
       trace = trace;
-      enters = law step.setup x y step.events step.replies [] b call held verdict step.parts_stand trace (not_refused step.setup b other)
+      enters = law step.setup x y step.events step.replies [] b call held verdict step.parts_stand (gapped (Begin b ∷ step.events) trace) (not_refused step.setup b other)
           (subst (λ m. Enters x m b call held verdict y) (sym (number_is step.setup step.events state b n accepted few)) entered);
     }
 has_come law old state x y step (Return thread) n call held verdict grammar other accepted few entered = absurd other
@@ -185,7 +186,7 @@ may_go law state e call held skip own x out =
     let b = out.begin in
     let l : LeftCall = record { begin = b; call = call; held = held; skip = skip; replies = own } in
     subst (λ ev. CanLeaveAt x ev call held skip own) (sym out.is)
-    (law out.setup x (Begin b ∷ out.events) out.replies (l ∷ []) b.thread l out.guarded out.trace out.parts_stand (ap (λ t. cond t (Some l) None) (eq-eqb b.thread b.thread refl)) (λ sent. ap (λ t. t && succeeds b.cmd b.code) out.other))
+    (law out.setup x (Begin b ∷ out.events) out.replies (l ∷ []) b.thread l out.guarded (gapped (Begin b ∷ out.events) out.trace) out.parts_stand (ap (λ t. cond t (Some l) None) (eq-eqb b.thread b.thread refl)) (λ sent. ap (λ t. t && succeeds b.cmd b.code) out.other))
 
 -- and then the parts and the state stand for one event more
 pub has_gone : LeavesAsTraced → (old state : TraceSeen) (e back : TraceEvent) (call : CallContent) (held : HeldCalls) (skip : Bool) (own : List ReplyContent) (x y : SessionParts) (count n : ℕ) (out : IsOut old e call held skip own x)
@@ -197,7 +198,7 @@ has_gone law old state e back call held skip own x y count n out returns accepte
     let leaves : Leaves x b call held skip own y count = subst (λ ev. LeavesAt x ev call held skip own y count) out.is left in
     let here : back ≡ Return b.thread = returns ∙ ap returned_of out.is in
     let fits : Accepted state events (Return b.thread) n = subst (λ ev. Accepted state events ev n) here (accepted events out.state_stands) in
-    let gone = law out.setup x y events out.replies (l ∷ []) b.thread l count out.guarded out.trace out.parts_stand (ap (λ t. cond t (Some l) None) (eq-eqb b.thread b.thread refl)) (λ sent. ap (λ t. t && succeeds b.cmd b.code) out.other) leaves in
+    let gone = law out.setup x y events out.replies (l ∷ []) b.thread l count out.guarded (gapped events out.trace) out.parts_stand (ap (λ t. cond t (Some l) None) (eq-eqb b.thread b.thread refl)) (λ sent. ap (λ t. t && succeeds b.cmd b.code) out.other) leaves in
     let none : filter (λ q. not (is_left_by b.thread q)) (l ∷ []) ≡ [] = ap (λ t. cond (not t) (l ∷ []) []) (eq-eqb b.thread b.thread refl) in
     record {
       setup = out.setup;

@@ -39,7 +39,7 @@ pub(crate) fn split(
 ) -> Result<Box<Bench>, Fail>
     requires { AreInStep (trace_setup (setup_content _setup.now)) state (option_map (λ x. x.value.kept) session.now.started) }
     ensures step { IfOk result (λ bench. PartsInStep bench.value.state bench.value.parts) }
-    ensures kinds { IfOk result (λ bench. kinds_of bench.value.parts.states ≡ kinds_in_force (option_map (λ x. x.value.kept) session.now.started)) }
+    ensures kinds { IfOk result (λ bench. kinds_of bench.value.parts.states.kept ≡ kinds_in_force (option_map (λ x. x.value.kept) session.now.started)) }
 {
     parts_follow_a_trace();
     let parts = session.split()?;
@@ -65,10 +65,10 @@ fn come_in(
     table: &DispatchTable,
     line: &str,
 ) -> Result<Entered, Fail>
-    requires table { table.now.rows ≡ kinds_of bench.old.parts.states }
+    requires table { table.now.rows ≡ kinds_of bench.old.parts.states.kept }
     requires step { PartsInStep bench.old.state bench.old.parts }
     ensures come { IfOk result (λ e. HasCome bench.new.state (content e.event) (call_content e.call) e.held e.verdict bench.new.parts) }
-    ensures kinds { kinds_of bench.new.parts.states ≡ kinds_of bench.old.parts.states }
+    ensures kinds { kinds_of bench.new.parts.states.kept ≡ kinds_of bench.old.parts.states.kept }
 {
     parts_follow_a_trace();
     let event = begin_of(alloc, line)?;
@@ -150,10 +150,10 @@ fn go_back(
     entered: &Entered,
     replies: &[DriverReply],
 ) -> Result<u32, Fail>
-    requires table { table.now.rows ≡ kinds_of bench.old.parts.states }
+    requires table { table.now.rows ≡ kinds_of bench.old.parts.states.kept }
     requires out { IsOut bench.old.state (content entered.now.event) (call_content entered.now.call) entered.now.held entered.now.verdict.skip (map reply_shown replies.now) bench.old.parts }
     ensures step { OnOk result (PartsInStep bench.new.state bench.new.parts) }
-    ensures kinds { kinds_of bench.new.parts.states ≡ kinds_of bench.old.parts.states }
+    ensures kinds { kinds_of bench.new.parts.states.kept ≡ kinds_of bench.old.parts.states.kept }
 {
     parts_follow_a_trace();
     let back = return_of(&entered.event);
@@ -189,10 +189,10 @@ pub(crate) fn pass<D: Driver>(
     line: &str,
     driver: &mut D,
 ) -> Result<Passed, Fail>
-    requires table { table.now.rows ≡ kinds_of bench.old.parts.states }
+    requires table { table.now.rows ≡ kinds_of bench.old.parts.states.kept }
     requires step { PartsInStep bench.old.state bench.old.parts }
     ensures step { OnOk result (PartsInStep bench.new.state bench.new.parts) }
-    ensures kinds { kinds_of bench.new.parts.states ≡ kinds_of bench.old.parts.states }
+    ensures kinds { kinds_of bench.new.parts.states.kept ≡ kinds_of bench.old.parts.states.kept }
 {
     let entered = come_in(alloc, bench, table, line)?;
     let replies = tell(alloc, bench, &entered, driver)?;

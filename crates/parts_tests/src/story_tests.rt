@@ -83,7 +83,7 @@ fn tell_story<D: Driver>(
     driver: &mut D,
     story: &[(&str, Comes)],
 ) -> Result<(), Fail>
-    requires table { table.now.rows ≡ kinds_of bench.old.parts.states }
+    requires table { table.now.rows ≡ kinds_of bench.old.parts.states.kept }
     requires step { PartsInStep bench.old.state bench.old.parts }
 {
     for step in story {

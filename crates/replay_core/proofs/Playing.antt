@@ -12,6 +12,7 @@ use Rattle.replay_model.specs.Direct.{exchanges, exchanges_at, sends_in, sends_a
 use Rattle.replay_model.specs.Stop.{exceeds_layers}
 use Rattle.replay_model.proofs.Exchanges.{lines-judge, exchanges-judge}
 use Rattle.chain_model.specs.Traces.{IsTrace}
+use Rattle.chain_model.proofs.Gapped.{gapped}
 use Rattle.chain_session.specs.declared.kept.Kept.{Kept}
 use Rattle.chain_session.specs.Standing.{Advances}
 use Rattle.chain_session.specs.Telling.{FrontAsked}
@@ -77,14 +78,15 @@ told_more start s t events e more before so_far each all told = record {
 pub played_more : (step : Step) (start : Start) (events : List TraceEvent) (lines : List ℕ) → Played step.setup step.old events (upto start step.traffic) → IsTrace (step.event ∷ events)
     → Advances step.setup step.old step.new step.event step.traffic.old_log step.traffic.log [] lines → Gained step.traffic.sink lines → Played step.setup step.new (step.event ∷ events) (through start step.traffic)
 played_more step start events lines before trace adv wrote =
-    let stands = adv.stands events before.replies before.stands trace in
+    let gaps = gapped (step.event ∷ events) trace in
+    let stands = adv.stands events before.replies before.stands gaps in
     record {
       replies = adv.replies ++ before.replies;
       stands = stands;
       trace = trace;
-      told = told_more start step.setup step.traffic events step.event adv.replies before.replies before.told (adv.each events before.replies before.stands trace) stands.stands.each (adv.told events before.replies before.stands trace);
+      told = told_more start step.setup step.traffic events step.event adv.replies before.replies before.told (adv.each events before.replies before.stands gaps) stands.stands.each (adv.told events before.replies before.stands gaps);
       wrote = wrote
-          ∙ (ap (grown step.traffic.sink.old) (adv.wrote events before.replies before.stands trace)
+          ∙ (ap (grown step.traffic.sink.old) (adv.wrote events before.replies before.stands gaps)
           ∙ (ap (λ h. grown h (lines_behind step.setup events step.event)) before.wrote ∙ (grown_grown start.held _ _ ∙ ap (grown start.held) (sym (lines_more step.setup events step.event)))));
     }
 
@@ -92,12 +94,13 @@ played_more step start events lines before trace adv wrote =
 pub cut_in_lines : (step : Step) (start : Start) (events : List TraceEvent) (lines : List ℕ) → Played step.setup step.old events (upto start step.traffic) → IsTrace (step.event ∷ events)
     → Advances step.setup step.old step.new step.event step.traffic.old_log step.traffic.log [] lines → GrownByFront step.traffic.sink.old step.traffic.sink.new lines → CutInLines step.setup events step.event (through start step.traffic)
 cut_in_lines step start events lines before trace adv front =
-    let stands = adv.stands events before.replies before.stands trace in
+    let gaps = gapped (step.event ∷ events) trace in
+    let stands = adv.stands events before.replies before.stands gaps in
     record {
       replies = adv.replies ++ before.replies;
-      told = told_more start step.setup step.traffic events step.event adv.replies before.replies before.told (adv.each events before.replies before.stands trace) stands.stands.each (adv.told events before.replies before.stands trace);
+      told = told_more start step.setup step.traffic events step.event adv.replies before.replies before.told (adv.each events before.replies before.stands gaps) stands.stands.each (adv.told events before.replies before.stands gaps);
       wrote = subst (λ (h : Option (List ℕ)). GrownByFront h step.traffic.sink.new (lines_behind step.setup events step.event)) before.wrote
-          (subst (λ (ls : List ℕ). GrownByFront step.traffic.sink.old step.traffic.sink.new ls) (adv.wrote events before.replies before.stands trace) front);
+          (subst (λ (ls : List ℕ). GrownByFront step.traffic.sink.old step.traffic.sink.new ls) (adv.wrote events before.replies before.stands gaps) front);
     }
 
 -- memory ran out at the event

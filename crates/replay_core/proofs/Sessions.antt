@@ -14,6 +14,7 @@ use Rattle.replay_model.specs.Setup.{Setup, Outcome, is_too_long}
 use Rattle.replay_model.specs.Stop.{exceeds_layers}
 use Rattle.replay_model.proofs.Accepted.{calls-judged}
 use Rattle.chain_model.specs.Traces.{GivesGuarded, IsTrace}
+use Rattle.chain_model.proofs.Gapped.{gapped}
 use Rattle.session_model.specs.Session.{SessionKept, nothing_kept}
 use Rattle.session_model.proofs.Running.{new_stands}
 use Rattle.chain_session.specs.declared.kept.Kept.{Kept}
@@ -52,11 +53,11 @@ pub can_take : (s : Setup) (old state : TraceSeen) (x : Option Kept) (number : �
 can_take s old state x number step (Begin b) n grammar accepted few =
     let calls : calls_before x ≡ calls_begun step.events = calls_so_far s x step.events step.replies step.session_stands in
     let within : calls_begun step.events + 2 ≤ number = step.few in (
-      record { events = step.events; replies = step.replies; stands = step.session_stands; trace = trace_next step.events (Begin b) step.trace grammar accepted.fault },
+      record { events = step.events; replies = step.replies; stands = step.session_stands; trace = gapped (Begin b ∷ step.events) (trace_next step.events (Begin b) step.trace grammar accepted.fault) },
       accepted.number ∙ grind (arith, calls, few, within),
     )
 can_take s old state x number step (Return thread) n grammar accepted few =
-    record { events = step.events; replies = step.replies; stands = step.session_stands; trace = trace_next step.events (Return thread) step.trace grammar accepted.fault }
+    record { events = step.events; replies = step.replies; stands = step.session_stands; trace = gapped (Return thread ∷ step.events) (trace_next step.events (Return thread) step.trace grammar accepted.fault) }
 
 -- a return can come under a setup whose chains are guarded
 pub can_return : (s : Setup) (x : Option Kept) (e : TraceEvent) (thread n : ℕ) → GivesGuarded s → e ≡ Return thread → CanTake s x e n → CanReturn x thread
@@ -75,7 +76,7 @@ return_within s e thread is = ap (exceeds_layers s) is
 
 -- a begin that was cut short
 pub begin_may_tell : (s : Setup) (x : Option Kept) (e : TraceEvent) (old_log log : Log) → BeginsCall e → CutAt s x e old_log log → (exceeds_layers s e ≡ true → log ≡ old_log) → MayTell s x e old_log log
-begin_may_tell s x (Begin b) old_log log begins cut long = record { front = cut; long = long }
+begin_may_tell s x (Begin b) old_log log begins cut long = record { front = λ events before stands trace. cut events before stands (gapped (Begin b ∷ events) trace); long = long }
 begin_may_tell s x (Return thread) old_log log begins cut long = absurd begins
 
 -- a return that was cut short

@@ -3,15 +3,14 @@ use Rattle.std.proofs.Common.{◌≡◌, ℕ, suc, ◌+◌, cond, List, [], ◌�
 use Rattle.std.proofs.lemmas.List.{drop_at, length-append, length-reverse, map-append, reverse-reverse, take-append-drop, take_at}
 use Rattle.std.specs.List.{zip}
 use Rattle.command_tables.specs.Calls.{ReplyContent}
-use Rattle.std.specs.Option.{is_none}
-use Rattle.trace_format.specs.Accepting.{are_accepted, fault_after}
 use Rattle.trace_format.specs.Content.{BeginEvent, TraceEvent, Begin}
 use Rattle.object_model.specs.History.{Birth}
 use Rattle.replay_model.specs.Setup.{Setup}
 use Rattle.replay_model.specs.Past.{Opened, Past, history, is_skipped, retrievals}
 use Rattle.replay_model.specs.Judged.{Begun, begun_of, judged}
 use Rattle.replay_model.specs.Direct.{Sent, Valued, answers_to, before_call, driver_call, driver_calls, exchanges_at, own_replies, sent, valued}
-use Rattle.chain_model.specs.Traces.{AreAnswered, IsTrace, Replies, loader_finds}
+use Rattle.chain_model.specs.Gaps.{IsGapped, may_all_come, may_come}
+use Rattle.chain_model.specs.Traces.{AreAnswered, Replies, loader_finds}
 use Rattle.layer_model.proofs.Same.{and_true}
 use Rattle.chain_model.proofs.Grammar.{shaped}
 use Rattle.chain_model.proofs.Tracing.{goes_down}
@@ -41,7 +40,7 @@ count_is o own replies is =
     let all : length (reverse own ++ replies) ≡ length (reverse own) + length replies = length-append (reverse own) replies in
     let turned : length (reverse own) ≡ length own = length-reverse own in omega (arith, all, turned, is)
 
-module _ (s : Setup) (k : SessionKept) (events : List TraceEvent) (e : BeginEvent) (replies : List ReplyContent) (trace : IsTrace (Begin e ∷ events)) (st : Stands s k events replies) (own : List ReplyContent)
+module _ (s : Setup) (k : SessionKept) (events : List TraceEvent) (e : BeginEvent) (replies : List ReplyContent) (trace : IsGapped (Begin e ∷ events)) (st : Stands s k events replies) (own : List ReplyContent)
     (answers : AreRepliesTo (driver_calls (valued (judged s events) replies) (begun_of s (judged s events) e).opened) own) where
   abbrev past : Past
   past = judged s events
@@ -74,7 +73,7 @@ module _ (s : Setup) (k : SessionKept) (events : List TraceEvent) (e : BeginEven
 
   lives_on : (births : List Birth) → ArePast k.births b.opened births → AreOfLiving births (history (judged s (Begin e ∷ events)))
   lives_on births on =
-      let own = owning_judged s events (and_true (are_accepted events) (is_none (fault_after events (Begin e))) trace.accepted).0 (shaped (Begin e ∷ events) trace.grammar).1 in
+      let own = owning_judged s events (and_true (may_all_come events) (may_come events (Begin e)) trace.each).0 (shaped (Begin e ∷ events) trace.grammar).1 in
       living_past (history past) (retrievals past) own k.births st.living b.opened births on
 
   pub stands_begun : (births : List Birth) → ArePast k.births (begun_of s (judged s events) e).opened births
@@ -105,7 +104,7 @@ turned_back o after replies back =
     ap (λ rs. rs ++ replies) (reverse-reverse (take (length o.drivers) after)) ∙ (ap (λ rs. take (length o.drivers) after ++ rs) (sym back) ∙ take-append-drop (length o.drivers) after)
 
 -- by what is kept
-pub begins_well : (s : Setup) (k : SessionKept) (events : List TraceEvent) (e : BeginEvent) (replies : List ReplyContent) → IsTrace (Begin e ∷ events) → Stands s k events replies → BeginsWell s k events e replies
+pub begins_well : (s : Setup) (k : SessionKept) (events : List TraceEvent) (e : BeginEvent) (replies : List ReplyContent) → IsGapped (Begin e ∷ events) → Stands s k events replies → BeginsWell s k events e replies
 begins_well s k events e replies trace st =
     let begun : begun_kept s k e ≡ begun_of s (judged s events) e = begun_is s k events e replies trace st in
     let told : calls_told s k e ≡ driver_calls (valued (judged s events) replies) (begun_of s (judged s events) e).opened = told_is s k events e replies trace st in

@@ -22,8 +22,9 @@ use Rattle.replay_model.specs.Text.{chain_text, lines_at, report_text}
 use Rattle.layer_model.specs.Routes.{drivers_at}
 use Rattle.layer_model.specs.Terminator.{told_call}
 use Rattle.layer_model.specs.Walks.{Walked, nothing_found}
+use Rattle.chain_model.specs.Gaps.{IsGapped}
 use Rattle.chain_model.specs.Simulated.{found_by, walk_of}
-use Rattle.chain_model.specs.Traces.{GoesDown, IsTrace, loader_finds}
+use Rattle.chain_model.specs.Traces.{GoesDown, loader_finds}
 use Rattle.chain_model.proofs.Answering.{is_nothing, or_parts}
 use Rattle.chain_model.proofs.Tracing.{goes_down}
 use Rattle.session_model.specs.Session.{SessionKept}
@@ -39,7 +40,7 @@ told_alike : (t : Bool) (there : List ℕ) (f g : ℕ → DriverCallContent) →
 told_alike true there f g same = refl
 told_alike false there f g same = ap (λ (h : ℕ → DriverCallContent). map h there) (λ i d. same refl d i)
 
-module _ (s : Setup) (k : SessionKept) (events : List TraceEvent) (e : BeginEvent) (replies : List ReplyContent) (trace : IsTrace (Begin e ∷ events)) (st : Stands s k events replies) where
+module _ (s : Setup) (k : SessionKept) (events : List TraceEvent) (e : BeginEvent) (replies : List ReplyContent) (trace : IsGapped (Begin e ∷ events)) (st : Stands s k events replies) where
   abbrev past : Past
   past = judged s events
 

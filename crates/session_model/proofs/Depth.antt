@@ -2,7 +2,7 @@
 use Rattle.std.proofs.Common.{◌≡◌, ◌≤◌, ℕ, ◌+◌, Bool, true, false, Option, Some, None, List, [], ◌∷◌, ◌++◌, length, refl, sym, ◌∙◌, ap, subst, arith, rules}
 use Rattle.std.proofs.lemmas.Bool.{leb-true}
 use Rattle.std.specs.Prelude.{find, nat_le}
-use Rattle.std.specs.Option.{is_none, option_map_or}
+use Rattle.std.specs.Option.{option_map_or}
 use Rattle.command_tables.specs.declared.types.CommandId.{CommandId}
 use Rattle.command_tables.specs.declared.types.ObjectType.{ObjectType}
 use Rattle.command_tables.specs.declared.types.ObjectType.TheVariants as ty
@@ -12,7 +12,6 @@ use Rattle.command_tables.specs.declared.types.Effect.{Effect}
 use Rattle.command_tables.specs.declared.types.Effect.TheVariants as eff
 use Rattle.command_tables.specs.Effects.{type_made}
 use Rattle.command_tables.specs.Table.{ParamSpec, row_of}
-use Rattle.trace_format.specs.Accepting.{are_accepted, fault_after}
 use Rattle.trace_format.specs.Content.{TraceEvent, Begin, Return}
 use Rattle.object_model.specs.declared.Object.{Object}
 use Rattle.object_model.specs.declared.Argument.{Argument}
@@ -22,7 +21,7 @@ use Rattle.replay_model.specs.Setup.{Setup}
 use Rattle.replay_model.specs.Past.{Opened, history, is_of, objects_of, open_calls}
 use Rattle.replay_model.specs.Judged.{judged, made_of, returned_by}
 use Rattle.layer_model.proofs.Same.{and_true}
-use Rattle.chain_model.specs.Traces.{IsTrace}
+use Rattle.chain_model.specs.Gaps.{IsGapped, may_all_come, may_come}
 use Rattle.chain_model.proofs.Accepted.{IsAccepted, accepted_judged}
 use Rattle.chain_model.proofs.Grammar.{shaped}
 use Rattle.chain_model.proofs.Owners.{type_at}
@@ -114,11 +113,11 @@ short_returned bs o made short typed types x = go (born_in bs x) refl (born_in g
         few [] (owners_fresh bs (births_given bs o.args (row_of o.cmd).effect made) x fresh ∙ unborn_owners (births_given bs o.args (row_of o.cmd).effect made) x none) (omega arith)
 
 -- so it is after every accepted trace
-pub short_judged : (s : Setup) (events : List TraceEvent) → are_accepted events ≡ true → AreShaped events → AreShort (births (history (judged s events)))
+pub short_judged : (s : Setup) (events : List TraceEvent) → may_all_come events ≡ true → AreShaped events → AreShort (births (history (judged s events)))
 short_judged s [] ok shaped x = omega arith
-short_judged s (Begin b ∷ before) ok shaped x = short_judged s before (and_true (are_accepted before) (is_none (fault_after before (Begin b))) ok).0 shaped.1 x
+short_judged s (Begin b ∷ before) ok shaped x = short_judged s before (and_true (may_all_come before) (may_come before (Begin b)) ok).0 shaped.1 x
 short_judged s (Return thread ∷ before) ok shaped x =
-    let parts = and_true (are_accepted before) (is_none (fault_after before (Return thread))) ok in
+    let parts = and_true (may_all_come before) (may_come before (Return thread)) ok in
     go (find (is_of thread) (open_calls (judged s before))) refl (accepted_judged s before parts.0 shaped.1) (short_judged s before parts.0 shaped.1) x
   where
     go : (f : Option Opened) → find (is_of thread) (open_calls (judged s before)) ≡ f → IsAccepted before (judged s before) → AreShort (births (history (judged s before))) → AreShort (births (history (returned_by s (judged s before) f)))
@@ -128,8 +127,8 @@ short_judged s (Return thread ∷ before) ok shaped x =
         short_returned (births (history (judged s before))) o (objects_of (made_of s (judged s before) o)) short m.typed m.types
 
 -- an object has at most three owners
-pub three_owners : (s : Setup) (events : List TraceEvent) → IsTrace events → (x : Object) → length (owners_in (births (history (judged s events))) x) ≤ 3
+pub three_owners : (s : Setup) (events : List TraceEvent) → IsGapped events → (x : Object) → length (owners_in (births (history (judged s events))) x) ≤ 3
 three_owners s events trace x =
-    let few : length (owners_in (births (history (judged s events))) x) ≤ limit_of x.ty = short_judged s events trace.accepted (shaped events trace.grammar) x in
+    let few : length (owners_in (births (history (judged s events))) x) ≤ limit_of x.ty = short_judged s events trace.each (shaped events trace.grammar) x in
     let low : limit_of x.ty ≤ 3 = leb-true (limit_of x.ty) 3 (limit_three x.ty) in
     omega (arith, few, low)

@@ -2,10 +2,9 @@
 use Rattle.std.proofs.Common.{◌≡◌, ℕ, Bool, true, false, not, cond, ◌&&◌, Option, Some, None, List, [], ◌∷◌, ◌++◌, map, refl, sym, ◌∙◌, ap}
 use Rattle.std.specs.Prelude.{find}
 use Rattle.std.specs.List.{filter, range_with_len, AllByRecursion}
-use Rattle.std.specs.Option.{is_none, option_map_or}
+use Rattle.std.specs.Option.{option_map_or}
 use Rattle.command_tables.specs.declared.types.ObjectType.TheVariants as ty
 use Rattle.command_tables.specs.Tests.{same_type}
-use Rattle.trace_format.specs.Accepting.{are_accepted, fault_after}
 use Rattle.trace_format.specs.Content.{TraceEvent, Begin, Return}
 use Rattle.object_model.specs.declared.Object.{Object}
 use Rattle.object_model.specs.declared.Routed.{Routed}
@@ -19,6 +18,7 @@ use Rattle.replay_model.specs.Setup.{Setup}
 use Rattle.replay_model.specs.Past.{Opened, Returned, history, is_new, is_of, is_skipped, open_calls, routed, routed_by, routed_of}
 use Rattle.replay_model.specs.Judged.{begun_of, judged, made_of, returned_by}
 use Rattle.layer_model.proofs.Same.{and_true, same_is}
+use Rattle.chain_model.specs.Gaps.{may_all_come, may_come}
 use Rattle.chain_model.specs.Tokens.{token_in}
 use Rattle.chain_model.proofs.Accepted.{IsAccepted, accepted_judged}
 use Rattle.chain_model.proofs.Eventing.{all_append, all_filter}
@@ -75,14 +75,14 @@ all_receive drivers bs rs o made (x ∷ opens) known all = (
   all_receive drivers bs rs o made opens known.1 all.1,
 )
 
-pub open_receive : (s : Setup) (events : List TraceEvent) → are_accepted events ≡ true → AreShaped events → AllByRecursion (HasReceivers s.drivers (routed (judged s events))) (open_calls (judged s events))
+pub open_receive : (s : Setup) (events : List TraceEvent) → may_all_come events ≡ true → AreShaped events → AllByRecursion (HasReceivers s.drivers (routed (judged s events))) (open_calls (judged s events))
 open_receive s [] ok shaped = tt
 open_receive s (Begin b ∷ before) ok shaped =
     let o : Opened = (begun_of s (judged s before) b).opened in
-    all_append (HasReceivers s.drivers (routed (judged s before))) (open_calls (judged s before)) (o ∷ []) (open_receive s before (and_true (are_accepted before) (is_none (fault_after before (Begin b))) ok).0 shaped.1)
+    all_append (HasReceivers s.drivers (routed (judged s before))) (open_calls (judged s before)) (o ∷ []) (open_receive s before (and_true (may_all_come before) (may_come before (Begin b)) ok).0 shaped.1)
     (λ goes. ap (λ t. cond t [] (receivers s.drivers (routed (judged s before)) (first_in o.args 0))) goes, tt)
 open_receive s (Return t ∷ before) ok shaped =
-    let earlier : are_accepted before ≡ true = (and_true (are_accepted before) (is_none (fault_after before (Return t))) ok).0 in
+    let earlier : may_all_come before ≡ true = (and_true (may_all_come before) (may_come before (Return t)) ok).0 in
     go (accepted_judged s before earlier shaped.1) (open_receive s before earlier shaped.1) (find (is_of t) (open_calls (judged s before)))
   where
     go : IsAccepted before (judged s before) → AllByRecursion (HasReceivers s.drivers (routed (judged s before))) (open_calls (judged s before)) → (f : Option Opened)

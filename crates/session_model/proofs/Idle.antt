@@ -15,13 +15,14 @@ use Rattle.replay_model.specs.Past.{Opened, Past, Retrieval, call_of, history, i
 use Rattle.replay_model.specs.ChainPlaces.{reaches, seen_past, stops_at}
 use Rattle.replay_model.specs.Judged.{begun_of, judged, made_of, returned_by}
 use Rattle.replay_model.specs.Direct.{valued}
-use Rattle.replay_model.proofs.Accepted.{BeginsIdle, begins-idle}
+use Rattle.replay_model.proofs.Accepted.{BeginsIdle}
 use Rattle.replay_model.proofs.OpenCalls.{OneEach, found_thread, one-append, one-filter}
 use Rattle.layer_model.specs.Walks.{PartState, Threads, Lifetimes, Unique}
+use Rattle.chain_model.specs.Gaps.{IsGapped}
 use Rattle.chain_model.specs.Chained.{StatesMirror}
 use Rattle.chain_model.specs.Simulated.{first_of}
 use Rattle.chain_model.specs.Tokens.{token_in}
-use Rattle.chain_model.specs.Traces.{IsTrace}
+use Rattle.chain_model.proofs.Coming.{begins_idle}
 use Rattle.session_model.specs.Session.{SessionKept}
 use Rattle.session_model.specs.Stands.{Stands}
 use Rattle.session_model.specs.Steps.{NoneOpen}
@@ -172,10 +173,10 @@ in_parts bs rs f seen t none k (Threads m ∷ states) s = (ap (find (λ (u : InU
 in_parts bs rs f seen t none k (Lifetimes m ∷ states) s = in_parts bs rs f seen t none (k + 1) states s.1
 in_parts bs rs f seen t none k (Unique m ∷ states) s = in_parts bs rs f seen t none (k + 1) states s.1
 
-pub none_open_then : (s : Setup) (k : SessionKept) (events : List TraceEvent) (e : BeginEvent) (replies : List ReplyContent) → IsTrace (Begin e ∷ events) → Stands s k events replies → NoneOpen e.thread k.chain.states
+pub none_open_then : (s : Setup) (k : SessionKept) (events : List TraceEvent) (e : BeginEvent) (replies : List ReplyContent) → IsGapped (Begin e ∷ events) → Stands s k events replies → NoneOpen e.thread k.chain.states
 none_open_then s k events e replies trace st =
     let past : Past = judged s events in
-    let idle : BeginsIdle s (Begin e ∷ events) = begins-idle s (Begin e ∷ events) trace.accepted in
+    let idle : BeginsIdle s (Begin e ∷ events) = begins_idle s (Begin e ∷ events) trace.each in
     in_parts (births (history past)) (retrievals past) (first_of (valued past replies)) (seen_past past) e.thread
     (λ j. no_use e.thread (in_use (renamed (token_in (births (history past))) (seen_past past j)))
     (ap (find (λ n. n == e.thread)) (uses_are s (token_in (births (history past))) j events idle.1) ∙ no_thread j e.thread (open_calls past) idle.0))

@@ -13,7 +13,7 @@ use Rattle.replay_model.specs.Setup.{Setup}
 use Rattle.replay_model.specs.Past.{Opened, Past, history, is_of, objects_of, open_calls, retrievals, retrieved_by}
 use Rattle.replay_model.specs.Births.{bears, made_by}
 use Rattle.replay_model.specs.Judged.{judged, made_of}
-use Rattle.chain_model.specs.Traces.{IsTrace}
+use Rattle.chain_model.specs.Gaps.{IsGapped}
 use Rattle.chain_model.proofs.Accepted.{accepted_judged}
 use Rattle.chain_model.proofs.Grammar.{shaped}
 use Rattle.session_model.specs.Living.{AreOfLiving}
@@ -37,7 +37,7 @@ living_births h = record {
     go x true lives = ap (λ t. t && true) (alive_born h x lives)
     go x false dead = none (born_in (births h) x)
 
-module _ (s : Setup) (events : List TraceEvent) (trace : IsTrace events) where
+module _ (s : Setup) (events : List TraceEvent) (trace : IsGapped events) where
   abbrev past : Past
   past = judged s events
 
@@ -45,7 +45,7 @@ module _ (s : Setup) (events : List TraceEvent) (trace : IsTrace events) where
   h = history (judged s events)
 
   own : IsOwning h (retrievals past)
-  own = owning_judged s events trace.accepted (shaped events trace.grammar)
+  own = owning_judged s events trace.each (shaped events trace.grammar)
 
   -- the owners of what lives live
   pub owners_live : (x y : Object) → alive (history (judged s events)) x ≡ true → is_in (owners_in (births (history (judged s events))) x) y ≡ true → alive (history (judged s events)) y ≡ true
@@ -63,7 +63,7 @@ module _ (s : Setup) (events : List TraceEvent) (trace : IsTrace events) where
 
   module _ (thread : ℕ) (o : Opened) (is : find (is_of thread) (open_calls (judged s events)) ≡ Some o) where
     makes : MakesWell past o (made_of s past o)
-    makes = makes_well s events past thread o (accepted_judged s events trace.accepted (shaped events trace.grammar)) is
+    makes = makes_well s events past thread o (accepted_judged s events trace.each (shaped events trace.grammar)) is
 
     -- what an open call makes that was born before lives, so that by what lives the same is new
     pub made_lives : AllByRecursion (λ (b : Born). alive (history (judged s events)) b.object ≡ born_in (births (history (judged s events))) b.object) (made_of s (judged s events) o)

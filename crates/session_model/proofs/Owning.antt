@@ -2,7 +2,7 @@
 use Rattle.std.proofs.Common.{◌≡◌, ◌⊎◌, inl, inr, ℕ, Bool, true, false, not, cond, ◌&&◌, ◌||◌, Option, Some, None, List, [], ◌∷◌, ◌++◌, map, refl, sym, ◌∙◌, ap, subst, rules}
 use Rattle.std.specs.Prelude.{filter, find, slice_get}
 use Rattle.std.specs.List.{AllByRecursion}
-use Rattle.std.specs.Option.{is_none, option_map_or}
+use Rattle.std.specs.Option.{option_map_or}
 use Rattle.command_tables.specs.declared.types.CommandId.{CommandId}
 use Rattle.command_tables.specs.declared.types.CommandId.TheVariants as cmd
 use Rattle.command_tables.specs.declared.types.ObjectType.{ObjectType}
@@ -14,7 +14,6 @@ use Rattle.command_tables.specs.declared.types.Effect.TheVariants as eff
 use Rattle.command_tables.specs.Effects.{succeeds, type_made}
 use Rattle.command_tables.specs.Table.{ParamSpec, row_of}
 use Rattle.command_tables.specs.Tests.{same_command, same_type}
-use Rattle.trace_format.specs.Accepting.{are_accepted, fault_after}
 use Rattle.trace_format.specs.Content.{TraceEvent, Begin, Return}
 use Rattle.object_model.specs.declared.Object.{Object}
 use Rattle.object_model.specs.declared.Argument.{Argument}
@@ -40,6 +39,7 @@ use Rattle.chain_model.proofs.Shapes.{AreShaped}
 use Rattle.session_tables.specs.Lined.{AreLined, IsLine}
 use Rattle.session_model.proofs.Lines.{all_in, born_behind, created_behind, ends_owned, ends_owner, first_typed, given_as, given_fresh, given_made, given_none, line_grown, or_left, or_right, owners_fresh, owners_old, resets_pools, unborn_owners, unborn_uncreated}
 use Rattle.session_model.proofs.Living.{born_more, new_given}
+use Rattle.chain_model.specs.Gaps.{may_all_come, may_come}
 
 -- ---- what holds
 
@@ -470,15 +470,15 @@ last_of P [] x all = all.0
 last_of P (y ∷ xs) x all = last_of P xs x all.1
 
 -- so it is after every accepted trace
-pub owning_judged : (s : Setup) (events : List TraceEvent) → are_accepted events ≡ true → AreShaped events → IsOwning (history (judged s events)) (retrievals (judged s events))
+pub owning_judged : (s : Setup) (events : List TraceEvent) → may_all_come events ≡ true → AreShaped events → IsOwning (history (judged s events)) (retrievals (judged s events))
 owning_judged s [] ok shaped = owning_nothing
 owning_judged s (Begin b ∷ before) ok shaped =
-    let parts = and_true (are_accepted before) (is_none (fault_after before (Begin b))) ok in
+    let parts = and_true (may_all_come before) (may_come before (Begin b)) ok in
     let o : Opened = (begun_of s (judged s before) b).opened in
     let a : IsAccepted (Begin b ∷ before) (judged s (Begin b ∷ before)) = accepted_judged s (Begin b ∷ before) ok shaped in
     owning_begun (history (judged s before)) (retrievals (judged s before)) (call_of o) (is_skipped o) (last_of (λ (x : Opened). AreTyped (row_of x.cmd).params x.args) (open_calls (judged s before)) o a.args) (owning_judged s before parts.0 shaped.1)
 owning_judged s (Return thread ∷ before) ok shaped =
-    let parts = and_true (are_accepted before) (is_none (fault_after before (Return thread))) ok in
+    let parts = and_true (may_all_come before) (may_come before (Return thread)) ok in
     go (find (is_of thread) (open_calls (judged s before))) refl (accepted_judged s before parts.0 shaped.1) (owning_judged s before parts.0 shaped.1)
   where
     go : (f : Option Opened) → find (is_of thread) (open_calls (judged s before)) ≡ f → IsAccepted before (judged s before) → IsOwning (history (judged s before)) (retrievals (judged s before))

@@ -20,7 +20,7 @@ use Rattle.replay_model.specs.Past.{Opened, Retrieval, history, retrievals}
 use Rattle.replay_model.specs.Births.{bearable, bears, born_with, is_kept, made_by, own_object, result_object}
 use Rattle.replay_model.specs.Judged.{judged, made_of}
 use Rattle.layer_model.proofs.Same.{and_true, same_is}
-use Rattle.chain_model.specs.Traces.{IsTrace}
+use Rattle.chain_model.specs.Gaps.{IsGapped}
 use Rattle.chain_model.proofs.Grammar.{shaped}
 use Rattle.chain_model.proofs.Passing.{creates, owners_by}
 use Rattle.session_model.proofs.Owning.{HasLivingOwner, IsOwning, IsRetrievedOf, LivesWithOwner, bears_owned, owning_judged}
@@ -91,6 +91,6 @@ module _ (h : History) (rs : List Retrieval) (own : IsOwning h rs) where
       go false none = refl
 
 -- by the retrievals of what lives a call makes the same
-pub retrievals_enough : (s : Setup) (events : List TraceEvent) → IsTrace events → (o : Opened)
+pub retrievals_enough : (s : Setup) (events : List TraceEvent) → IsGapped events → (o : Opened)
     → made_by s.drivers (births (history (judged s events))) (alive (history (judged s events))) (filter (λ r. alive (history (judged s events)) r.object) (retrievals (judged s events))) o ≡ made_of s (judged s events) o
-retrievals_enough s events trace o = made_same (history (judged s events)) (retrievals (judged s events)) (owning_judged s events trace.accepted (shaped events trace.grammar)) s.drivers o
+retrievals_enough s events trace o = made_same (history (judged s events)) (retrievals (judged s events)) (owning_judged s events trace.each (shaped events trace.grammar)) s.drivers o

@@ -17,8 +17,9 @@ use Rattle.replay_model.specs.Births.{made_by}
 use Rattle.replay_model.specs.Judged.{judged, made_of, returned_by}
 use Rattle.replay_model.specs.Direct.{Sent, answers_of, sends_in, sent}
 use Rattle.replay_model.specs.Text.{judged_lines, lines_at, reports_in, return_text, skipped_in}
+use Rattle.chain_model.specs.Gaps.{IsGapped}
 use Rattle.chain_model.specs.Simulated.{Held, after_reply, after_skipped}
-use Rattle.chain_model.specs.Traces.{GivesGuarded, IsTrace, Simulates, held_in_force, in_force}
+use Rattle.chain_model.specs.Traces.{GivesGuarded, Simulates, held_in_force, in_force}
 use Rattle.chain_model.proofs.Accepted.{accepted_judged}
 use Rattle.chain_model.proofs.Grammar.{shaped}
 use Rattle.chain_model.proofs.Tracing.{sent_up, skipped_up}
@@ -50,7 +51,7 @@ sent_rest thread (c ∷ cs) = go (is_of thread c.opened) (sent_rest thread cs)
     go true ih = ih
     go false ih = ap (λ os. c.opened ∷ os) ih
 
-module _ (s : Setup) (k : SessionKept) (events : List TraceEvent) (thread : ℕ) (replies : List ReplyContent) (c : Sent) (h : Held) (guarded : GivesGuarded s) (trace : IsTrace events) (st : Stands s k events replies)
+module _ (s : Setup) (k : SessionKept) (events : List TraceEvent) (thread : ℕ) (replies : List ReplyContent) (c : Sent) (h : Held) (guarded : GivesGuarded s) (trace : IsGapped events) (st : Stands s k events replies)
     (is : sent_of_thread k thread ≡ Some c) (held : held_of_thread k thread ≡ Some h) where
   abbrev past : Past
   past = judged s events
@@ -77,10 +78,10 @@ module _ (s : Setup) (k : SessionKept) (events : List TraceEvent) (thread : ℕ)
   past_is = ap (returned_by s past) opened_is
 
   own : IsOwning (history past) (retrievals past)
-  own = owning_judged s events trace.accepted (shaped events trace.grammar)
+  own = owning_judged s events trace.each (shaped events trace.grammar)
 
   makes : MakesWell past o made
-  makes = makes_well s events past thread o (accepted_judged s events trace.accepted (shaped events trace.grammar)) opened_is
+  makes = makes_well s events past thread o (accepted_judged s events trace.each (shaped events trace.grammar)) opened_is
 
   made_is : made_kept s k o ≡ made
   made_is =

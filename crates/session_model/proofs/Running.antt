@@ -1,9 +1,7 @@
 -- A session over a whole trace.
 use Rattle.std.proofs.Common.{◌≡◌, ℕ, List, [], ◌∷◌, ◌++◌, length, reverse, take, Option, Some, refl, sym, ◌∙◌, ap, subst}
 use Rattle.std.proofs.lemmas.List.{append-nil, append_assoc, reverse-append}
-use Rattle.std.specs.Option.{is_none}
 use Rattle.command_tables.specs.Calls.{ReplyContent}
-use Rattle.trace_format.specs.Accepting.{are_accepted, fault_after}
 use Rattle.trace_format.specs.Content.{BeginEvent, TraceEvent, Begin, Return}
 use Rattle.replay_model.specs.Setup.{Setup}
 use Rattle.replay_model.specs.Past.{Past}
@@ -12,8 +10,9 @@ use Rattle.replay_model.specs.Direct.{Sent, direct, driver_calls, valued}
 use Rattle.replay_model.specs.Text.{lines}
 use Rattle.replay_model.proofs.Exchanges.{lines-judge}
 use Rattle.layer_model.proofs.Same.{and_true}
+use Rattle.chain_model.specs.Gaps.{IsGapped, may_all_come, may_come}
 use Rattle.chain_model.specs.Simulated.{Held}
-use Rattle.chain_model.specs.Traces.{GivesGuarded, IsTrace}
+use Rattle.chain_model.specs.Traces.{GivesGuarded}
 use Rattle.chain_model.proofs.Tracing.{nothing_simulates}
 use Rattle.session_model.specs.Session.{nothing_kept}
 use Rattle.session_model.specs.Living.{births_past, births_since}
@@ -31,7 +30,7 @@ new_stands s = record { calls = refl; skipped = refl; reports = refl; names = re
 
 -- ---- one event
 
-begins_on : (s : Setup) (r : SessionRun) (before : List TraceEvent) (e : BeginEvent) → IsTrace (Begin e ∷ before) → RanWell s r before
+begins_on : (s : Setup) (r : SessionRun) (before : List TraceEvent) (e : BeginEvent) → IsGapped (Begin e ∷ before) → RanWell s r before
     → AreRepliesTo (calls_told s r.kept e) (take (length (calls_told s r.kept e)) r.replies) → RanWell s (session_begins s r e) (Begin e ∷ before)
 begins_on s r before e trace w answers =
     let own : List ReplyContent = take (length (calls_told s r.kept e)) r.replies in
@@ -46,14 +45,14 @@ begins_on s r before e trace w answers =
     }
 
 -- a trace without its last event
-shorter : (e : TraceEvent) (before : List TraceEvent) → IsTrace (e ∷ before) → IsTrace before
-shorter e before trace = record { grammar = trace.grammar.1; accepted = (and_true (are_accepted before) (is_none (fault_after before e)) trace.accepted).0 }
+shorter : (e : TraceEvent) (before : List TraceEvent) → IsGapped (e ∷ before) → IsGapped before
+shorter e before trace = record { grammar = trace.grammar.1; each = (and_true (may_all_come before) (may_come before e) trace.each).0 }
 
-returns_on : (s : Setup) → GivesGuarded s → (r : SessionRun) (before : List TraceEvent) (thread : ℕ) → IsTrace (Return thread ∷ before) → RanWell s r before
+returns_on : (s : Setup) → GivesGuarded s → (r : SessionRun) (before : List TraceEvent) (thread : ℕ) → IsGapped (Return thread ∷ before) → RanWell s r before
     → RanWell s (session_returns s r (sent_of_thread r.kept thread) (held_of_thread r.kept thread)) (Return thread ∷ before)
 returns_on s guarded r before thread trace w =
     let there : HasCall r.kept thread = returns_busy s r.kept before thread w.taken trace w.stands in
-    let earlier : IsTrace before = shorter (Return thread) before trace in
+    let earlier : IsGapped before = shorter (Return thread) before trace in
     let one : ReturnsWell s r.kept before thread w.taken there.call there.form = returns_well s r.kept before thread w.taken there.call there.form guarded earlier w.stands there.sent there.held in
     let past : Past = judged s before in
     subst (λ (c : Option Sent). RanWell s (session_returns s r c (held_of_thread r.kept thread)) (Return thread ∷ before)) (sym there.sent)
@@ -78,12 +77,12 @@ turned_is before [] = refl
 turned_is before (e ∷ events) =
     turned_is (e ∷ before) events ∙ (sym (append_assoc (reverse events) (e ∷ []) before) ∙ ap (λ es. es ++ before) (sym (reverse-append (e ∷ []) events)))
 
-earlier_trace : (events before : List TraceEvent) → IsTrace (turned_onto before events) → IsTrace before
+earlier_trace : (events before : List TraceEvent) → IsGapped (turned_onto before events) → IsGapped before
 unfolding turned_onto
 earlier_trace [] before trace = trace
 earlier_trace (e ∷ events) before trace = shorter e before (earlier_trace events (e ∷ before) trace)
 
-runs_on : (s : Setup) → GivesGuarded s → (events : List TraceEvent) (r : SessionRun) (before : List TraceEvent) → IsTrace (turned_onto before events) → AreAnsweredInRun s r events → RanWell s r before → RanWell s (session_runs s r events) (turned_onto before events)
+runs_on : (s : Setup) → GivesGuarded s → (events : List TraceEvent) (r : SessionRun) (before : List TraceEvent) → IsGapped (turned_onto before events) → AreAnsweredInRun s r events → RanWell s r before → RanWell s (session_runs s r events) (turned_onto before events)
 unfolding turned_onto
 runs_on s guarded [] r before trace answers w = w
 runs_on s guarded (Begin e ∷ events) r before trace answers w =
@@ -92,8 +91,8 @@ runs_on s guarded (Return thread ∷ events) r before trace answers w =
     runs_on s guarded events (session_returns s r (sent_of_thread r.kept thread) (held_of_thread r.kept thread)) (Return thread ∷ before) trace answers
     (returns_on s guarded r before thread (earlier_trace events (Return thread ∷ before) trace) w)
 
-pub replays : (s : Setup) (replies : List ReplyContent) (events : List TraceEvent) → GivesGuarded s → IsTrace (reverse events) → AreAnsweredInRun s (session_started replies) events → RanWell s (session_of s replies events) (reverse events)
+pub replays : (s : Setup) (replies : List ReplyContent) (events : List TraceEvent) → GivesGuarded s → IsGapped (reverse events) → AreAnsweredInRun s (session_started replies) events → RanWell s (session_of s replies events) (reverse events)
 replays s replies events guarded trace answers =
     let same : turned_onto [] events ≡ reverse events = turned_is [] events ∙ append-nil (reverse events) in
     subst (λ es. RanWell s (session_of s replies events) es) same
-    (runs_on s guarded events (session_started replies) [] (subst IsTrace (sym same) trace) answers (record { taken = []; stands = new_stands s; lines = refl; told = refl }))
+    (runs_on s guarded events (session_started replies) [] (subst IsGapped (sym same) trace) answers (record { taken = []; stands = new_stands s; lines = refl; told = refl }))

@@ -19,15 +19,13 @@ use Rattle.replay_model.specs.Setup.{Setup}
 use Rattle.replay_model.specs.Past.{Opened, argument_in, history, named, retrievals}
 use Rattle.replay_model.specs.Judged.{begun_of, judged}
 use Rattle.replay_model.specs.Direct.{Valued, driver_call, value_in, valued}
+use Rattle.chain_model.specs.Gaps.{IsGapped, may_all_come, may_come}
 use Rattle.chain_model.specs.Chained.{handle_by}
 use Rattle.chain_model.specs.Handed.{handle_in}
-use Rattle.chain_model.specs.Traces.{IsTrace}
 use Rattle.session_model.specs.Session.{SessionKept}
 use Rattle.session_model.specs.Stands.{Stands}
 use Rattle.session_model.specs.Steps.{BeginSteps}
 use Rattle.layer_model.proofs.Same.{and_true}
-use Rattle.trace_format.specs.Accepting.{are_accepted, fault_after}
-use Rattle.std.specs.Option.{is_none}
 use Rattle.chain_model.proofs.Grammar.{shaped}
 use Rattle.session_model.proofs.Begun.{told_is}
 use Rattle.session_model.proofs.Enough.{lined_living}
@@ -83,7 +81,7 @@ all_shaped : (values : List Valued) (o : Opened) → ((driver : ℕ) → HasShap
 all_shaped values o shape [] = tt
 all_shaped values o shape (d ∷ ds) = (shape d, all_shaped values o shape ds)
 
-pub begin_steps : (s : Setup) (k : SessionKept) (events : List TraceEvent) (e : BeginEvent) (replies : List ReplyContent) → IsTrace (Begin e ∷ events) → Stands s k events replies → BeginSteps s k e
+pub begin_steps : (s : Setup) (k : SessionKept) (events : List TraceEvent) (e : BeginEvent) (replies : List ReplyContent) → IsGapped (Begin e ∷ events) → Stands s k events replies → BeginSteps s k e
 begin_steps s k events e replies trace st =
     let is : IsBegin e = trace.grammar.0 in
     let values : List Valued = valued (judged s events) replies in
@@ -99,5 +97,5 @@ begin_steps s k events e replies trace st =
           })
           o.drivers);
       lined = lined_living (history (judged s events)) (retrievals (judged s events))
-          (owning_judged s events (and_true (are_accepted events) (is_none (fault_after events (Begin e))) trace.accepted).0 (shaped (Begin e ∷ events) trace.grammar).1) k.births st.living;
+          (owning_judged s events (and_true (may_all_come events) (may_come events (Begin e)) trace.each).0 (shaped (Begin e ∷ events) trace.grammar).1) k.births st.living;
     }

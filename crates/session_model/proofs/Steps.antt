@@ -23,11 +23,12 @@ use Rattle.replay_model.specs.Direct.{Sent, valued}
 use Rattle.layer_model.specs.Routes.{drivers_at}
 use Rattle.layer_model.specs.Walks.{PartState, leave_parts}
 use Rattle.layer_model.proofs.Same.{and_true}
+use Rattle.chain_model.specs.Gaps.{IsGapped}
 use Rattle.chain_model.specs.Chained.{AreForms, StatesMirror, form_by, handle_by}
 use Rattle.chain_model.specs.Routes.{routes_in}
 use Rattle.chain_model.specs.Simulated.{ChainKept, Held, IsBottom, base_of, first_of, with_forms}
 use Rattle.chain_model.specs.Tokens.{number_in}
-use Rattle.chain_model.specs.Traces.{GivesGuarded, IsSent, IsTrace, Simulates, held_in_force, in_force, starts_chain}
+use Rattle.chain_model.specs.Traces.{GivesGuarded, IsSent, Simulates, held_in_force, in_force, starts_chain}
 use Rattle.chain_model.proofs.Accepted.{IsAccepted, accepted_judged, accepted_returned}
 use Rattle.chain_model.proofs.Answering.{is_nothing, or_parts}
 use Rattle.chain_model.proofs.Eventing.{all_found}
@@ -84,7 +85,7 @@ new_rows s o h rows = go (starts_chain o) refl
     go true starts = given starts (h.thread == o.thread)
     go false starts = rows
 
-module _ (s : Setup) (k : SessionKept) (events : List TraceEvent) (thread : ℕ) (replies : List ReplyContent) (c : Sent) (h : Held) (guarded : GivesGuarded s) (trace : IsTrace events) (st : Stands s k events replies)
+module _ (s : Setup) (k : SessionKept) (events : List TraceEvent) (thread : ℕ) (replies : List ReplyContent) (c : Sent) (h : Held) (guarded : GivesGuarded s) (trace : IsGapped events) (st : Stands s k events replies)
     (is : sent_of_thread k thread ≡ Some c) (held : held_of_thread k thread ≡ Some h) where
   abbrev past : Past
   past = judged s events
@@ -96,7 +97,7 @@ module _ (s : Setup) (k : SessionKept) (events : List TraceEvent) (thread : ℕ)
   bs = births (history (judged s events))
 
   accepted : IsAccepted events past
-  accepted = accepted_judged s events trace.accepted (shaped events trace.grammar)
+  accepted = accepted_judged s events trace.each (shaped events trace.grammar)
 
   there : find (is_of thread) (open_calls past) ≡ Some o
   there = opened_is s k events thread replies c h guarded trace st is held
@@ -111,7 +112,7 @@ module _ (s : Setup) (k : SessionKept) (events : List TraceEvent) (thread : ℕ)
   known = all_found (λ (x : Opened). KnowsArgs (born_in bs) x.args) (is_of thread) (open_calls past) o accepted.knowing.opens there
 
   routes_are : AreRouted bs (routed past)
-  routes_are = routed_judged s events trace.accepted (shaped events trace.grammar)
+  routes_are = routed_judged s events trace.each (shaped events trace.grammar)
 
   bottom_is : is_skipped o ≡ false → IsBottom bs o h.bottom
   bottom_is goes =
@@ -125,7 +126,7 @@ module _ (s : Setup) (k : SessionKept) (events : List TraceEvent) (thread : ℕ)
       (length-map o.args (map (handle_by (number_in bs))) ∙ typed_row (row_of o.cmd).params o.args typed)
 
   receive : is_skipped o ≡ false → o.drivers ≡ receivers s.drivers (routed past) (first_in o.args 0)
-  receive = all_found (HasReceivers s.drivers (routed past)) (is_of thread) (open_calls past) o (open_receive s events trace.accepted (shaped events trace.grammar)) there
+  receive = all_found (HasReceivers s.drivers (routed past)) (is_of thread) (open_calls past) o (open_receive s events trace.each (shaped events trace.grammar)) there
 
   drivers_again : is_skipped o ≡ false → drivers_at s.drivers k.chain.routes h.bottom ≡ o.drivers
   drivers_again goes =

@@ -1,22 +1,20 @@
 -- Which threads have an open call.
-use Rattle.std.proofs.Common.{◌≡◌, ◌==◌, ℕ, Bool, true, false, not, cond, Option, Some, None, List, [], ◌∷◌, map, refl, sym, ◌∙◌, ap}
+use Rattle.std.proofs.Common.{◌≡◌, ◌==◌, ℕ, Bool, true, false, cond, Option, Some, None, List, [], ◌∷◌, map, refl, sym, ◌∙◌, ap}
 use Rattle.std.specs.Prelude.{find, is_some}
-use Rattle.std.specs.Option.{is_none}
 use Rattle.command_tables.specs.Calls.{ReplyContent}
-use Rattle.trace_format.specs.Accepting.{are_accepted, breaks_instance, fault_after, first_fault, is_open}
-use Rattle.trace_format.specs.declared.fault.TraceFault.TheVariants as fault
 use Rattle.trace_format.specs.Content.{BeginEvent, TraceEvent, Begin, Return}
 use Rattle.object_model.specs.History.{Birth, births}
 use Rattle.replay_model.specs.Setup.{Setup}
 use Rattle.replay_model.specs.Past.{Opened, history, is_of, open_calls}
 use Rattle.replay_model.specs.Judged.{judged}
 use Rattle.replay_model.specs.Direct.{Sent}
-use Rattle.replay_model.proofs.Accepted.{begins-idle, open-threads}
+use Rattle.replay_model.proofs.Accepted.{open-threads}
 use Rattle.layer_model.specs.Walks.{PartState}
 use Rattle.layer_model.proofs.Same.{and_true}
+use Rattle.chain_model.specs.Gaps.{IsGapped, may_all_come, may_come}
 use Rattle.chain_model.specs.Simulated.{Held, HeldStand}
-use Rattle.chain_model.specs.Traces.{IsTrace}
 use Rattle.chain_model.proofs.Answering.{is_nothing}
+use Rattle.chain_model.proofs.Coming as coming
 use Rattle.session_model.specs.Session.{SessionKept}
 use Rattle.session_model.specs.Returning.{held_of_thread, sent_of_thread}
 use Rattle.session_model.specs.Stands.{HasCall, HasNoCall, Stands}
@@ -64,18 +62,10 @@ module _ (s : Setup) (k : SessionKept) (events : List TraceEvent) (replies : Lis
       go None p h q = let no : false ≡ true = ap (λ (f : Option Sent). is_some f) (sym p) ∙ (sent_is ∙ there) in cc
       go (Some c) p None q = let no : false ≡ true = ap (λ (f : Option Held). is_some f) (sym q) ∙ (held_is ∙ there) in cc
 
--- the thread of an accepted return has an open call
-open_at_return : (events : List TraceEvent) (thread : ℕ) → is_none (fault_after events (Return thread)) ≡ true → is_open thread events ≡ true
-open_at_return events thread fits = go (is_open thread events) fits
-  where
-    go : (t : Bool) → is_none (cond (not t) (Some fault.Idle) (first_fault ((breaks_instance events (Return thread), fault.Instance) ∷ []))) ≡ true → t ≡ true
-    go true p = refl
-    go false p = cc p
+pub begins_idle : (s : Setup) (k : SessionKept) (events : List TraceEvent) (e : BeginEvent) (replies : List ReplyContent) → IsGapped (Begin e ∷ events) → Stands s k events replies → HasNoCall k e.thread
+begins_idle s k events e replies trace st = none_open s k events replies st e.thread (coming.begins_idle s (Begin e ∷ events) trace.each).0
 
-pub begins_idle : (s : Setup) (k : SessionKept) (events : List TraceEvent) (e : BeginEvent) (replies : List ReplyContent) → IsTrace (Begin e ∷ events) → Stands s k events replies → HasNoCall k e.thread
-begins_idle s k events e replies trace st = none_open s k events replies st e.thread (begins-idle s (Begin e ∷ events) trace.accepted).0
-
-pub returns_busy : (s : Setup) (k : SessionKept) (events : List TraceEvent) (thread : ℕ) (replies : List ReplyContent) → IsTrace (Return thread ∷ events) → Stands s k events replies → HasCall k thread
+pub returns_busy : (s : Setup) (k : SessionKept) (events : List TraceEvent) (thread : ℕ) (replies : List ReplyContent) → IsGapped (Return thread ∷ events) → Stands s k events replies → HasCall k thread
 returns_busy s k events thread replies trace st =
     one_open s k events replies st thread
-    (open-threads s events thread ∙ open_at_return events thread (and_true (are_accepted events) (is_none (fault_after events (Return thread))) trace.accepted).1)
+    (open-threads s events thread ∙ coming.open_at_return events thread (and_true (may_all_come events) (may_come events (Return thread)) trace.each).1)

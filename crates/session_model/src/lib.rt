@@ -1,5 +1,6 @@
 //! What a session keeps while it replays a trace through any chain of layers with any number of drivers, and how a begin and a return change it.
 //! Promises that this says what the judged trace says: how each begin is judged, what the drivers are told, what is born, and every line.
+//! The names of the trace may have gaps in their numbers.
 //! Leaves to others the code of the session, which is proved equal to these functions, and the steps of the chain, which `chain_model` proves.
 #![tactic(auto)]
 
@@ -17,8 +18,9 @@ ghost use Rattle.replay_model.specs.Births.{made_by};
 ghost use Rattle.replay_model.specs.Judged.{judged, made_of};
 ghost use Rattle.replay_model.specs.Past.{Opened};
 ghost use Rattle.replay_model.specs.Text.{end_line, end_of};
+ghost use Rattle.chain_model.specs.Gaps.{IsGapped};
 ghost use Rattle.chain_model.specs.Simulated.{Held};
-ghost use Rattle.chain_model.specs.Traces.{GivesGuarded, IsTrace};
+ghost use Rattle.chain_model.specs.Traces.{GivesGuarded};
 ghost use Rattle.session_model.specs.Running.{AreAnsweredInRun, RanWell, session_of, session_started};
 ghost use Rattle.session_model.specs.Session.{SessionKept, nothing_kept};
 ghost use Rattle.session_model.specs.Enough.{IsOpenOf, SaysOfCalls, SaysOfReturns, history_of, living_retrievals};
@@ -37,27 +39,27 @@ pub fn a_new_session_stands()
 /// lines are the trace's, and with the replies of its drivers what is kept then stands for the trace with the begin.
 pub fn a_begin_is_replayed()
     ensures { (s : Setup) (k : SessionKept) (events : List TraceEvent) (e : BeginEvent) (replies : List ReplyContent) →
-        IsTrace (Begin e ∷ events) → Stands s k events replies → BeginsWell s k events e replies }
+        IsGapped (Begin e ∷ events) → Stands s k events replies → BeginsWell s k events e replies }
 {}
 
 /// A return more: what is born and the line are the trace's, and what is kept then stands for the trace with the return.
 pub fn a_return_is_replayed()
     ensures { (s : Setup) (k : SessionKept) (events : List TraceEvent) (thread : ℕ) (replies : List ReplyContent) (c : Sent) (h : Held) → GivesGuarded s →
-        IsTrace events → Stands s k events replies → sent_of_thread k thread ≡ Some c → held_of_thread k thread ≡ Some h → ReturnsWell s k events thread replies c h }
+        IsGapped events → Stands s k events replies → sent_of_thread k thread ≡ Some c → held_of_thread k thread ≡ Some h → ReturnsWell s k events thread replies c h }
 {}
 
 /// The thread of a begin has no open call among those kept, and that of a return has one, which the chain holds too.
 pub fn threads_call_in_turn()
     ensures begins { (s : Setup) (k : SessionKept) (events : List TraceEvent) (e : BeginEvent) (replies : List ReplyContent) →
-        IsTrace (Begin e ∷ events) → Stands s k events replies → HasNoCall k e.thread }
+        IsGapped (Begin e ∷ events) → Stands s k events replies → HasNoCall k e.thread }
     ensures returns { (s : Setup) (k : SessionKept) (events : List TraceEvent) (thread : ℕ) (replies : List ReplyContent) →
-        IsTrace (Return thread ∷ events) → Stands s k events replies → HasCall k thread }
+        IsGapped (Return thread ∷ events) → Stands s k events replies → HasCall k thread }
 {}
 
 /// So a session that replays a trace from nothing, event by event, writes the lines of the trace and tells the drivers what the trace tells them,
 /// whatever they answer, and stands for the trace at its end.
 pub fn a_session_replays_its_trace()
-    ensures { (s : Setup) (replies : List ReplyContent) (events : List TraceEvent) → GivesGuarded s → IsTrace (reverse events) →
+    ensures { (s : Setup) (replies : List ReplyContent) (events : List TraceEvent) → GivesGuarded s → IsGapped (reverse events) →
         AreAnsweredInRun s (session_started replies) events → RanWell s (session_of s replies events) (reverse events) }
 {}
 
@@ -67,9 +69,9 @@ pub fn a_session_replays_its_trace()
 /// checking part.
 pub fn the_steps_may_rely_on_it()
     ensures begins { (s : Setup) (k : SessionKept) (events : List TraceEvent) (e : BeginEvent) (replies : List ReplyContent) →
-        IsTrace (Begin e ∷ events) → Stands s k events replies → BeginSteps s k e }
+        IsGapped (Begin e ∷ events) → Stands s k events replies → BeginSteps s k e }
     ensures returns { (s : Setup) (k : SessionKept) (events : List TraceEvent) (thread : ℕ) (replies : List ReplyContent) (c : Sent) (h : Held) → GivesGuarded s →
-        IsTrace events → Stands s k events replies → sent_of_thread k thread ≡ Some c → held_of_thread k thread ≡ Some h → ReturnSteps s k c h }
+        IsGapped events → Stands s k events replies → sent_of_thread k thread ≡ Some c → held_of_thread k thread ≡ Some h → ReturnSteps s k c h }
 {}
 
 /// The births of what lives then can be listed: the lists that are asked for after a begin and after a return are there.
@@ -86,17 +88,17 @@ pub fn the_end_line_is_the_traces()
 
 /// An owner of what lives, at any depth, lives; and no object has more than three owners.
 pub fn owners_of_what_lives_live()
-    ensures live { (s : Setup) (events : List TraceEvent) (x y : Object) → IsTrace events → alive (history_of s events) x ≡ true →
+    ensures live { (s : Setup) (events : List TraceEvent) (x y : Object) → IsGapped events → alive (history_of s events) x ≡ true →
         is_in (owners_in (births (history_of s events)) x) y ≡ true → alive (history_of s events) y ≡ true }
-    ensures three { (s : Setup) (events : List TraceEvent) (x : Object) → IsTrace events → length (owners_in (births (history_of s events)) x) ≤ 3 }
+    ensures three { (s : Setup) (events : List TraceEvent) (x : Object) → IsGapped events → length (owners_in (births (history_of s events)) x) ≤ 3 }
 {}
 
 /// A session that kept the births of what lives alone would judge, end, make and retrieve the same, and the retrievals of what lives are
 /// enough too.
 pub fn births_of_what_lives_are_enough()
-    ensures calls { (s : Setup) (events : List TraceEvent) (ls : List Birth) → IsTrace events → AreOfLiving ls (history_of s events) → SaysOfCalls s events ls }
-    ensures returns { (s : Setup) (events : List TraceEvent) (ls : List Birth) (thread : ℕ) (o : Opened) → IsTrace events → AreOfLiving ls (history_of s events) →
+    ensures calls { (s : Setup) (events : List TraceEvent) (ls : List Birth) → IsGapped events → AreOfLiving ls (history_of s events) → SaysOfCalls s events ls }
+    ensures returns { (s : Setup) (events : List TraceEvent) (ls : List Birth) (thread : ℕ) (o : Opened) → IsGapped events → AreOfLiving ls (history_of s events) →
         IsOpenOf s events thread o → SaysOfReturns s events ls o }
-    ensures retrievals { (s : Setup) (events : List TraceEvent) (o : Opened) → IsTrace events →
+    ensures retrievals { (s : Setup) (events : List TraceEvent) (o : Opened) → IsGapped events →
         made_by s.drivers (births (history_of s events)) (alive (history_of s events)) (living_retrievals s events) o ≡ made_of s (judged s events) o }
 {}

@@ -1,4 +1,5 @@
 pub mod Gathered
 pub mod Least
 pub mod Standing
-pub mod Copies
+pub mod Opens
+pub mod Room

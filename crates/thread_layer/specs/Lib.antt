@@ -1,2 +1,3 @@
 pub mod Kept
 pub mod Findings
+pub mod Room

@@ -1,5 +1,5 @@
 // The uses and findings of a call, argument by argument.
-ghost use Rattle.std.specs.Prelude.{◌≡◌, ◌≤◌, ◌++◌, length, map, OnOk};
+ghost use Rattle.std.specs.Prelude.{◌≡◌, ◌≤◌, ◌+◌, ◌++◌, length, map, vec_capacity, IsOk, OnOk};
 ghost use Rattle.command_tables.specs.Handles.{list_at};
 ghost use Rattle.command_tables.specs.Table.{row_of, seen_param};
 ghost use Rattle.object_model.specs.Findings.{at_place};
@@ -12,10 +12,10 @@ ghost use Rattle.lifetime_layer.specs.Reports.{reports_of};
 ghost use Rattle.lifetime_layer.specs.Shape.{HasFewPlaces};
 ghost use Rattle.thread_layer.specs.Kept.{use_seen, with_opens};
 ghost use Rattle.thread_layer.specs.Findings.{argument_reports, argument_uses};
+ghost use Rattle.thread_layer.specs.Room.{HasRoomFor, gathered_room};
 
-use crate::conflicts::least_conflict;
 use crate::object_use::ObjectUse;
-use crate::open_call::OpenCall;
+use crate::open_uses::OpenUses;
 use crate::uses::{ArgumentPlace, add_uses};
 use command_tables::{LayerCall, NoMemory, Param, Rule, row};
 use lifetime_layer::{Finding, Verdict};
@@ -26,7 +26,7 @@ use object_records::{ObjectRecords, argument_at, count_parameters, count_places}
 #[derive(Clone, Copy)]
 pub(crate) struct Beside<'a> {
     pub records: &'a ObjectRecords,
-    pub open_calls: &'a [OpenCall],
+    pub opens: &'a OpenUses,
     pub place: u32,
     pub thread: u32,
 }
@@ -46,6 +46,8 @@ fn report(
     verdict: &mut Verdict,
 ) -> Result<(), NoMemory>
     ensures findings { OnOk result (reports_of verdict.new.findings.items ≡ reports_of verdict.old.findings.items ++ at_place place (overlap_at at.param at.index conflict)) }
+    ensures succeeds { length verdict.old.findings.items + length (at_place place (overlap_at at.param at.index conflict)) ≤ vec_capacity verdict.old.findings → IsOk result }
+    ensures room { vec_capacity verdict.old.findings ≤ vec_capacity verdict.new.findings }
     ensures skip { verdict.new.skip ≡ verdict.old.skip }
 {
     if let Some(number) = conflict {
@@ -70,8 +72,11 @@ fn gather_argument(
     gathered: &mut Gathered,
     verdict: &mut Verdict,
 ) -> Result<(), NoMemory>
-    ensures uses { OnOk result (map use_seen gathered.new.uses.items ≡ map use_seen gathered.old.uses.items ++ argument_uses (with_opens beside.entry.records.now.kept beside.entry.open_calls.now) at.param (seen_param param.now) at.index argument) }
-    ensures findings { OnOk result (reports_of verdict.new.findings.items ≡ reports_of verdict.old.findings.items ++ argument_reports beside.entry.place beside.entry.thread (with_opens beside.entry.records.now.kept beside.entry.open_calls.now) at.param (seen_param param.now) at.index argument) }
+    ensures uses { OnOk result (map use_seen gathered.new.uses.items ≡ map use_seen gathered.old.uses.items ++ argument_uses (with_opens beside.entry.records.now.kept beside.entry.opens.now.opens) at.param (seen_param param.now) at.index argument) }
+    ensures findings { OnOk result (reports_of verdict.new.findings.items ≡ reports_of verdict.old.findings.items ++ argument_reports beside.entry.place beside.entry.thread (with_opens beside.entry.records.now.kept beside.entry.opens.now.opens) at.param (seen_param param.now) at.index argument) }
+    ensures succeeds { HasRoomFor gathered.old verdict.old (argument_uses (with_opens beside.entry.records.now.kept beside.entry.opens.now.opens) at.param (seen_param param.now) at.index argument) (argument_reports beside.entry.place beside.entry.thread (with_opens beside.entry.records.now.kept beside.entry.opens.now.opens) at.param (seen_param param.now) at.index argument) → IsOk result }
+    ensures uses_room { gathered_room gathered.old ≤ gathered_room gathered.new }
+    ensures findings_room { vec_capacity verdict.old.findings ≤ vec_capacity verdict.new.findings }
     ensures skip { verdict.new.skip ≡ verdict.old.skip }
 {
     let start = gathered.uses.len();
@@ -83,7 +88,9 @@ fn gather_argument(
         &mut gathered.implied,
         &mut gathered.uses,
     )?;
-    let conflict = least_conflict(&gathered.uses[start..], beside.thread, beside.open_calls);
+    let conflict = beside
+        .opens
+        .least_conflict(&gathered.uses[start..], beside.thread);
     report(beside.place, at, conflict, verdict)
 }
 
@@ -109,8 +116,11 @@ fn gather_places(
 ) -> Result<(), NoMemory>
     requires shape { HasParams call.now }
     requires few { HasFewPlaces call.now }
-    ensures uses { OnOk result (map use_seen gathered.new.uses.items ≡ map use_seen gathered.old.uses.items ++ places_from (argument_uses (with_opens beside.entry.records.now.kept beside.entry.open_calls.now) i (seen_param param.now)) 0 (list_at (arguments_of call.now) i)) }
-    ensures findings { OnOk result (reports_of verdict.new.findings.items ≡ reports_of verdict.old.findings.items ++ places_from (argument_reports beside.entry.place beside.entry.thread (with_opens beside.entry.records.now.kept beside.entry.open_calls.now) i (seen_param param.now)) 0 (list_at (arguments_of call.now) i)) }
+    ensures uses { OnOk result (map use_seen gathered.new.uses.items ≡ map use_seen gathered.old.uses.items ++ places_from (argument_uses (with_opens beside.entry.records.now.kept beside.entry.opens.now.opens) i (seen_param param.now)) 0 (list_at (arguments_of call.now) i)) }
+    ensures findings { OnOk result (reports_of verdict.new.findings.items ≡ reports_of verdict.old.findings.items ++ places_from (argument_reports beside.entry.place beside.entry.thread (with_opens beside.entry.records.now.kept beside.entry.opens.now.opens) i (seen_param param.now)) 0 (list_at (arguments_of call.now) i)) }
+    ensures succeeds { HasRoomFor gathered.old verdict.old (places_from (argument_uses (with_opens beside.entry.records.now.kept beside.entry.opens.now.opens) i (seen_param param.now)) 0 (list_at (arguments_of call.now) i)) (places_from (argument_reports beside.entry.place beside.entry.thread (with_opens beside.entry.records.now.kept beside.entry.opens.now.opens) i (seen_param param.now)) 0 (list_at (arguments_of call.now) i)) → IsOk result }
+    ensures uses_room { gathered_room gathered.old ≤ gathered_room gathered.new }
+    ensures findings_room { vec_capacity verdict.old.findings ≤ vec_capacity verdict.new.findings }
     ensures skip { verdict.new.skip ≡ verdict.old.skip }
 {
     for k in 0..count_few(call, i as usize) {
@@ -135,8 +145,11 @@ fn gather_params(
     requires shape { HasParams call.now }
     requires few { HasFewPlaces call.now }
     requires row { map seen_param params.now ≡ (row_of call.now.cmd).params }
-    ensures uses { OnOk result (map use_seen gathered.new.uses.items ≡ map use_seen gathered.old.uses.items ++ params_from (argument_uses (with_opens beside.entry.records.now.kept beside.entry.open_calls.now)) 0 (map seen_param params.now) (arguments_of call.now)) }
-    ensures findings { OnOk result (reports_of verdict.new.findings.items ≡ reports_of verdict.old.findings.items ++ params_from (argument_reports beside.entry.place beside.entry.thread (with_opens beside.entry.records.now.kept beside.entry.open_calls.now)) 0 (map seen_param params.now) (arguments_of call.now)) }
+    ensures uses { OnOk result (map use_seen gathered.new.uses.items ≡ map use_seen gathered.old.uses.items ++ params_from (argument_uses (with_opens beside.entry.records.now.kept beside.entry.opens.now.opens)) 0 (map seen_param params.now) (arguments_of call.now)) }
+    ensures findings { OnOk result (reports_of verdict.new.findings.items ≡ reports_of verdict.old.findings.items ++ params_from (argument_reports beside.entry.place beside.entry.thread (with_opens beside.entry.records.now.kept beside.entry.opens.now.opens)) 0 (map seen_param params.now) (arguments_of call.now)) }
+    ensures succeeds { HasRoomFor gathered.old verdict.old (params_from (argument_uses (with_opens beside.entry.records.now.kept beside.entry.opens.now.opens)) 0 (map seen_param params.now) (arguments_of call.now)) (params_from (argument_reports beside.entry.place beside.entry.thread (with_opens beside.entry.records.now.kept beside.entry.opens.now.opens)) 0 (map seen_param params.now) (arguments_of call.now)) → IsOk result }
+    ensures uses_room { gathered_room gathered.old ≤ gathered_room gathered.new }
+    ensures findings_room { vec_capacity verdict.old.findings ≤ vec_capacity verdict.new.findings }
     ensures skip { verdict.new.skip ≡ verdict.old.skip }
 {
     let _count = call.args.len();
@@ -158,7 +171,10 @@ pub(crate) fn gather(
     requires shape { HasParams call.now }
     requires few { HasFewPlaces call.now }
     ensures uses { OnOk result (map use_seen gathered.new.uses.items ≡ uses_in beside.entry.records.now.kept.births (is_in beside.entry.records.now.kept.living) call.now.cmd (arguments_of call.now)) }
-    ensures findings { OnOk result (reports_of verdict.new.findings.items ≡ reports_of verdict.old.findings.items ++ at_place beside.entry.place (use_failures (with_opens beside.entry.records.now.kept beside.entry.open_calls.now) beside.entry.thread call.now.cmd (arguments_of call.now))) }
+    ensures findings { OnOk result (reports_of verdict.new.findings.items ≡ reports_of verdict.old.findings.items ++ at_place beside.entry.place (use_failures (with_opens beside.entry.records.now.kept beside.entry.opens.now.opens) beside.entry.thread call.now.cmd (arguments_of call.now))) }
+    ensures succeeds { length (uses_in beside.entry.records.now.kept.births (is_in beside.entry.records.now.kept.living) call.now.cmd (arguments_of call.now)) ≤ gathered_room gathered.old → length verdict.old.findings.items + length (use_failures (with_opens beside.entry.records.now.kept beside.entry.opens.now.opens) beside.entry.thread call.now.cmd (arguments_of call.now)) ≤ vec_capacity verdict.old.findings → IsOk result }
+    ensures uses_room { gathered_room gathered.old ≤ gathered_room gathered.new }
+    ensures findings_room { vec_capacity verdict.old.findings ≤ vec_capacity verdict.new.findings }
     ensures skip { verdict.new.skip ≡ verdict.old.skip }
 {
     gathered.uses.clear();

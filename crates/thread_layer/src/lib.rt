@@ -7,6 +7,7 @@ mod conflicts;
 mod gathering;
 mod object_use;
 mod open_call;
+mod open_uses;
 mod state;
 mod uses;
 

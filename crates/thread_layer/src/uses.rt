@@ -1,5 +1,5 @@
 // What an argument uses.
-ghost use Rattle.std.specs.Prelude.{◌≡◌, ◌++◌, ◌∷◌, [], map, true, OnOk, Some};
+ghost use Rattle.std.specs.Prelude.{◌≡◌, ◌≤◌, ◌<◌, ◌+◌, ◌++◌, ◌∷◌, [], length, map, true, vec_capacity, IsOk, OnOk, Some};
 ghost use Rattle.command_tables.specs.declared.types.Implied.TheVariants as imp;
 ghost use Rattle.command_tables.specs.Table.{ParamSpec, seen_param};
 ghost use Rattle.object_model.specs.Objects.{is_in, object_of};
@@ -23,7 +23,9 @@ fn list_owner(
     object: Object,
     objects: &mut Vec<Object>,
 ) -> Result<(), NoMemory>
-    ensures { OnOk result (objects.new.items ≡ objects.old.items ++ implied_objects records.now.kept.births (is_in records.now.kept.living) imp.PoolOf object) }
+    ensures added { OnOk result (objects.new.items ≡ objects.old.items ++ implied_objects records.now.kept.births (is_in records.now.kept.living) imp.PoolOf object) }
+    ensures succeeds { length objects.old.items + length (implied_objects records.now.kept.births (is_in records.now.kept.living) imp.PoolOf object) ≤ vec_capacity objects.old → IsOk result }
+    ensures room { vec_capacity objects.old ≤ vec_capacity objects.new }
 {
     if let Some(owner) = records.owner(object) {
         objects.push(owner)?;
@@ -38,7 +40,9 @@ fn list_implied(
     object: Object,
     objects: &mut Vec<Object>,
 ) -> Result<(), NoMemory>
-    ensures { OnOk result (objects.new.items ≡ implied_objects records.now.kept.births (is_in records.now.kept.living) implied object) }
+    ensures listed { OnOk result (objects.new.items ≡ implied_objects records.now.kept.births (is_in records.now.kept.living) implied object) }
+    ensures succeeds { length (implied_objects records.now.kept.births (is_in records.now.kept.living) implied object) ≤ vec_capacity objects.old → IsOk result }
+    ensures room { vec_capacity objects.old ≤ vec_capacity objects.new }
 {
     objects.clear();
     match implied {
@@ -55,7 +59,10 @@ fn add_use(
     write: bool,
     uses: &mut Vec<ObjectUse>,
 ) -> Result<(), NoMemory>
-    ensures { OnOk result (map use_seen uses.new.items ≡ map use_seen uses.old.items ++ use_of at.param at.index write object ∷ []) }
+    ensures added { OnOk result (map use_seen uses.new.items ≡ map use_seen uses.old.items ++ use_of at.param at.index write object ∷ []) }
+    ensures count { OnOk result (length uses.new.items ≡ length uses.old.items + 1) }
+    ensures succeeds { length uses.old.items < vec_capacity uses.old → IsOk result }
+    ensures room { vec_capacity uses.old ≤ vec_capacity uses.new }
 {
     uses.push(ObjectUse {
         param: at.param,
@@ -73,7 +80,9 @@ fn add_writes(
     objects: &[Object],
     uses: &mut Vec<ObjectUse>,
 ) -> Result<(), NoMemory>
-    ensures { OnOk result (map use_seen uses.new.items ≡ map use_seen uses.old.items ++ map (use_of at.param at.index true) objects.now) }
+    ensures added { OnOk result (map use_seen uses.new.items ≡ map use_seen uses.old.items ++ map (use_of at.param at.index true) objects.now) }
+    ensures succeeds { length uses.old.items + length objects.now ≤ vec_capacity uses.old → IsOk result }
+    ensures room { vec_capacity uses.old ≤ vec_capacity uses.new }
 {
     for i in 0..objects.len() {
         add_use(at, objects[i], true, uses)?;
@@ -90,7 +99,10 @@ fn add_object_uses(
     implied: &mut Vec<Object>,
     uses: &mut Vec<ObjectUse>,
 ) -> Result<(), NoMemory>
-    ensures { OnOk result (map use_seen uses.new.items ≡ map use_seen uses.old.items ++ uses_at records.now.kept.births (is_in records.now.kept.living) at.param (seen_param param.now) at.index (Some object)) }
+    ensures added { OnOk result (map use_seen uses.new.items ≡ map use_seen uses.old.items ++ uses_at records.now.kept.births (is_in records.now.kept.living) at.param (seen_param param.now) at.index (Some object)) }
+    ensures succeeds { length uses.old.items + length (uses_at records.now.kept.births (is_in records.now.kept.living) at.param (seen_param param.now) at.index (Some object)) ≤ vec_capacity uses.old → length (uses_at records.now.kept.births (is_in records.now.kept.living) at.param (seen_param param.now) at.index (Some object)) ≤ vec_capacity implied.old → IsOk result }
+    ensures room { vec_capacity uses.old ≤ vec_capacity uses.new }
+    ensures implied_room { vec_capacity implied.old ≤ vec_capacity implied.new }
 {
     if !records.is_born(object) {
         return Ok(());
@@ -109,7 +121,10 @@ pub(crate) fn add_uses(
     implied: &mut Vec<Object>,
     uses: &mut Vec<ObjectUse>,
 ) -> Result<(), NoMemory>
-    ensures { OnOk result (map use_seen uses.new.items ≡ map use_seen uses.old.items ++ uses_at records.now.kept.births (is_in records.now.kept.living) at.param (seen_param param.now) at.index (object_of argument)) }
+    ensures added { OnOk result (map use_seen uses.new.items ≡ map use_seen uses.old.items ++ uses_at records.now.kept.births (is_in records.now.kept.living) at.param (seen_param param.now) at.index (object_of argument)) }
+    ensures succeeds { length uses.old.items + length (uses_at records.now.kept.births (is_in records.now.kept.living) at.param (seen_param param.now) at.index (object_of argument)) ≤ vec_capacity uses.old → length (uses_at records.now.kept.births (is_in records.now.kept.living) at.param (seen_param param.now) at.index (object_of argument)) ≤ vec_capacity implied.old → IsOk result }
+    ensures room { vec_capacity uses.old ≤ vec_capacity uses.new }
+    ensures implied_room { vec_capacity implied.old ≤ vec_capacity implied.new }
 {
     match object_of(argument) {
         None => Ok(()),

@@ -17,5 +17,5 @@ pub returns-clause-judged : goal.returns-clause-judged
 returns-clause-judged g c =
     let e = begin_content c.args.begin in
     let x = c.args.kept.now.parts in
-    subst (λ r. IsJudged x.names.births x.names.handed x.states (opened_first c.args.number x.names.names e r) c.judge.new.call c.judge.new.verdict c.judge.new.parts.states)
+    subst (λ r. IsJudged x.names.births x.names.handed x.states.kept (opened_first c.args.number x.names.names e r) c.judge.new.call c.judge.new.verdict c.judge.new.parts.states.kept)
     (ap (λ (p : OpenCall). p.refusal) c.deref_mut.ensures.value ∙ c.in_ok-call.ensures.refusal) c.in_ok-judge.ensures.judged

@@ -10,7 +10,7 @@ raise-requires-clause-may g c =
     let p = c.args.call.now in
     let is : c.in_ok-born.born.items ≡ made_at x p
     = made_so x p c.args.drivers c.objects.result.now c.retrieved.result.now c.in_ok-born.born.items c.requires.drivers c.objects.ensures c.retrieved.ensures c.in_ok-born.ensures in
-    subst (λ (ms : List Born). MayRaise x.states x.terminator p ms) (sym (c.deref.ensures.value ∙ is)) c.requires.may
+    subst (λ (ms : List Born). MayRaise x.states.kept x.terminator p ms) (sym (c.deref.ensures.value ∙ is)) c.requires.may
 
 pub returns-clause-ok : goal.returns-clause-ok
 returns-clause-ok g c =

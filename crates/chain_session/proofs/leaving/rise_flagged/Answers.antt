@@ -16,10 +16,10 @@ walk_leave-requires-clause-once g c =
     let r : Rising = record { thread = c.args.thread; call = call_content c.args.call.now; replies = map reply_shown c.args.replies.now; made = c.args.made.now; lost = c.args.lost.now } in
     let same : c.leave.new.results ≡ (left_of t r).results
     = ap (λ (all : IssuedAll (List Value)). all.results) c.in_ok-leave.ensures.ids ∙ ap (λ born. (terminator_leave t.ids r.call (answered (drivers_for t r.call) r.replies) born).results) c.requires.flags in
-    once_of c.args.thread c.args.parts.now.states c.args.held.now c.leave.new.results (left_of t r).results c.requires.may.rise same
+    once_of c.args.thread c.args.parts.now.states.kept c.args.held.now c.leave.new.results (left_of t r).results c.requires.may.rise same
 
 pub walk_leave-requires-clause-lost : goal.walk_leave-requires-clause-lost
-walk_leave-requires-clause-lost g c = none_stopped c.args.thread c.args.parts.now.states c.args.held.now c.leave.new.results _ c.requires.may.rise
+walk_leave-requires-clause-lost g c = none_stopped c.args.thread c.args.parts.now.states.kept c.args.held.now c.leave.new.results _ c.requires.may.rise
 
 pub returns-clause-chain : goal.returns-clause-chain
 returns-clause-chain g c = λ forms h.

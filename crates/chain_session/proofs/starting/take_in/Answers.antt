@@ -8,10 +8,10 @@ walk_enter-requires-clause-shape g c = has_no_params (opened_of c.args.call.now)
 
 pub returns-clause-states : goal.returns-clause-states
 returns-clause-states g c =
-    new_states (opened_of c.args.call.now) (call_content c.put_instance.new.form) c.args.table.now.rows c.args.states.now c.walk_enter.new.states c.requires.starts c.in_ok-put_instance.ensures c.requires.fresh
+    new_states (opened_of c.args.call.now) (call_content c.put_instance.new.form) c.args.table.now.rows c.args.states.now.kept c.walk_enter.new.states.kept c.requires.starts c.in_ok-put_instance.ensures c.requires.fresh
     c.in_ok-walk_enter.ensures.states
 
 pub returns-clause-held : goal.returns-clause-held
 returns-clause-held g c =
-    new_held (opened_of c.args.call.now) (call_content c.put_instance.new.form) c.args.table.now.rows c.args.states.now c.walk_enter.new.held c.requires.starts c.in_ok-put_instance.ensures c.requires.fresh
+    new_held (opened_of c.args.call.now) (call_content c.put_instance.new.form) c.args.table.now.rows c.args.states.now.kept c.walk_enter.new.held c.requires.starts c.in_ok-put_instance.ensures c.requires.fresh
     c.in_ok-walk_enter.ensures.held

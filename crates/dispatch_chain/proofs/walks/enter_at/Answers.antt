@@ -1,7 +1,10 @@
 use Rattle.std.proofs.Common.{◌-◌, ◌∙◌, ap, arith, get_or}
+use Rattle.std.specs.Prelude.{vec_capacity}
 use Rattle.command_tables.specs.Calls.{CallContent, call_content}
 use Rattle.dispatch_chain.specs.Seats.{state_of}
 use Rattle.dispatch_chain.proofs.Kept.{kept_set}
+use Rattle.dispatch_chain.proofs.Reserved.{rooms_set}
+use Rattle.dispatch_chain.proofs.Roomy.{can_here, fits_here}
 use Rattle.dispatch_chain.proofs.Seats.{seat_there, seat_set}
 use Rattle.dispatch_chain.proofs.Stepping.{on_ok, on_four, entered_at, entered_cmd}
 use Rattle.dispatch_chain.proofs.walks.enter_at.Goals as goal
@@ -22,3 +25,11 @@ returns-clause-cmd g c = on_ok c.enter_part.result (λ h. ap (λ (x : CallConten
 
 pub returns-clause-kept : goal.returns-clause-kept
 returns-clause-kept g c = kept_set c.args.parts.now (c.args.entry.place - 1) c.enter_part.new.part c.index-parts-index.result c.requires.to c.enter_part.ensures.kept c.requires.kept
+
+pub returns-clause-rooms : goal.returns-clause-rooms
+returns-clause-rooms g c = rooms_set c.args.parts.now (c.args.entry.place - 1) c.enter_part.new.part c.index-parts-index.result c.enter_part.ensures.births_room c.enter_part.ensures.uses_room
+
+pub returns-clause-succeeds : goal.returns-clause-succeeds
+returns-clause-succeeds g c = λ can fits.
+    c.enter_part.ensures.succeeds (can_here c.args.thread c.args.number c.args.parts.now (c.args.entry.place - 1) c.index-parts-index.result (call_content c.args.call.now) c.requires.to can)
+    (fits_here c.args.thread c.args.number c.args.entry c.args.parts.now c.index-parts-index.result c.args.call.now c.args.verdict.now (vec_capacity c.args.verdict.now.findings) c.requires.to fits)

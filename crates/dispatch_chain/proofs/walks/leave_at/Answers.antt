@@ -1,9 +1,10 @@
-use Rattle.std.proofs.Common.{◌-◌, subst}
+use Rattle.std.proofs.Common.{◌-◌, length, subst}
 use Rattle.command_tables.specs.Calls.{call_content}
 use Rattle.dispatch_chain.specs.Entries.{MayLeaveAt}
 use Rattle.dispatch_chain.proofs.Kept.{kept_set}
 use Rattle.dispatch_chain.proofs.Seats.{seat_set}
-use Rattle.dispatch_chain.proofs.Stepping.{on_both, left_at, state_there}
+use Rattle.dispatch_chain.proofs.Stepping.{on_both, on_ok, left_at, state_there}
+use Rattle.dispatch_chain.proofs.Taken.{births_here, births_left, others_stay}
 use Rattle.dispatch_chain.proofs.walks.leave_at.Goals as goal
 
 pub leave_part-requires-clause-once : goal.leave_part-requires-clause-once
@@ -19,3 +20,12 @@ returns-clause-seats g c = seat_set c.args.parts.now (c.args.entry.place - 1) c.
 
 pub returns-clause-kept : goal.returns-clause-kept
 returns-clause-kept g c = kept_set c.args.parts.now (c.args.entry.place - 1) c.leave_part.new.part c.index-parts-index.result c.requires.to c.leave_part.ensures.kept c.requires.kept
+
+pub returns-clause-others : goal.returns-clause-others
+returns-clause-others g c = others_stay c.args.parts.now (c.args.entry.place - 1) c.leave_part.new.part
+
+pub returns-clause-births : goal.returns-clause-births
+returns-clause-births g c = on_ok c.leave_part.result (births_left c.args.parts.now (c.args.entry.place - 1) c.leave_part.new.part c.index-parts-index.result (length c.args.results.now)) c.leave_part.ensures.births
+
+pub returns-clause-succeeds : goal.returns-clause-succeeds
+returns-clause-succeeds g c = λ has. c.leave_part.ensures.succeeds (births_here c.args.parts.now (c.args.entry.place - 1) c.index-parts-index.result (length c.args.results.now) c.requires.to has)

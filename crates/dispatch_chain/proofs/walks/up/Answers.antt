@@ -2,6 +2,8 @@ use Rattle.std.proofs.Common.{◌-◌, map, length, ◌∙◌, arith, inl, inr, 
 use Rattle.std.proofs.lemmas.List.{length-map}
 use Rattle.command_tables.specs.Calls.{call_content}
 use Rattle.object_records.specs.Shape.{HasParams}
+use Rattle.dispatch_chain.specs.Room.{room_of}
+use Rattle.dispatch_chain.proofs.Taken.{births_after, births_next, none_taken, taken_more}
 use Rattle.dispatch_chain.proofs.Upwards.{can_one, drop_less, ended, form_less, one_up, within_at}
 use Rattle.dispatch_chain.proofs.walks.up.Goals as goal
 
@@ -12,6 +14,8 @@ loop-i-init g c = record {
   forms = c.lesser-i.ensures.second;
   seats = refl;
   kept = c.requires.kept;
+  count = refl;
+  taken = none_taken c.args.entries.now c.lesser-i.result (length c.args.results.now) (map room_of c.args.parts.now);
 }
 
 pub leave_at-requires-clause-from : goal.leave_at-requires-clause-from
@@ -40,4 +44,14 @@ loop-i-preserved g c = record {
   forms = omega arith;
   seats = c.in_ok-leave_at.ensures.seats ∙ c.loop-i.invariant.seats;
   kept = c.in_ok-leave_at.ensures.kept;
+  count = c.in_ok-leave_at.ensures.count ∙ c.loop-i.invariant.count;
+  taken = taken_more c.args.entries.now c.loop-i.i (length c.args.results.now) (length c.loop-i.results) _ (map room_of c.args.parts.now) (map room_of c.loop-i.parts) (map room_of c.leave_at.new.parts) c.requires.rising c.loop-i-test.true c.loop-i.invariant.entries c.loop-i.invariant.count c.loop-i.invariant.taken
+      c.in_ok-leave_at.ensures.rooms c.in_ok-leave_at.ensures.others c.in_ok-leave_at.ensures.births;
 }
+
+pub returns-in_err-leave_at-clause-succeeds : goal.returns-in_err-leave_at-clause-succeeds
+returns-in_err-leave_at-clause-succeeds g c = λ all.
+    let wrong = c.in_err-leave_at.ensures.succeeds (births_next c.args.entries.now c.loop-i.i (length c.args.results.now) (length c.loop-i.results) _ (map room_of c.args.parts.now) (map room_of c.loop-i.parts) c.loop-i-test.true c.loop-i.invariant.count c.loop-i.invariant.taken all) in cc wrong
+
+pub returns-clause-births : goal.returns-clause-births
+returns-clause-births g c = λ n all. births_after c.args.entries.now c.loop-i.i (length c.args.results.now) (map room_of c.args.parts.now) (map room_of c.loop-i.parts) c.loop-i.invariant.taken n all

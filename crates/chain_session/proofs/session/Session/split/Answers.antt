@@ -20,5 +20,5 @@ returns-in-Some-clause-parts g c =
 
 pub returns-in-Some-clause-kinds : goal.returns-in-Some-clause-kinds
 returns-in-Some-clause-kinds g c =
-    let kinds = subst (λ x. IfOk c.copy.result (λ parts. kinds_of parts.states ≡ kinds_of x.kept.parts.states)) c.deref.ensures c.copy.ensures.kinds in
-    subst (λ o. IfOk c.copy.result (λ parts. kinds_of parts.states ≡ kinds_in_force o)) (sym (ap (λ t. option_map (λ x. x.value.kept) t) c.in-Some.is)) kinds
+    let kinds = subst (λ x. IfOk c.copy.result (λ parts. kinds_of parts.states.kept ≡ kinds_of x.kept.parts.states.kept)) c.deref.ensures c.copy.ensures.kinds in
+    subst (λ o. IfOk c.copy.result (λ parts. kinds_of parts.states.kept ≡ kinds_in_force o)) (sym (ap (λ t. option_map (λ x. x.value.kept) t) c.in-Some.is)) kinds

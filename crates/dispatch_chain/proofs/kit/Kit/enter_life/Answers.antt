@@ -12,3 +12,12 @@ returns-clause-kept g c = let k = c.args.self.now.life_enters _ _ _ _ _ _ c.requ
 
 pub returns-clause-place : goal.returns-clause-place
 returns-clause-place g c = let k = c.args.self.now.life_enters _ _ _ _ _ _ c.requires.shape c.requires.few c.life_enter.ensures.0 in search rules
+
+pub returns-clause-spare : goal.returns-clause-spare
+returns-clause-spare g c = let k = c.args.self.now.life_enters _ _ _ _ _ _ c.requires.shape c.requires.few c.life_enter.ensures.0 in search rules
+
+pub returns-clause-room : goal.returns-clause-room
+returns-clause-room g c = let k = c.args.self.now.life_enters _ _ _ _ _ _ c.requires.shape c.requires.few c.life_enter.ensures.0 in search rules
+
+pub returns-clause-succeeds : goal.returns-clause-succeeds
+returns-clause-succeeds g c = let k = c.args.self.now.life_enters _ _ _ _ _ _ c.requires.shape c.requires.few c.life_enter.ensures.0 in search rules
