@@ -609,37 +609,52 @@ const COPY: &[Step] = &[
     Step::LiveCount(2),
 ];
 
-// Records with so many buffers, and their copy, which goes on by itself.
-fn copy_goes_on(rt: &impl Abort, alloc: Global, buffers: u32) -> Result<(), Fail> {
-    let mut records = with_device(alloc)?;
+fn bear_buffers(alloc: Global, records: &mut ObjectRecords, buffers: u32) -> Result<(), Fail> {
     records.reserve(3).ok().ok_or("memory")?;
     for k in 0..buffers {
         let handle = u64::from(k) + 10;
-        bear(
-            alloc,
-            &mut records,
-            CommandId::CreateBuffer,
-            OF_DEVICE,
-            handle,
-        )?;
+        bear(alloc, records, CommandId::CreateBuffer, OF_DEVICE, handle)?;
     }
-    let born = records.live_count();
+    Ok(())
+}
+
+// A device has so many buffers. Besides live its instance, its physical device and itself.
+fn has_buffers(rt: &impl Abort, records: &ObjectRecords, buffers: u32) {
+    let counts = [
+        records.live_count() as u64,
+        records.count_children(DEVICE) as u64,
+    ];
+    assert_eq!(rt; counts, [u64::from(buffers) + 3, u64::from(buffers)]);
+    assert_eq!(rt; records.owner(DEVICE), Some(INSTANCE));
+    assert!(rt; records.is_alive(DEVICE));
+}
+
+// A copy, which goes on by itself.
+fn copy_goes_on(
+    rt: &impl Abort,
+    alloc: Global,
+    records: &ObjectRecords,
+    buffers: u32,
+) -> Result<(), Fail> {
     let mut copy = records.copy().ok().ok_or("memory")?;
     copy.reserve(1).ok().ok_or("memory")?;
-    assert_eq!(rt; copy.live_count(), born);
-    assert_eq!(rt; copy.owner(DEVICE), Some(INSTANCE));
-    assert_eq!(rt; copy.count_children(DEVICE) as u64, u64::from(buffers));
-    tell(rt, alloc, &mut copy, COPY)?;
-    assert_eq!(rt; records.live_count(), born);
-    assert_eq!(rt; records.count_children(DEVICE) as u64, u64::from(buffers));
-    assert!(rt; records.is_alive(DEVICE));
+    has_buffers(rt, &copy, buffers);
+    tell(rt, alloc, &mut copy, COPY)
+}
+
+// Records with so many buffers stay as they are beside their copy.
+fn goes_on_alone(rt: &impl Abort, alloc: Global, buffers: u32) -> Result<(), Fail> {
+    let mut records = with_device(alloc)?;
+    bear_buffers(alloc, &mut records, buffers)?;
+    copy_goes_on(rt, alloc, &records, buffers)?;
+    has_buffers(rt, &records, buffers);
     Ok(())
 }
 
 #[test]
 fn copies_of_all_sizes(rt: HostRuntime) -> Result<(), Fail> {
     let alloc = rt.alloc();
-    copy_goes_on(&rt, alloc, 0)?;
-    copy_goes_on(&rt, alloc, 3)?;
-    copy_goes_on(&rt, alloc, 1000)
+    goes_on_alone(&rt, alloc, 0)?;
+    goes_on_alone(&rt, alloc, 3)?;
+    goes_on_alone(&rt, alloc, 1000)
 }

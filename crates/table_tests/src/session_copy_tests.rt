@@ -1,4 +1,6 @@
 // Copies of a session's tables, of all sizes, and what one of the two gains alone.
+ghost use Rattle.std.specs.Prelude.{◌≡◌, ◌≤◌, ◌<◌, length, OnOk};
+
 use crate::session_table_tests::{key, made, name, object, retrieved};
 use command_tables::ObjectType;
 use object_model::Object;
@@ -9,6 +11,7 @@ use session_tables::{
 use std::alloc::Global;
 use std::process::Abort;
 use std::test::Fail;
+use trace_format::Name;
 
 // None, a few, as many as a frame has, and as many as a long trace has.
 const SIZES: [u32; 4] = [0, 3, 400, 10_000];
@@ -20,27 +23,47 @@ fn buffer(k: u32) -> Object {
     }
 }
 
+fn has_objects(rt: &impl Abort, list: &ObjectList, count: u32)
+    requires { count ≤ length list.now.objects }
+{
+    for k in 0..count {
+        assert_eq!(rt; list.at(k as usize), buffer(k), "object {k}");
+    }
+}
+
+// An object stands behind so many.
+fn push_behind(
+    rt: &impl Abort,
+    list: &mut ObjectList,
+    count: u32,
+    object: Object,
+) -> Result<(), Fail>
+    requires { count ≡ length list.old.objects }
+    ensures { OnOk result (count < length list.new.objects) }
+{
+    list.push(object)?;
+    assert_eq!(rt; list.at(count as usize), object);
+    Ok(())
+}
+
+fn copy_of_list(rt: &impl Abort, list: &mut ObjectList, count: u32) -> Result<(), Fail>
+    requires { count ≡ length list.old.objects }
+{
+    let mut copy = list.copy()?;
+    has_objects(rt, &copy, count);
+    push_behind(rt, &mut copy, count, image(1))?;
+    push_behind(rt, list, count, image(2))?;
+    assert_eq!(rt; copy.at(count as usize), image(1));
+    Ok(())
+}
+
 // So many objects in a row.
 fn list_of(rt: &impl Abort, alloc: Global, count: u32) -> Result<(), Fail> {
     let mut list = ObjectList::new(alloc);
     for k in 0..count {
         list.push(buffer(k))?;
     }
-    let mut copy = list.copy()?;
-    for k in 0..count {
-        assert_eq!(rt; copy.at(k as usize), buffer(k), "object {k}");
-    }
-    copy.push(object(ObjectType::Fence, name(3, 3)))?;
-    list.push(object(ObjectType::Image, name(3, 4)))?;
-    assert_eq!(rt;
-        copy.at(count as usize),
-        object(ObjectType::Fence, name(3, 3))
-    );
-    assert_eq!(rt;
-        list.at(count as usize),
-        object(ObjectType::Image, name(3, 4))
-    );
-    Ok(())
+    copy_of_list(rt, &mut list, count)
 }
 
 #[test]
@@ -120,6 +143,36 @@ fn further(object: Object) -> Named {
     }
 }
 
+fn has_names(rt: &impl Abort, table: &NamedTable, count: u32) {
+    assert_eq!(rt; table.len() as u64, u64::from(count) + 1);
+    for k in 0..count {
+        assert_eq!(rt;
+            table.object_named(name(1, k + 1)),
+            Some(buffer(k)),
+            "name {k}"
+        );
+    }
+}
+
+// A further name in one of them isn't in the other.
+fn name_apart(rt: &impl Abort, table: &mut NamedTable, copy: &mut NamedTable) -> Result<(), Fail> {
+    copy.push(further(buffer(8)))?;
+    assert_eq!(rt; table.object_named(name(2, 1)), None);
+    table.push(further(buffer(9)))?;
+    let found = [
+        table.object_named(name(2, 1)),
+        copy.object_named(name(2, 1)),
+    ];
+    assert_eq!(rt; found, [Some(buffer(9)), Some(buffer(8))]);
+    Ok(())
+}
+
+fn copy_of_names(rt: &impl Abort, table: &mut NamedTable, count: u32) -> Result<(), Fail> {
+    let mut copy = table.copy()?;
+    has_names(rt, &copy, count);
+    name_apart(rt, table, &mut copy)
+}
+
 // So many buffers have a name each, of which the first stands for a second object, too.
 fn names_of(rt: &impl Abort, alloc: Global, count: u32) -> Result<(), Fail> {
     let mut table = NamedTable::new(alloc);
@@ -133,21 +186,7 @@ fn names_of(rt: &impl Abort, alloc: Global, count: u32) -> Result<(), Fail> {
         name: name(1, 1),
         object: buffer(7),
     })?;
-    let mut copy = table.copy()?;
-    assert_eq!(rt; copy.len() as u64, u64::from(count) + 1);
-    for k in 0..count {
-        assert_eq!(rt;
-            copy.object_named(name(1, k + 1)),
-            Some(buffer(k)),
-            "name {k}"
-        );
-    }
-    copy.push(further(buffer(8)))?;
-    assert_eq!(rt; table.object_named(name(2, 1)), None);
-    table.push(further(buffer(9)))?;
-    assert_eq!(rt; copy.object_named(name(2, 1)), Some(buffer(8)));
-    assert_eq!(rt; table.object_named(name(2, 1)), Some(buffer(9)));
-    Ok(())
+    copy_of_names(rt, &mut table, count)
 }
 
 #[test]
@@ -159,36 +198,79 @@ fn copies_of_names(rt: HostRuntime) -> Result<(), Fail> {
     Ok(())
 }
 
-// So many buffers of a device.
-fn objects_of(rt: &impl Abort, alloc: Global, count: u32) -> Result<(), Fail> {
-    let mut table = ObjectTable::new(alloc);
-    let instance = object(ObjectType::Instance, name(3, 1));
-    let device = object(ObjectType::Device, name(3, 2));
+fn instance() -> Object {
+    object(ObjectType::Instance, name(3, 1))
+}
+
+fn device() -> Object {
+    object(ObjectType::Device, name(3, 2))
+}
+
+fn has_buffers(rt: &impl Abort, table: &ObjectTable, count: u32) {
+    assert_eq!(rt; table.len() as u64, u64::from(count) + 2);
+    for k in 0..count {
+        assert_eq!(rt;
+            table.births().owners_of(buffer(k)),
+            [device(), instance()].as_slice(),
+            "buffer {k}"
+        );
+    }
+    assert_eq!(rt; table.births().owners_of(device()), [instance()].as_slice());
+    assert!(rt; table.births().is_created(device()));
+}
+
+// What is born in one of them isn't in the other.
+fn bear_apart(
+    rt: &impl Abort,
+    alloc: Global,
+    table: &mut ObjectTable,
+    copy: &mut ObjectTable,
+) -> Result<(), Fail> {
     let fence = object(ObjectType::Fence, name(3, 3));
     let image = object(ObjectType::Image, name(3, 4));
+    made(alloc, copy, fence.ty, Some(device()), &[name(3, 3)])?;
+    made(alloc, table, image.ty, Some(device()), &[name(3, 4)])?;
+    let living = [
+        copy.is_living(fence),
+        table.is_living(fence),
+        table.is_living(image),
+        copy.is_living(image),
+    ];
+    assert_eq!(rt; living, [true, false, true, false]);
+    Ok(())
+}
+
+fn copy_of_objects(
+    rt: &impl Abort,
+    alloc: Global,
+    table: &mut ObjectTable,
+    count: u32,
+) -> Result<(), Fail> {
+    let mut copy = table.copy()?;
+    has_buffers(rt, &copy, count);
+    bear_apart(rt, alloc, table, &mut copy)
+}
+
+fn buffer_names(alloc: Global, count: u32) -> Result<Vec<Name>, Fail> {
     let mut names = Vec::new(alloc);
     for k in 0..count {
         names.push(name(1, k + 1))?;
     }
-    made(alloc, &mut table, instance.ty, None, &[name(3, 1)])?;
-    made(alloc, &mut table, device.ty, Some(instance), &[name(3, 2)])?;
-    made(alloc, &mut table, ObjectType::Buffer, Some(device), &names)?;
-    let mut copy = table.copy()?;
-    assert_eq!(rt; copy.len() as u64, u64::from(count) + 2);
-    for k in 0..count {
-        assert_eq!(rt;
-            copy.births().owners_of(buffer(k)),
-            [device, instance].as_slice(),
-            "buffer {k}"
-        );
-    }
-    assert_eq!(rt; copy.births().owners_of(device), [instance].as_slice());
-    assert!(rt; copy.births().is_created(device));
-    made(alloc, &mut copy, fence.ty, Some(device), &[name(3, 3)])?;
-    made(alloc, &mut table, image.ty, Some(device), &[name(3, 4)])?;
-    assert!(rt; copy.is_living(fence) && !table.is_living(fence));
-    assert!(rt; table.is_living(image) && !copy.is_living(image));
-    Ok(())
+    Ok(names)
+}
+
+fn bear_buffers(alloc: Global, table: &mut ObjectTable, names: &[Name]) -> Result<(), Fail> {
+    made(alloc, table, ObjectType::Instance, None, &[name(3, 1)])?;
+    let instance = Some(instance());
+    made(alloc, table, ObjectType::Device, instance, &[name(3, 2)])?;
+    made(alloc, table, ObjectType::Buffer, Some(device()), names)
+}
+
+// So many buffers of a device.
+fn objects_of(rt: &impl Abort, alloc: Global, count: u32) -> Result<(), Fail> {
+    let mut table = ObjectTable::new(alloc);
+    bear_buffers(alloc, &mut table, &buffer_names(alloc, count)?)?;
+    copy_of_objects(rt, alloc, &mut table, count)
 }
 
 #[test]
@@ -200,34 +282,85 @@ fn copies_of_objects(rt: HostRuntime) -> Result<(), Fail> {
     Ok(())
 }
 
+// The image with a key at this place.
+fn image_at(alloc: Global, table: &RetrievedTable, place: usize) -> Result<Option<Object>, Fail> {
+    Ok(table.object_with(&key(alloc, ObjectType::Image, place, b"")?))
+}
+
+// The queue with this payload.
+fn queue_by(alloc: Global, table: &RetrievedTable, payload: &[u8]) -> Result<Option<Object>, Fail> {
+    Ok(table.object_with(&key(alloc, ObjectType::Queue, 0, payload)?))
+}
+
+// The k-th image and the k-th queue are found.
+fn finds_both(
+    rt: &impl Abort,
+    alloc: Global,
+    table: &RetrievedTable,
+    k: u32,
+    number: u32,
+) -> Result<(), Fail> {
+    let found = [
+        image_at(alloc, table, k as usize)?,
+        queue_by(alloc, table, &k.to_le_bytes())?,
+    ];
+    let wanted = [
+        Some(object(ObjectType::Image, name(1, number))),
+        Some(object(ObjectType::Queue, name(2, number))),
+    ];
+    assert_eq!(rt; found, wanted, "object {k}");
+    Ok(())
+}
+
+// An object is retrieved, and then this one is found.
+fn retrieve_one(
+    rt: &impl Abort,
+    alloc: Global,
+    table: &mut RetrievedTable,
+    object: Object,
+    wanted: Option<Object>,
+) -> Result<(), Fail> {
+    retrieved(alloc, table, 0, b"last", object)?;
+    assert_eq!(rt; queue_by(alloc, table, b"last")?, wanted);
+    Ok(())
+}
+
+fn copy_of_retrieved(
+    rt: &impl Abort,
+    alloc: Global,
+    table: &RetrievedTable,
+    count: u32,
+) -> Result<(), Fail> {
+    let mut copy = table.copy()?;
+    for k in 0..count {
+        finds_both(rt, alloc, &copy, k, k + 1)?;
+    }
+    let queue = object(ObjectType::Queue, name(3, 1));
+    retrieve_one(rt, alloc, &mut copy, buffer(1), None)?;
+    retrieve_one(rt, alloc, &mut copy, queue, Some(queue))?;
+    assert_eq!(rt; queue_by(alloc, table, b"last")?, None);
+    Ok(())
+}
+
+fn retrieve_both(
+    alloc: Global,
+    table: &mut RetrievedTable,
+    k: u32,
+    number: u32,
+) -> Result<(), Fail> {
+    let image = object(ObjectType::Image, name(1, number));
+    let queue = object(ObjectType::Queue, name(2, number));
+    retrieved(alloc, table, k as usize, b"", image)?;
+    retrieved(alloc, table, 0, &k.to_le_bytes(), queue)
+}
+
 // So many images of a device, each by its place, and as many queues, each by its payload.
 fn retrieved_of(rt: &impl Abort, alloc: Global, count: u32) -> Result<(), Fail> {
     let mut table = RetrievedTable::new(alloc);
     for k in 0..count {
-        let image = object(ObjectType::Image, name(1, k + 1));
-        let queue = object(ObjectType::Queue, name(2, k + 1));
-        retrieved(alloc, &mut table, k as usize, b"", image)?;
-        retrieved(alloc, &mut table, 0, &k.to_le_bytes(), queue)?;
+        retrieve_both(alloc, &mut table, k, k + 1)?;
     }
-    let mut copy = table.copy()?;
-    for k in 0..count {
-        let image = key(alloc, ObjectType::Image, k as usize, b"")?;
-        let queue = key(alloc, ObjectType::Queue, 0, &k.to_le_bytes())?;
-        let found = [copy.object_with(&image), copy.object_with(&queue)];
-        let wanted = [
-            Some(object(ObjectType::Image, name(1, k + 1))),
-            Some(object(ObjectType::Queue, name(2, k + 1))),
-        ];
-        assert_eq!(rt; found, wanted, "object {k}");
-    }
-    let last = key(alloc, ObjectType::Queue, 0, b"last")?;
-    retrieved(alloc, &mut copy, 0, b"last", buffer(1))?;
-    assert_eq!(rt; copy.object_with(&last), None);
-    let queue = object(ObjectType::Queue, name(3, 1));
-    retrieved(alloc, &mut copy, 0, b"last", queue)?;
-    assert_eq!(rt; table.object_with(&last), None);
-    assert_eq!(rt; copy.object_with(&last), Some(queue));
-    Ok(())
+    copy_of_retrieved(rt, alloc, &table, count)
 }
 
 #[test]
@@ -239,7 +372,6 @@ fn copies_of_retrieved_objects(rt: HostRuntime) -> Result<(), Fail> {
     Ok(())
 }
 
-// What has no owner isn't found, in a copy as before, and the first of a key stays the first.
 fn push_three(
     alloc: Global,
     table: &mut RetrievedTable,
@@ -260,11 +392,6 @@ fn push_three(
     Ok(())
 }
 
-// The image with a key at this place.
-fn image_at(alloc: Global, table: &RetrievedTable, place: usize) -> Result<Option<Object>, Fail> {
-    Ok(table.object_with(&key(alloc, ObjectType::Image, place, b"")?))
-}
-
 fn copy_keeps(
     rt: &impl Abort,
     alloc: Global,
@@ -277,6 +404,7 @@ fn copy_keeps(
     Ok(())
 }
 
+// What has no owner isn't found, in a copy as before, and the first of a key stays the first.
 #[test]
 fn a_copy_keeps_the_first(rt: HostRuntime) -> Result<(), Fail> {
     let alloc = rt.alloc();
