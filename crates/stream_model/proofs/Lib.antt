@@ -2,3 +2,8 @@ pub mod Orders
 pub mod Readings
 pub mod WholeTraces
 pub mod Within
+pub mod ReadEvents
+pub mod Comings
+pub mod Turns
+pub mod OnDevices
+pub mod Following

@@ -13,18 +13,18 @@ use Rattle.stream_model.specs.Order.{event_thread, events, follows, section, tak
 use Rattle.stream_model.proofs.Orders.{heading_in_order, not_refused}
 
 -- the events of streams
-abbrev in_streams : List StreamPart → List TraceEvent
+abbrev pub in_streams : List StreamPart → List TraceEvent
 in_streams streams = flat_map (λ s. s.events) streams
 
 -- what stands before the last heading and the events behind it, by the section
-abbrev Stands : Option Heading → FileParts → List TraceEvent → Type 0
+abbrev pub Stands : Option Heading → FileParts → List TraceEvent → Type 0
 Stands None file latest = (file ≡ no_parts) × (latest ≡ [])
 Stands (Some heading.Setup) file latest = file ≡ no_parts
 Stands (Some (heading.Stream t)) file latest = file.teardown ≡ []
 Stands (Some heading.Teardown) file latest = file.teardown ≡ []
 
 -- the lines so far: no section stands where it may not, and all events are there
-record Placed (s : Option Heading) (file : FileParts) (latest all : List TraceEvent) : Type 0 where
+pub record Placed (s : Option Heading) (file : FileParts) (latest all : List TraceEvent) : Type 0 where
   pub stands : Stands s file latest
   pub events : all_events file ++ latest ≡ reverse all
 
@@ -67,7 +67,7 @@ headed (Some (heading.Stream t)) heading.Teardown file latest all is placed = re
 headed (Some heading.Teardown) h file latest all is placed = cc
 
 -- the lines in order
-placed_lines : (lines : List FileLine) → AreInOrder lines → Placed (section lines) (closed_parts lines) (open_events lines) (events lines)
+pub placed_lines : (lines : List FileLine) → AreInOrder lines → Placed (section lines) (closed_parts lines) (open_events lines) (events lines)
 placed_lines [] order = record { stands = (refl, refl); events = refl }
 placed_lines (HeadingLine h ∷ lines) order =
     headed (section lines) h (closed_parts lines) (open_events lines) (events lines) (left_true _ _ (heading_in_order lines h order.1).0) (placed_lines lines order.0)

@@ -3,4 +3,5 @@ pub mod Devices
 pub mod Order
 pub mod Refusals
 pub mod FileParts
+pub mod Plans
 pub mod Samples

@@ -1,13 +1,15 @@
 -- Small stream files as they are written. Source: this project.
-use Rattle.std.specs.Prelude.{ℕ, zero, suc, ◌+◌, Option, Some, None, Result, Ok, Err, List, [], ◌∷◌, ◌++◌, map, replicate, take, codes, decimal}
+use Rattle.std.specs.Prelude.{ℕ, zero, suc, ◌+◌, Option, Some, None, Result, Ok, Err, List, [], ◌∷◌, ◌++◌, map, replicate, reverse, take, codes, decimal}
 use Rattle.std.specs.List.{flat_map}
 use Rattle.command_tables.specs.declared.types.CommandId.TheVariants as cmd
+use Rattle.trace_format.specs.declared.event.Name.{Name}
 use Rattle.trace_format.specs.Content.{TraceEvent, Return}
 use Rattle.trace_format.specs.Grammar.{spelling}
 use Rattle.trace_format.specs.Samples.{begins, name}
 use Rattle.stream_model.specs.declared.refusal.Refusal.{Refusal}
 use Rattle.stream_model.specs.FileLines.{FileLine, EventLine}
 use Rattle.stream_model.specs.FileParts.{FileParts, StreamPart, parts}
+use Rattle.stream_model.specs.Plans.{events_along, plan_cut}
 use Rattle.stream_model.specs.Refusals.{Refused, file_lines}
 
 -- lines, each with its LF
@@ -133,3 +135,22 @@ makes count = begins 1 cmd.CreateBuffer [] (replicate count (name 1 1)) None []
 -- so many returns
 abbrev pub returns : ℕ → List FileLine
 returns count = replicate count (EventLine (Return 1))
+
+-- two streams on two devices: the first is on both by turns, the second on the first device and then on the other
+abbrev pub two_by_two : List (List ℕ)
+two_by_two =
+    two_devices
+    ++ codes "stream 1" ∷ returned (codes "b 1 vkCreateFence %1.3 = %1.5 VK_SUCCESS")
+    ++ returned (codes "b 1 vkDeviceWaitIdle %1.4 VK_SUCCESS")
+    ++ returned (codes "b 1 vkGetFenceStatus %1.3 %1.5 VK_SUCCESS")
+    ++ codes "stream 2" ∷ codes "b 2 vkCreateBuffer %1.3 = %2.1 VK_SUCCESS"
+    ∷ codes "r 2"
+    ∷ codes "b 2 vkDeviceWaitIdle %1.4 VK_SUCCESS"
+    ∷ codes "r 2"
+    ∷ codes "teardown"
+    ∷ []
+
+-- what the threads do on a device in these turns, both the oldest first, as it is spelled
+abbrev pub in_turns : Result (List FileLine) Refused → Name → List ℕ → List (List ℕ)
+in_turns (Ok lines) device threads = spelled (reverse (events_along (plan_cut (parts lines) device).streams (reverse threads)))
+in_turns (Err r) device threads = []

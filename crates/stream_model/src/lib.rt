@@ -1,5 +1,6 @@
 //! What a stream file is: setup, the streams of several threads and teardown, which one after the other are a trace.
-//! Promises which lines a file may have, where it is refused and why, and shows it of small files by computation.
+//! Promises which lines a file may have, where it is refused and why, and shows it of small files by computation; and that what the threads
+//! do on one device, in whatever order they take turns there, may come behind setup.
 //! Leaves to others how a line of an event is spelled, which events may follow others, and all reading.
 #![tactic(auto)]
 
@@ -11,8 +12,8 @@ mod samples;
 
 pub use heading::Heading;
 pub use laws::{
-    a_stream_file_is_a_trace, a_stream_file_is_within_its_limits, a_stream_is_of_one_thread,
-    what_was_read_is_a_stream_file,
+    a_device_follows_the_setup, a_stream_file_is_a_trace, a_stream_file_is_within_its_limits,
+    a_stream_is_of_one_thread, what_was_read_is_a_stream_file, what_was_read_is_of_the_grammar,
 };
 pub use limits::{HEADER, MOST_DEVICES, MOST_EVENTS, MOST_NAMES, MOST_STREAMS};
 pub use refusal::Refusal;

@@ -2,11 +2,12 @@
 ghost use Rattle.std.specs.Prelude.{◌≡◌, ◌++◌, ◌∷◌, [], None, Ok, Some, codes};
 ghost use Rattle.trace_format.specs.declared.fault.TraceFault.TheVariants as fault;
 ghost use Rattle.trace_format.specs.Content.{Return};
+ghost use Rattle.trace_format.specs.Samples.{name};
 ghost use Rattle.stream_model.specs.declared.refusal.Refusal.TheVariants as refusal;
 ghost use Rattle.stream_model.specs.FileLines.{EventLine};
 ghost use Rattle.stream_model.specs.Order.{limit_refusal};
 ghost use Rattle.stream_model.specs.Refusals.{file_lines};
-ghost use Rattle.stream_model.specs.Samples.{at, beside_a_device, cuts, headed, in_stream, in_teardown, makes, more_devices, only_streams, read, refusal_in, refused, returns, said, started, text_read, two_streams, waits};
+ghost use Rattle.stream_model.specs.Samples.{at, beside_a_device, cuts, headed, in_stream, in_teardown, in_turns, makes, more_devices, only_streams, read, refusal_in, refused, returns, said, started, text_read, two_by_two, two_streams, waits};
 
 /// A file without events, and files without a header.
 pub fn the_shortest_files()
@@ -159,4 +160,17 @@ pub fn too_many_names_and_events()
     ensures events { limit_refusal (returns 262143) (Return 1) ≡ None }
     ensures one_event_too_many { limit_refusal (returns 262144) (Return 1) ≡ Some refusal.Events }
     ensures names_first { limit_refusal (EventLine (makes 262144) ∷ returns 262143) (makes 1) ≡ Some refusal.Names }
+{}
+
+/// What two threads do on one of two devices, in two orders of their turns: each thread's calls there keep their own order, and those on the
+/// other device are left out. A turn of a thread that has nothing left gives nothing.
+pub fn a_device_by_turns()
+    ensures one_thread_first { in_turns (read two_by_two) (name 1 3) (1 ∷ 1 ∷ 1 ∷ 1 ∷ 2 ∷ 2 ∷ []) ≡
+        codes "b 1 vkCreateFence %1.3 = %1.5 VK_SUCCESS" ∷ codes "r 1" ∷ codes "b 1 vkGetFenceStatus %1.3 %1.5 VK_SUCCESS" ∷ codes "r 1" ∷ codes "b 2 vkCreateBuffer %1.3 = %2.1 VK_SUCCESS" ∷ codes "r 2" ∷ [] }
+    ensures in_between { in_turns (read two_by_two) (name 1 3) (1 ∷ 2 ∷ 1 ∷ 1 ∷ 2 ∷ 1 ∷ []) ≡
+        codes "b 1 vkCreateFence %1.3 = %1.5 VK_SUCCESS" ∷ codes "b 2 vkCreateBuffer %1.3 = %2.1 VK_SUCCESS" ∷ codes "r 1" ∷ codes "b 1 vkGetFenceStatus %1.3 %1.5 VK_SUCCESS" ∷ codes "r 2" ∷ codes "r 1" ∷ [] }
+    ensures other_device { in_turns (read two_by_two) (name 1 4) (2 ∷ 1 ∷ 2 ∷ 1 ∷ []) ≡
+        codes "b 2 vkDeviceWaitIdle %1.4 VK_SUCCESS" ∷ codes "b 1 vkDeviceWaitIdle %1.4 VK_SUCCESS" ∷ codes "r 2" ∷ codes "r 1" ∷ [] }
+    ensures no_event_left { in_turns (read two_by_two) (name 1 4) (3 ∷ 1 ∷ 1 ∷ 1 ∷ []) ≡ codes "b 1 vkDeviceWaitIdle %1.4 VK_SUCCESS" ∷ codes "r 1" ∷ [] }
+    ensures no_device { in_turns (read two_by_two) (name 1 2) (1 ∷ 2 ∷ []) ≡ [] }
 {}
