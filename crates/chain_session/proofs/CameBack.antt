@@ -6,7 +6,6 @@ use Rattle.object_model.specs.History.{Birth, births_given, born_in}
 use Rattle.replay_model.specs.declared.Born.{Born}
 use Rattle.replay_model.specs.Births.{made_by}
 use Rattle.replay_model.specs.Past.{Retrieval, named_of, objects_of, retrieved_by}
-use Rattle.layer_model.specs.Walks.{PartState}
 use Rattle.terminator.specs.Calls.{TerminatorState}
 use Rattle.dispatch_chain.specs.Holding.{IsHeldOf}
 use Rattle.dispatch_chain.specs.Seats.{kinds_of}

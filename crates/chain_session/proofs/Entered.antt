@@ -23,7 +23,7 @@ use Rattle.terminator.specs.Calls.{TerminatorState, targets_of}
 use Rattle.chain_model.specs.Simulated.{after_none, after_walk, base_of, found_by, held_of}
 use Rattle.dispatch_chain.specs.Holding.{HeldCalls, IsHeldOf}
 use Rattle.dispatch_chain.specs.Seats.{kinds_of}
-use Rattle.dispatch_chain.specs.Room.{ChainState, PartRoom}
+use Rattle.dispatch_chain.specs.Room.{PartRoom}
 use Rattle.session_model.specs.Session.{SessionKept}
 use Rattle.session_model.specs.Living.{ArePast}
 use Rattle.session_model.specs.Beginning.{begun_kept, calls_told, drivers_kept, findings_kept, loader_kept, walk_kept}

@@ -32,3 +32,4 @@ pub mod Departing
 pub mod PartsStood
 pub mod CameBack
 pub mod Held
+pub mod Passing

@@ -106,6 +106,16 @@ place_new (x ∷ os) o is q = go (same x o) refl is (same x q) refl (same o q) r
     go false tis f false uis false vis more = ap (option_map (λ (n : ℕ). suc n)) (more (none_after (place_in os o) f))
     go false tis f false uis true vis more = ap (option_map (λ (n : ℕ). suc n)) (more (none_after (place_in os o) f))
 
+-- ---- nothing more
+
+-- the lists stay
+pub lists_stay : (before after : Object → Option ℕ) (os os1 : List Object) (hs hs1 : List ℕ) → (length os ≡ length hs) × ((o : Object) → before o ≡ place_in os o) → ((o : Object) → after o ≡ before o) → os1 ≡ os → hs1 ≡ hs
+    → (length os1 ≡ length hs1) × ((o : Object) → after o ≡ place_in os1 o)
+lists_stay before after os os1 hs hs1 held same os_are hs_are = (
+  ap (λ (xs : List Object). length xs) os_are ∙ (held.0 ∙ sym (ap (λ (xs : List ℕ). length xs) hs_are)),
+  (λ o. same o ∙ (held.1 o ∙ ap (λ (xs : List Object). place_in xs o) (sym os_are))),
+)
+
 -- ---- results in turn
 
 -- nothing is left beyond the shorter of the lists

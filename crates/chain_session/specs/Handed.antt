@@ -5,6 +5,11 @@ use Rattle.object_model.specs.declared.Object.{Object}
 use Rattle.object_model.specs.Objects.{same}
 use Rattle.chain_model.specs.Handed.{Handed}
 
+-- handles of objects, and for how many further ones there is room
+pub record HandedState : Type 0 where
+  pub handed : List Handed
+  pub spare : ℕ
+
 -- each object with the handle in its place
 abbrev pub handed_shown : List Object → List ℕ → List Handed
 handed_shown [] handles = []

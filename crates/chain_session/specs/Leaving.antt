@@ -50,9 +50,13 @@ recalled (ms ∷ marks) (at ∷ args) = recalled_places ms at ∷ recalled marks
 abbrev pub opened_again : SessionParts → BeginEvent → CallContent → Opened
 opened_again x e call = opened_read 0 e (recalled call.unborn (arguments_in x.names.names e.args))
 
--- what is born of it
+-- what is born of a call that was sent
+abbrev pub made_of : SessionParts → Opened → List Born
+made_of x o = made_by x.terminator.drivers x.names.births (born_in x.names.births) x.names.retrieved o
+
+-- what is born of the call of an event
 abbrev pub made_again : SessionParts → BeginEvent → CallContent → List Born
-made_again x e call = made_by x.terminator.drivers x.names.births (born_in x.names.births) x.names.retrieved (opened_again x e call)
+made_again x e call = made_of x (opened_again x e call)
 
 -- ---- results come up
 
@@ -65,15 +69,19 @@ pub record Rising : Type 0 where
   pub lost : List Name
 
 -- the results of a call that was sent
-abbrev pub rising_again : SessionParts → BeginEvent → CallContent → List ReplyContent → Rising
-rising_again x e call replies =
+abbrev pub rising_of : SessionParts → Opened → CallContent → List ReplyContent → Rising
+rising_of x o call replies =
     record {
-      thread = e.thread;
+      thread = o.thread;
       call = call;
       replies = replies;
-      made = made_again x e call;
-      lost = drop (length (made_again x e call)) e.results;
+      made = made_of x o;
+      lost = drop (length (made_of x o)) o.results;
     }
+
+-- those of the call of an event
+abbrev pub rising_again : SessionParts → BeginEvent → CallContent → List ReplyContent → Rising
+rising_again x e call replies = rising_of x (opened_again x e call) call replies
 
 -- what the terminator makes of the replies
 abbrev pub left_of : TerminatorState → Rising → IssuedAll (List Value)
@@ -99,13 +107,17 @@ pub record MayComeUp (x : SessionParts) (r : Rising) (held : HeldCalls) : Type 0
 
 -- A call that was sent has come up: so many of its results are born, they are kept with what they stand for, and what the chain keeps is what it keeps when
 -- they have come up.
-pub record ComesUp (old : SessionParts) (e : BeginEvent) (call : CallContent) (held : HeldCalls) (replies : List ReplyContent) (new : SessionParts) (count : ℕ) : Type 0 where
-  pub counted : count ≡ length (made_again old e call)
-  pub names : new.names.names ≡ old.names.names ++ map named_of (made_again old e call)
-  pub births : AreAdded old.names.births (births_given old.names.births (opened_again old e call).args (row_of e.cmd).effect (objects_of (made_again old e call))) new.names.births
-  pub retrieved : new.names.retrieved ≡ old.names.retrieved ++ retrieved_by old.names.births (opened_again old e call) (made_again old e call)
-  pub chain : (forms : List CallContent) → IsHeldOf held (kinds_of old.states.kept) forms → chain_of new ≡ chain_up old (rising_again old e call replies) forms
+pub record HasComeUp (old : SessionParts) (o : Opened) (call : CallContent) (held : HeldCalls) (replies : List ReplyContent) (new : SessionParts) (count : ℕ) : Type 0 where
+  pub counted : count ≡ length (made_of old o)
+  pub names : new.names.names ≡ old.names.names ++ map named_of (made_of old o)
+  pub births : AreAdded old.names.births (births_given old.names.births o.args (row_of o.cmd).effect (objects_of (made_of old o))) new.names.births
+  pub retrieved : new.names.retrieved ≡ old.names.retrieved ++ retrieved_by old.names.births o (made_of old o)
+  pub chain : (forms : List CallContent) → IsHeldOf held (kinds_of old.states.kept) forms → chain_of new ≡ chain_up old (rising_of old o call replies) forms
   pub drivers : new.terminator.drivers ≡ old.terminator.drivers
+
+-- so has that of an event
+abbrev pub ComesUp : SessionParts → BeginEvent → CallContent → HeldCalls → List ReplyContent → SessionParts → ℕ → Type 0
+ComesUp old e call held replies new count = HasComeUp old (opened_again old e call) call held replies new count
 
 -- ---- a return
 

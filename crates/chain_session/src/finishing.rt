@@ -22,13 +22,14 @@ use crate::parts::SessionParts;
 use crate::raising::raise;
 use crate::reporting::{Returning, put_return};
 use crate::results::made;
+use crate::returning_call::returning;
 use crate::room::Room;
 use crate::sending::is_skipped;
 use command_tables::NoMemory;
 use dispatch_chain::DispatchTable;
 
 // What the line of a call's return is made of.
-fn returning(call: &OpenCall, drivers: u32) -> Returning
+fn line_of(call: &OpenCall, drivers: u32) -> Returning
     ensures { result ≡ record { number = call.now.number; cmd = call.now.cmd; code = call.now.code; refusal = call.now.refusal; skipped = is_skipped (opened_of call.now); results = length call.now.results.items; drivers = drivers } }
 {
     Returning {
@@ -47,7 +48,7 @@ fn put_line(call: &OpenCall, drivers: u32, born: usize, lines: &mut Vec<u8>) -> 
     ensures { (s : Setup) → call.now.refusal ≡ refusal_at s call.now.cmd call.now.payload.items → s.drivers ≡ drivers → OnOk result (lines.new.items ≡ lines.old.items ++ return_text s (opened_of call.now) born) }
 {
     let count = u32::try_from(born).ok().ok_or(NoMemory)?;
-    put_return(returning(call, drivers), count, lines)
+    put_return(line_of(call, drivers), count, lines)
 }
 
 // The results of an open call come up, and what is born is kept. Answers how many are born.
@@ -64,12 +65,13 @@ fn come_back(
     ensures ok { IfOk result (ComesBack parts.old call.now parts.new) }
     ensures table { table.new.rows ≡ kinds_of parts.new.states.kept }
 {
+    let returned = returning(call);
     let born = made(
         room,
         parts.names.objects(),
         parts.names.retrieved(),
         drivers,
-        call,
+        returned,
     )?;
     raise(
         table,
@@ -80,7 +82,7 @@ fn come_back(
         &born,
         room,
     )?;
-    parts.names.settle(room.alloc, call, &born)?;
+    parts.names.settle(room.alloc, returned, &born)?;
     let count = born.len();
     room.born.keep(born);
     Ok(count)

@@ -22,7 +22,7 @@ pub struct Passed<'a> {
 }
 
 fn handle_of(handed: &HandedTable, argument: Argument) -> u64
-    ensures { result ≡ handle_by (handle_in handed.now) argument }
+    ensures { result ≡ handle_by (handle_in handed.now.handed) argument }
 {
     match argument {
         Argument::Null | Argument::Unborn => 0,
@@ -35,7 +35,7 @@ fn put_handles(
     at: &[Argument],
     handles: &mut Vec<u64>,
 ) -> Result<(), AllocError>
-    ensures { OnOk result (handles.new.items ≡ map (handle_by (handle_in handed.now)) at.now) }
+    ensures { OnOk result (handles.new.items ≡ map (handle_by (handle_in handed.now.handed)) at.now) }
 {
     handles.clear();
     for argument in at {
@@ -78,7 +78,7 @@ fn push_arguments(
     all: &mut HandleArgs<6>,
 ) -> Result<(), NoMemory>
     requires { length all.old.lists < 6 }
-    ensures lists { OnOk result (all.new.lists ≡ all.old.lists ++ map (handle_by (handle_in handed.now)) at.now ∷ []) }
+    ensures lists { OnOk result (all.new.lists ≡ all.old.lists ++ map (handle_by (handle_in handed.now.handed)) at.now ∷ []) }
     ensures marks { OnOk result (all.new.marks ≡ all.old.marks ++ map is_unborn at.now ∷ []) }
 {
     put_handles(handed, at, room)?;
@@ -96,7 +96,7 @@ pub fn put_form(
     form: &mut LayerCall,
 ) -> Result<(), NoMemory>
     requires { length args.now ≤ 6 }
-    ensures lists { OnOk result (form.new.args.lists ≡ map (map (handle_by (handle_in handed.now))) (args_shown args.now)) }
+    ensures lists { OnOk result (form.new.args.lists ≡ map (map (handle_by (handle_in handed.now.handed))) (args_shown args.now)) }
     ensures marks { OnOk result (form.new.args.marks ≡ map (map is_unborn) (args_shown args.now)) }
     ensures cmd { form.new.cmd ≡ form.old.cmd }
     ensures asked { form.new.asked ≡ form.old.asked }
@@ -119,7 +119,7 @@ pub fn put_call(
     form: &mut LayerCall,
 ) -> Result<(), NoMemory>
     requires { length args.now ≤ 6 }
-    ensures { OnOk result (call_content form.new ≡ form_by (handle_in handed.now) (base_passed passed.entry) (args_shown args.now)) }
+    ensures { OnOk result (call_content form.new ≡ form_by (handle_in handed.now.handed) (base_passed passed.entry) (args_shown args.now)) }
 {
     put_form(handed, args, room, form)?;
     form.payload.clear();

@@ -27,7 +27,7 @@ use object_model::Argument;
 use session_tables::ObjectTable;
 
 fn holds(objects: &ObjectTable, param: &Param, argument: Argument) -> bool
-    ensures { result ≡ parameter_holds (born_in objects.now) (seen_param param.now) argument }
+    ensures { result ≡ parameter_holds (born_in objects.now.births) (seen_param param.now) argument }
 {
     match argument {
         Argument::Null => param.optional,
@@ -38,7 +38,7 @@ fn holds(objects: &ObjectTable, param: &Param, argument: Argument) -> bool
 
 #[tactic(auto, using(crate::proofs::Loader::failing_unless))]
 fn fails_first(objects: &ObjectTable, params: &[Param], args: &[Vec<Argument>]) -> bool
-    ensures { result ≡ is_failing (loader_failures (born_in objects.now) (map seen_param params.now) (args_shown args.now)) }
+    ensures { result ≡ is_failing (loader_failures (born_in objects.now.births) (map seen_param params.now) (args_shown args.now)) }
 {
     match params {
         [] => false,
@@ -54,7 +54,7 @@ fn fails_first(objects: &ObjectTable, params: &[Param], args: &[Vec<Argument>]) 
 
 /// Whether the loader reports a call: its first argument stands for no living object.
 pub(crate) fn is_reported(objects: &ObjectTable, cmd: CommandId, args: &[Vec<Argument>]) -> bool
-    ensures { result ≡ is_failing (loader_failures (born_in objects.now) (row_of cmd).params (args_shown args.now)) }
+    ensures { result ≡ is_failing (loader_failures (born_in objects.now.births) (row_of cmd).params (args_shown args.now)) }
 {
     fails_first(objects, row(cmd).params, args)
 }
@@ -120,11 +120,11 @@ fn walk_down(
     requires fits { FitsCall (opened_read number (begin_content begin) (args_shown args.now)) }
     requires goes { verdict.old.skip ≡ false }
     requires empty { verdict.old.findings.items ≡ [] }
-    ensures reports { OnOk result (reports_of verdict.new.findings.items ≡ (walk_at states.old.kept handed.now (opened_read number (begin_content begin.entry) (args_shown args.now))).found.reports) }
-    ensures skip { OnOk result (verdict.new.skip ≡ is_some (walk_at states.old.kept handed.now (opened_read number (begin_content begin.entry) (args_shown args.now))).found.stop) }
-    ensures states { OnOk result (states.new.kept ≡ (walk_at states.old.kept handed.now (opened_read number (begin_content begin.entry) (args_shown args.now))).states) }
-    ensures bottom { OnOk result (call_content form.new ≡ (walk_at states.old.kept handed.now (opened_read number (begin_content begin.entry) (args_shown args.now))).bottom) }
-    ensures held { OnOk result (IsHeldOf held.new (kinds_of states.old.kept) (walk_at states.old.kept handed.now (opened_read number (begin_content begin.entry) (args_shown args.now))).forms) }
+    ensures reports { OnOk result (reports_of verdict.new.findings.items ≡ (walk_at states.old.kept handed.now.handed (opened_read number (begin_content begin.entry) (args_shown args.now))).found.reports) }
+    ensures skip { OnOk result (verdict.new.skip ≡ is_some (walk_at states.old.kept handed.now.handed (opened_read number (begin_content begin.entry) (args_shown args.now))).found.stop) }
+    ensures states { OnOk result (states.new.kept ≡ (walk_at states.old.kept handed.now.handed (opened_read number (begin_content begin.entry) (args_shown args.now))).states) }
+    ensures bottom { OnOk result (call_content form.new ≡ (walk_at states.old.kept handed.now.handed (opened_read number (begin_content begin.entry) (args_shown args.now))).bottom) }
+    ensures held { OnOk result (IsHeldOf held.new (kinds_of states.old.kept) (walk_at states.old.kept handed.now.handed (opened_read number (begin_content begin.entry) (args_shown args.now))).forms) }
     ensures kinds { kinds_of states.new.kept ≡ kinds_of states.old.kept }
 {
     let passed = Passed {
@@ -156,7 +156,7 @@ pub(crate) fn look(
     requires goes { verdict.old.skip ≡ false }
     requires empty { verdict.old.findings.items ≡ [] }
     requires unheld { held.old.forms ≡ [] }
-    ensures found { OnOk result (IsFound objects.now handed.now states.old.kept (opened_read number (begin_content begin.entry) (args_shown args.now)) (call_content form.new) held.new verdict.new states.new.kept) }
+    ensures found { OnOk result (IsFound objects.now.births handed.now.handed states.old.kept (opened_read number (begin_content begin.entry) (args_shown args.now)) (call_content form.new) held.new verdict.new states.new.kept) }
     ensures kinds { kinds_of states.new.kept ≡ kinds_of states.old.kept }
 {
     if is_reported(objects, begin.cmd, args) {

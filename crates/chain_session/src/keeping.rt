@@ -1,24 +1,24 @@
 // What a session keeps of the results that are born.
-ghost use Rattle.std.specs.Prelude.{◌≡◌, ◌++◌, map, filter, IfOk, OnOk};
+ghost use Rattle.std.specs.Prelude.{◌≡◌, ◌++◌, ◌∷◌, [], map, filter, OnOk};
 ghost use Rattle.command_tables.specs.Table.{row_of};
 ghost use Rattle.object_model.specs.History.{births_given};
 ghost use Rattle.replay_model.specs.Past.{is_new, named_of, objects_of, retrieval, retrieved_by};
 ghost use Rattle.session_tables.specs.Lined.{AreAdded};
 ghost use Rattle.session_tables.specs.Shown.{args_shown};
-ghost use Rattle.chain_session.specs.Opened.{opened_of};
+ghost use Rattle.chain_session.specs.Opened.{returning_shown};
 
 use crate::bearing::effect_of;
-use crate::call::OpenCall;
 use crate::results::key_of;
+use crate::returning_call::ReturningCall;
 use command_tables::Effect;
 use object_model::Object;
 use replay_model::{Born, Named};
-use session_tables::{BirthTable, NamedTable, ObjectTable, RetrievedEntry, RetrievedTable, owner};
+use session_tables::{BirthTable, NamedTable, ObjectTable, RetrievedTable, owner};
 use std::alloc::{AllocError, Global};
 
 // Keeps the names that stand for objects.
 fn keep_names(names: &mut NamedTable, made: &[Born]) -> Result<(), AllocError>
-    ensures { OnOk result (names.new ≡ names.old ++ map named_of made.now) }
+    ensures { OnOk result (names.new.names ≡ names.old.names ++ map named_of made.now) }
 {
     for b in made {
         names.push(Named {
@@ -29,53 +29,53 @@ fn keep_names(names: &mut NamedTable, made: &[Born]) -> Result<(), AllocError>
     Ok(())
 }
 
-// The results whose objects are born by them.
-fn new_results(alloc: Global, births: &BirthTable, made: &[Born]) -> Result<Vec<Born>, AllocError>
-    ensures { IfOk result (λ v. v.items ≡ filter (is_new births.now) made.now) }
+// Keeps the object of a result, if it is born by it.
+fn keep_new(
+    table: &mut RetrievedTable,
+    births: &BirthTable,
+    call: ReturningCall<'_>,
+    owner: Option<Object>,
+    born: Born,
+) -> Result<(), AllocError>
+    ensures { OnOk result (table.new.kept ≡ table.old.kept ++ map (retrieval (returning_shown call.entry) owner) (filter (is_new births.now.births) (born ∷ []))) }
 {
-    made.iter()
-        .copied()
-        .filter(|b| !births.is_born(b.object))
-        .collect(alloc)
+    if births.is_born(born.object) {
+        return Ok(());
+    }
+    table.push(owner, born.place, key_of(call), born.object)?;
+    Ok(())
 }
 
+// Keeps those that are born by these results.
 fn keep(
-    alloc: Global,
     table: &mut RetrievedTable,
-    call: &OpenCall,
+    births: &BirthTable,
+    call: ReturningCall<'_>,
     owner: Option<Object>,
     made: &[Born],
 ) -> Result<(), AllocError>
-    ensures { OnOk result (table.new ≡ table.old ++ map (retrieval (opened_of call.now) owner) made.now) }
+    ensures { OnOk result (table.new.kept ≡ table.old.kept ++ map (retrieval (returning_shown call.entry) owner) (filter (is_new births.now.births) made.now)) }
 {
     for b in made {
-        let entry = RetrievedEntry {
-            owner,
-            place: b.place,
-            payload: Vec::from_slice(alloc, key_of(call))?,
-            object: b.object,
-        };
-        table.push(alloc, entry)?;
+        keep_new(table, births, call, owner, *b)?;
     }
     Ok(())
 }
 
 // Keeps the objects that a call retrieves first.
 fn keep_retrieved(
-    alloc: Global,
     table: &mut RetrievedTable,
     births: &BirthTable,
-    call: &OpenCall,
+    call: ReturningCall<'_>,
     made: &[Born],
 ) -> Result<(), AllocError>
-    ensures { OnOk result (table.new ≡ table.old ++ retrieved_by births.now (opened_of call.now) made.now) }
+    ensures { OnOk result (table.new.kept ≡ table.old.kept ++ retrieved_by births.now.births (returning_shown call.entry) made.now) }
 {
     let effect = effect_of(call.cmd);
     match effect {
         Effect::Retrieve { .. } => {
-            let owner = owner(births, &call.args, effect);
-            let given = new_results(alloc, births, made)?;
-            keep(alloc, table, call, owner, &given)
+            let owner = owner(births, call.args, effect);
+            keep(table, births, call, owner, made)
         }
         _ => Ok(()),
     }
@@ -84,18 +84,18 @@ fn keep_retrieved(
 /// What a return adds to names, objects and retrieved objects.
 pub(crate) fn settle(
     alloc: Global,
-    call: &OpenCall,
+    call: ReturningCall<'_>,
     born: &[Born],
     names: &mut NamedTable,
     objects: &mut ObjectTable,
     retrieved: &mut RetrievedTable,
 ) -> Result<(), AllocError>
-    ensures names { OnOk result (names.new ≡ names.old ++ map named_of born.now) }
-    ensures births { OnOk result (AreAdded objects.old (births_given objects.old (args_shown call.now.args.items) (row_of call.now.cmd).effect (objects_of born.now)) objects.new) }
-    ensures retrieved { OnOk result (retrieved.new ≡ retrieved.old ++ retrieved_by objects.old (opened_of call.now) born.now) }
+    ensures names { OnOk result (names.new.names ≡ names.old.names ++ map named_of born.now) }
+    ensures births { OnOk result (AreAdded objects.old.births (births_given objects.old.births (args_shown call.entry.args.now) (row_of call.entry.cmd).effect (objects_of born.now)) objects.new.births) }
+    ensures retrieved { OnOk result (retrieved.new.kept ≡ retrieved.old.kept ++ retrieved_by objects.old.births (returning_shown call.entry) born.now) }
 {
     keep_names(names, born)?;
-    keep_retrieved(alloc, retrieved, objects.births(), call, born)?;
-    objects.bear(alloc, &call.args, effect_of(call.cmd), born)?;
+    keep_retrieved(retrieved, objects.births(), call, born)?;
+    objects.bear(alloc, call.args, effect_of(call.cmd), born)?;
     Ok(())
 }

@@ -19,9 +19,9 @@ pub struct Kept {
 
 // Each object that lives has one birth.
 fn living_count(objects: &ObjectTable) -> usize
-    ensures len { result ≡ length objects.now }
+    ensures len { result ≡ length objects.now.births }
     ensures few { result < 2 ^ 62 }
-    ensures apart { AreApart objects.now }
+    ensures apart { AreApart objects.now.births }
 {
     objects.len()
 }

@@ -26,6 +26,7 @@ mod raising;
 mod recalling;
 mod reporting;
 mod results;
+mod returning_call;
 mod room;
 mod sending;
 mod session;

@@ -8,12 +8,12 @@ ghost use Rattle.session_tables.specs.Lined.{AreAdded, AreLeft, AreLined};
 ghost use Rattle.session_tables.specs.Shown.{args_shown};
 ghost use Rattle.chain_model.specs.Handed.{hand_all};
 ghost use Rattle.chain_session.specs.Names.{no_names};
-ghost use Rattle.chain_session.specs.Opened.{opened_of};
+ghost use Rattle.chain_session.specs.Opened.{returning_shown};
 
-use crate::call::OpenCall;
 use crate::handed::HandedTable;
 use crate::keeping::settle;
 use crate::names::put_arguments;
+use crate::returning_call::ReturningCall;
 use crate::room::Room;
 use command_tables::{Effect, NoMemory};
 use object_model::Argument;
@@ -42,7 +42,7 @@ impl Model for NameTable {
 
     ghost Value = { NamesKept };
 
-    ghost view = { λ t. record { names = t.named; births = t.objects; retrieved = t.retrieved; handed = t.handed } };
+    ghost view = { λ t. record { names = t.named.names; births = t.objects.births; retrieved = t.retrieved.kept; handed = t.handed.handed } };
 }
 
 impl NameTable {
@@ -77,28 +77,28 @@ impl NameTable {
 
     /// The names with their objects.
     pub(crate) fn named(&self) -> &session_tables::NamedTable
-        ensures { result.now ≡ self.now.names }
+        ensures { result.now.names ≡ self.now.names }
     {
         &self.named
     }
 
     /// What lives.
     pub(crate) fn objects(&self) -> &ObjectTable
-        ensures { result.now ≡ self.now.births }
+        ensures { result.now.births ≡ self.now.births }
     {
         &self.objects
     }
 
     /// The retrieved objects.
     pub(crate) fn retrieved(&self) -> &RetrievedTable
-        ensures { result.now ≡ self.now.retrieved }
+        ensures { result.now.kept ≡ self.now.retrieved }
     {
         &self.retrieved
     }
 
     /// The handles above the first part.
     pub(crate) fn handed(&self) -> &HandedTable
-        ensures { result.now ≡ self.now.handed }
+        ensures { result.now.handed ≡ self.now.handed }
     {
         &self.handed
     }
@@ -126,6 +126,13 @@ impl NameTable {
     {
         self.args = args;
         self.room.handles = handles;
+    }
+
+    /// Keeps what was read, for its room.
+    pub(crate) fn keep_args(&mut self, args: Vec<Vec<Argument>>)
+        ensures { self.new ≡ self.old }
+    {
+        self.args = args;
     }
 
     /// Takes the room for the steps of a return.
@@ -164,12 +171,12 @@ impl NameTable {
     pub(crate) fn settle(
         &mut self,
         alloc: Global,
-        call: &OpenCall,
+        call: ReturningCall<'_>,
         born: &[Born],
     ) -> Result<(), AllocError>
         ensures names { OnOk result (self.new.names ≡ self.old.names ++ map named_of born.now) }
-        ensures births { OnOk result (AreAdded self.old.births (births_given self.old.births (args_shown call.now.args.items) (row_of call.now.cmd).effect (objects_of born.now)) self.new.births) }
-        ensures retrieved { OnOk result (self.new.retrieved ≡ self.old.retrieved ++ retrieved_by self.old.births (opened_of call.now) born.now) }
+        ensures births { OnOk result (AreAdded self.old.births (births_given self.old.births (args_shown call.entry.args.now) (row_of call.entry.cmd).effect (objects_of born.now)) self.new.births) }
+        ensures retrieved { OnOk result (self.new.retrieved ≡ self.old.retrieved ++ retrieved_by self.old.births (returning_shown call.entry) born.now) }
         ensures handed { self.new.handed ≡ self.old.handed }
     {
         settle(

@@ -11,7 +11,7 @@ use std::alloc::AllocError;
 use trace_format::{Name, TraceArg};
 
 fn argument(names: &NamedTable, name: Option<Name>) -> Argument
-    ensures { result ≡ argument_in names.now name }
+    ensures { result ≡ argument_in names.now.names name }
 {
     match name {
         None => Argument::Null,
@@ -28,7 +28,7 @@ fn put_places(
     at: &[Option<Name>],
     places: &mut Vec<Argument>,
 ) -> Result<(), AllocError>
-    ensures { OnOk result (places.new.items ≡ map (argument_in names.now) at.now) }
+    ensures { OnOk result (places.new.items ≡ map (argument_in names.now.names) at.now) }
 {
     places.clear();
     for name in at {
@@ -70,7 +70,7 @@ pub fn put_arguments(
     args: &[TraceArg],
     all: &mut Vec<Vec<Argument>>,
 ) -> Result<(), AllocError>
-    ensures { OnOk result (args_shown all.new.items ≡ arguments_in names.now (map arg_content args.now)) }
+    ensures { OnOk result (args_shown all.new.items ≡ arguments_in names.now.names (map arg_content args.now)) }
 {
     leave_at_most(args.len(), room, all);
     add_up_to(args.len(), room, all)?;

@@ -34,7 +34,7 @@ fn put_opened(
     refusal: Option<Code>,
     chain: Option<Chain>,
 ) -> Result<(), NoMemory>
-    ensures opened { OnOk result (opened_of call.new ≡ opened_first number names.now (begin_content begin.entry) refusal) }
+    ensures opened { OnOk result (opened_of call.new ≡ opened_first number names.now.names (begin_content begin.entry) refusal) }
     ensures unheld { OnOk result (call.new.held.forms ≡ []) }
     ensures replies { OnOk result (call.new.replies.items ≡ []) }
     ensures refusal { OnOk result (call.new.refusal ≡ refusal) }
@@ -67,7 +67,7 @@ pub(crate) fn open_call(
     refusal: Option<Code>,
     chain: Option<Chain>,
 ) -> Result<Box<OpenCall>, NoMemory>
-    ensures opened { IfOk result (λ b. opened_of (box_value b) ≡ opened_first number names.now (begin_content begin.entry) refusal) }
+    ensures opened { IfOk result (λ b. opened_of (box_value b) ≡ opened_first number names.now.names (begin_content begin.entry) refusal) }
     ensures unheld { IfOk result (λ b. (box_value b).held.forms ≡ []) }
     ensures replies { IfOk result (λ b. (box_value b).replies.items ≡ []) }
     ensures refusal { IfOk result (λ b. (box_value b).refusal ≡ refusal) }

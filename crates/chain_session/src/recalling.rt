@@ -1,19 +1,15 @@
-// The open call of a begin that had entered, again.
-ghost use Rattle.std.specs.Prelude.{◌≡◌, false, slice_index_or, IfOk};
-ghost use Rattle.std.specs.Box.{box_value};
+// What the arguments of a call stand for that had entered, again.
+ghost use Rattle.std.specs.Prelude.{◌≡◌, false, map, slice_index_or, IfOk};
 ghost use Rattle.command_tables.specs.Handles.{list_at};
 ghost use Rattle.replay_model.specs.Past.{arguments_in};
 ghost use Rattle.session_tables.specs.Shown.{args_shown};
 ghost use Rattle.chain_session.specs.Leaving.{recalled, recalled_places};
-ghost use Rattle.chain_session.specs.Opened.{opened_of};
-ghost use Rattle.chain_session.specs.Opening.{begin_content, opened_read};
+ghost use Rattle.trace_format.specs.Content.{arg_content};
 
-use crate::call::OpenCall;
-use crate::opening::{Beginning, open_call};
-use crate::room::Room;
+use crate::name_table::NameTable;
 use command_tables::{HandleArgs, LayerCall, NoMemory};
 use object_model::Argument;
-use session_tables::NamedTable;
+use trace_format::TraceArg;
 
 // Whether a place is marked. One that isn't there isn't.
 #[tactic(auto, using(crate::proofs::Recalled::beyond_param, crate::proofs::Recalled::beyond_place))]
@@ -49,17 +45,17 @@ fn recall(marks: &HandleArgs<6>, args: &mut Vec<Vec<Argument>>)
     }
 }
 
-/// The open call of a begin again, by the names now and its form below the last part, whose marks say which arguments weren't born when it
-/// began. It has the number 0.
-pub(crate) fn reopen(
-    room: &mut Room,
-    names: &NamedTable,
-    begin: Beginning,
+/// What the arguments of a begin that had entered stand for, in room that is kept: by the names now, but for those that weren't born when it
+/// began, as its form below the last part marks them.
+pub(crate) fn read_again(
+    names: &mut NameTable,
+    args: &[TraceArg],
     form: &LayerCall,
-) -> Result<Box<OpenCall>, NoMemory>
-    ensures { IfOk result (λ b. opened_of (box_value b) ≡ opened_read 0 (begin_content begin.entry) (recalled form.now.args.marks (arguments_in names.now (begin_content begin.entry).args))) }
+) -> Result<Vec<Vec<Argument>>, NoMemory>
+    ensures args { IfOk result (λ v. args_shown v.items ≡ recalled form.now.args.marks (arguments_in names.old.names (map arg_content args.now))) }
+    ensures same { names.new ≡ names.old }
 {
-    let mut call = open_call(room, names, 0, begin, None, None)?;
-    recall(&form.args, &mut call.args);
-    Ok(call)
+    let mut all = names.read(args)?;
+    recall(&form.args, &mut all);
+    Ok(all)
 }

@@ -4,16 +4,16 @@ ghost use Rattle.std.specs.List.{enumerate_from};
 ghost use Rattle.object_model.specs.Keys.{key_payload};
 ghost use Rattle.object_model.specs.History.{born_in};
 ghost use Rattle.replay_model.specs.Births.{bearable, born_with, made_by, own_object, retrieved_object};
-ghost use Rattle.chain_session.specs.Opened.{opened_of};
+ghost use Rattle.chain_session.specs.Opened.{returning_shown};
 
 use crate::bearing::{bearable_results, effect_of, is_bearing};
-use crate::call::OpenCall;
+use crate::returning_call::ReturningCall;
 use crate::room::Room;
 use command_tables::{CommandId, Effect, ObjectType};
 use object_model::Object;
 use replay_model::Born;
 use session_tables::{BirthTable, ObjectTable, RetrievedKey, RetrievedTable, owner};
-use std::alloc::{AllocError, Global};
+use std::alloc::AllocError;
 use trace_format::Name;
 
 fn own(ty: ObjectType, name: Name) -> Object
@@ -27,11 +27,11 @@ fn own(ty: ObjectType, name: Name) -> Object
 
 /// The payload as far as it is part of a retrieved object's key.
 #[tactic(auto, unfolding(command_tables::specs::Tests::same_command))]
-pub(crate) fn key_of(call: &OpenCall) -> &[u8]
-    ensures { result.now ≡ key_payload call.now.cmd call.now.payload.items }
+pub(crate) fn key_of(call: ReturningCall<'_>) -> &[u8]
+    ensures { result.now ≡ key_payload call.entry.cmd call.entry.payload.now }
 {
     if call.cmd == CommandId::GetDeviceQueue {
-        &call.payload
+        call.payload
     } else {
         &[]
     }
@@ -39,39 +39,37 @@ pub(crate) fn key_of(call: &OpenCall) -> &[u8]
 
 // The object that a call retrieved before, where it has an owner.
 fn retrieved_of(
-    alloc: Global,
     table: &RetrievedTable,
-    call: &OpenCall,
+    call: ReturningCall<'_>,
     owner: Object,
     ty: ObjectType,
     place: usize,
     name: Name,
-) -> Result<Object, AllocError>
-    ensures { IfOk result (λ o. o ≡ retrieved_object table.now (opened_of call.now) (Some owner) ty place name) }
+) -> Object
+    ensures { result ≡ retrieved_object table.now.kept (returning_shown call.entry) (Some owner) ty place name }
 {
     let key = RetrievedKey {
         ty,
         owner,
         place,
-        payload: Vec::from_slice(alloc, key_of(call))?,
+        payload: key_of(call),
     };
-    Ok(table.object_with(&key).unwrap_or(own(ty, name)))
+    table.object_with(key).unwrap_or(own(ty, name))
 }
 
 fn retrieved(
-    alloc: Global,
     table: &RetrievedTable,
-    call: &OpenCall,
+    call: ReturningCall<'_>,
     owner: Option<Object>,
     ty: ObjectType,
     place: usize,
     name: Name,
-) -> Result<Object, AllocError>
-    ensures { IfOk result (λ o. o ≡ retrieved_object table.now (opened_of call.now) owner ty place name) }
+) -> Object
+    ensures { result ≡ retrieved_object table.now.kept (returning_shown call.entry) owner ty place name }
 {
     match owner {
-        None => Ok(own(ty, name)),
-        Some(owner) => retrieved_of(alloc, table, call, owner, ty, place, name),
+        None => own(ty, name),
+        Some(owner) => retrieved_of(table, call, owner, ty, place, name),
     }
 }
 
@@ -92,19 +90,19 @@ fn created_results(room: &mut Room, ty: ObjectType, names: &[Name]) -> Result<Ve
 fn retrieved_results(
     room: &mut Room,
     table: &RetrievedTable,
-    call: &OpenCall,
+    call: ReturningCall<'_>,
     owner: Option<Object>,
     ty: ObjectType,
     names: &[Name],
 ) -> Result<Vec<Born>, AllocError>
-    ensures { IfOk result (λ v. v.items ≡ map (λ (x : ℕ × Name). record { place = x.0; name = x.1; object = retrieved_object table.now (opened_of call.now) owner ty x.0 x.1 }) (enumerate_from 0 names.now)) }
+    ensures { IfOk result (λ v. v.items ≡ map (λ (x : ℕ × Name). record { place = x.0; name = x.1; object = retrieved_object table.now.kept (returning_shown call.entry) owner ty x.0 x.1 }) (enumerate_from 0 names.now)) }
 {
     let mut all = room.born.take();
     for (k, name) in names.iter().enumerate() {
         all.push(Born {
             place: k,
             name: *name,
-            object: retrieved(room.alloc, table, call, owner, ty, k, *name)?,
+            object: retrieved(table, call, owner, ty, k, *name),
         })?;
     }
     Ok(all)
@@ -116,15 +114,15 @@ fn results(
     births: &BirthTable,
     table: &RetrievedTable,
     drivers: u32,
-    call: &OpenCall,
+    call: ReturningCall<'_>,
 ) -> Result<Vec<Born>, AllocError>
-    ensures { IfOk result (λ v. v.items ≡ born_with births.now table.now (opened_of call.now) (bearable drivers (opened_of call.now))) }
+    ensures { IfOk result (λ v. v.items ≡ born_with births.now.births table.now.kept (returning_shown call.entry) (bearable drivers (returning_shown call.entry))) }
 {
     let effect = effect_of(call.cmd);
     match effect {
         Effect::Create { ty, .. } => created_results(room, ty, bearable_results(drivers, call)),
         Effect::Retrieve { ty, .. } => {
-            let owner = owner(births, &call.args, effect);
+            let owner = owner(births, call.args, effect);
             retrieved_results(
                 room,
                 table,
@@ -146,9 +144,9 @@ pub(crate) fn made(
     objects: &ObjectTable,
     table: &RetrievedTable,
     drivers: u32,
-    call: &OpenCall,
+    call: ReturningCall<'_>,
 ) -> Result<Vec<Born>, AllocError>
-    ensures { IfOk result (λ v. v.items ≡ made_by drivers objects.now (born_in objects.now) table.now (opened_of call.now)) }
+    ensures { IfOk result (λ v. v.items ≡ made_by drivers objects.now.births (born_in objects.now.births) table.now.kept (returning_shown call.entry)) }
 {
     if is_bearing(objects, call) {
         results(room, objects.births(), table, drivers, call)

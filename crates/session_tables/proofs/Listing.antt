@@ -1,21 +1,25 @@
 -- What is listed at owners, as objects are born and end.
-use Rattle.std.proofs.Common.{◌≡◌, ◌≢◌, ◌<◌, ℕ, zero, suc, Bool, true, false, not, cond, ◌&&◌, ◌||◌, Option, Some, None, List, [], ◌∷◌, ◌++◌, filter, map, length, get_or, set, ◌⊎◌, inl, inr, refl, sym, ◌∙◌, ap, subst, arith, slice_get, append-nil, append_assoc}
+use Rattle.std.proofs.Common.{◌≡◌, ◌≢◌, ◌<◌, ◌≤◌, ◌+◌, ◌-◌, ◌*◌, ℕ, zero, suc, min, Bool, true, false, not, cond, ◌&&◌, ◌||◌, Option, Some, None, List, [], ◌∷◌, ◌++◌, filter, map, length, take, get_or, set, ◌⊎◌, inl, inr, refl, sym, ◌∙◌, ap, subst, arith, slice_get, unwrap_or, append-nil, append_assoc, length-append}
 use Rattle.std.specs.Prelude.{filter_map}
 use Rattle.std.specs.List.{list_any, cons_option}
 use Rattle.std.specs.Option.{option_map, option_map_or}
-use Rattle.std.proofs.lemmas.List.{map-append}
+use Rattle.std.proofs.Math.Dec.{ltb}
+use Rattle.std.proofs.lemmas.Bool.{ltb-false, ltb-true}
+use Rattle.std.proofs.lemmas.List.{map-append, take_more}
 use Rattle.std.proofs.lemmas.List.Elements.{filter-append}
-use Rattle.std.proofs.lemmas.Option.{slice_get_read, slice_get_within}
+use Rattle.std.proofs.lemmas.Option.{slice_get-get_or, slice_get_read}
 use Rattle.object_model.specs.declared.Object.{Object}
 use Rattle.object_model.specs.declared.Argument.{Argument}
 use Rattle.object_model.specs.Objects.{same, is_in, object_of}
 use Rattle.object_model.specs.History.{Birth, births_of, born_in, created_in, ends_with, owners_in}
-use Rattle.session_tables.specs.declared.owned_list.OwnedList.{OwnedList}
+use Rattle.session_tables.specs.declared.birth_table.BirthEntry.{BirthEntry}
+use Rattle.session_tables.specs.declared.owned_lists.OwnedNode.{OwnedNode}
 use Rattle.session_tables.specs.declared.placed_table.Placed.{Placed}
 use Rattle.session_tables.specs.declared.placed_table.PlacedTable.{PlacedTable}
+use Rattle.session_tables.specs.Births.{birth_of, births_shown, owners_kept}
 use Rattle.session_tables.specs.Lined.{AreAdded, AreLeft, AreLined, IsBornAlike}
-use Rattle.session_tables.specs.Owned.{AreListed, listed_in}
-use Rattle.session_tables.specs.Placed.{AreTheirPlaces, entry_of}
+use Rattle.session_tables.specs.Owned.{LeadToNodes, AreListed, GoDown, objects_from, objects_within, head_in}
+use Rattle.session_tables.specs.Placed.{ArePlaced, AreTheirPlaces, entry_of}
 use Rattle.session_tables.proofs.Ends.{GoWithOwners, below_goes, below_left, both_true, either_goes, left_lined, left_more, left_none, none_goes, not_true, or_left, or_right, unborn_owners, unborn_uncreated, with_goes, with_left}
 use Rattle.session_tables.proofs.Objects.{list_any-append, owners_joined, same-true, same_self}
 use Rattle.session_tables.proofs.PlacedLemmas.{entry_at, found_some, no_entry, some_is}
@@ -37,32 +41,10 @@ owned_born bs o w owned = go (born_in bs o) refl
     go true h = refl
     go false h = let none : is_in [] w ≡ true = ap (λ os. is_in os w) (sym (unborn_owners bs o h)) ∙ owned in cc
 
--- ---- one list
+-- ---- the head of an owner
 
-pub kept_living : (lives : Object → Bool) (xs : List Object) (o : Object) → lives o ≡ true → is_in xs o ≡ true → is_in (filter lives xs) o ≡ true
-kept_living lives [] o born is = is
-kept_living lives (x ∷ xs) o born is = go (lives x) refl (same x o) refl is (kept_living lives xs o born)
-  where
-    go : (l : Bool) → lives x ≡ l → (s : Bool) → same x o ≡ s → (s || is_in xs o) ≡ true → (is_in xs o ≡ true → is_in (filter lives xs) o ≡ true) → is_in (cond l (x ∷ filter lives xs) (filter lives xs)) o ≡ true
-    go true k true h here rest = or_left (same x o) (is_in (filter lives xs) o) h
-    go true k false h here rest = or_right (same x o) (is_in (filter lives xs) o) (rest here)
-    go false k true h here rest = let so : lives x ≡ true = ap lives (same-true x o h) ∙ born in cc
-    go false k false h here rest = rest here
-
-pub listed_first : (xs : List Object) (x o : Object) → is_in xs o ≡ true → is_in (xs ++ x ∷ []) o ≡ true
-listed_first xs x o is = list_any-append (λ y. same y o) xs (x ∷ []) ∙ ap (λ t. t || (same x o || false)) is
-
-pub listed_last : (xs : List Object) (x : Object) → is_in (xs ++ x ∷ []) x ≡ true
-listed_last xs x = list_any-append (λ y. same y x) xs (x ∷ []) ∙ (ap (λ t. is_in xs x || (t || false)) (same_self x) ∙ or_true (is_in xs x))
-  where
-    or_true : (t : Bool) → (t || true) ≡ true
-    or_true true = refl
-    or_true false = refl
-
--- ---- the list of an owner
-
-abbrev objects_of_list : Option (Placed OwnedList) → List Object
-objects_of_list e = option_map_or (λ (l : OwnedList). l.objects.items) (option_map (λ (p : Placed OwnedList). p.value) e) []
+abbrev head_at : Option (Placed ℕ) → ℕ
+head_at e = unwrap_or (option_map (λ (p : Placed ℕ). p.value) e) 0
 
 -- an entry that is put in the place of one of the same object
 module _ {X : Type 0} (places : Object → Option ℕ) (xs : List (Placed X)) (placed : AreTheirPlaces places xs) (i : ℕ) (p : Placed X) (less : i < length xs) (here : (q : Placed X) → slice_get xs i ≡ Some q → q.object ≡ p.object) where
@@ -114,68 +96,199 @@ module _ {X : Type 0} (places : Object → Option ℕ) (xs : List (Placed X)) (p
           let apart : f.0 ≢ i = (λ e. let so : same p.object w ≡ true = ap (λ x. same x w) (sym (here q (ap (slice_get xs) (sym e) ∙ f.1))) ∙ f.2 in cc) in
           entry_at places (set xs i p) set_placed w f.0 q (got_other xs i f.0 apart ∙ f.1) f.2
 
--- what an owner's list holds in place of another
-pub listed_put : (places : Object → Option ℕ) (xs : List (Placed OwnedList)) (owner : Object) (i : ℕ) (d : Placed OwnedList) (v : OwnedList) → AreTheirPlaces places xs → i < length xs → d ≡ get_or xs i d → slice_get xs i ≡ entry_of xs owner
-    → AreTheirPlaces places (set xs i (record { object = d.object; value = v }))
-    × ((w : Object) → objects_of_list (entry_of (set xs i (record { object = d.object; value = v })) w) ≡ cond (same owner w) v.objects.items (objects_of_list (entry_of xs w)))
-    × (objects_of_list (entry_of xs owner) ≡ d.value.objects.items)
-listed_put places xs owner i d v placed less read at =
+-- another head in place of an owner's
+pub head_put : (places : Object → Option ℕ) (xs : List (Placed ℕ)) (owner : Object) (i : ℕ) (d : Placed ℕ) (v : ℕ) → AreTheirPlaces places xs → i < length xs → d ≡ get_or xs i d → slice_get xs i ≡ entry_of xs owner
+    → AreTheirPlaces places (set xs i (record { object = d.object; value = v })) × ((w : Object) → head_at (entry_of (set xs i (record { object = d.object; value = v })) w) ≡ cond (same owner w) v (head_at (entry_of xs w)))
+head_put places xs owner i d v placed less read at =
     let there : slice_get xs i ≡ Some d = slice_get_read xs (length xs) i d refl less read in
-    let mine : entry_of xs owner ≡ Some d = sym at ∙ there in
-    let is : d.object ≡ owner = same-true d.object owner (found_some (λ (q : Placed OwnedList). same q.object owner) xs d mine).2 in
-    let p : Placed OwnedList = record { object = d.object; value = v } in
-    let here = λ (q : Placed OwnedList) (h : slice_get xs i ≡ Some q). ap (λ (x : Placed OwnedList). x.object) (some_is q d (sym h ∙ there)) in (
+    let is : d.object ≡ owner = same-true d.object owner (found_some (λ (q : Placed ℕ). same q.object owner) xs d (sym at ∙ there)).2 in
+    let p : Placed ℕ = record { object = d.object; value = v } in
+    let here = λ (q : Placed ℕ) (h : slice_get xs i ≡ Some q). ap (λ (x : Placed ℕ). x.object) (some_is q d (sym h ∙ there)) in (
       set_placed places xs placed i p less here,
-      (λ w. ap objects_of_list (set_entry places xs placed i p less here w) ∙ (ap (λ o. objects_of_list (cond (same o w) (Some p) (entry_of xs w))) is ∙ go (same owner w) v (entry_of xs w) p refl)),
-      ap objects_of_list mine,
+      (λ w. ap head_at (set_entry places xs placed i p less here w) ∙ (ap (λ o. head_at (cond (same o w) (Some p) (entry_of xs w))) is ∙ go (same owner w) (entry_of xs w) p v refl)),
     )
   where
-    go : (t : Bool) (u : OwnedList) (e : Option (Placed OwnedList)) (p : Placed OwnedList) → p.value ≡ u → objects_of_list (cond t (Some p) e) ≡ cond t u.objects.items (objects_of_list e)
-    go true u e p h = ap (λ (l : OwnedList). l.objects.items) h
-    go false u e p h = refl
+    go : (t : Bool) (e : Option (Placed ℕ)) (p : Placed ℕ) (u : ℕ) → p.value ≡ u → head_at (cond t (Some p) e) ≡ cond t u (head_at e)
+    go true e p u h = h
+    go false e p u h = refl
 
--- so what lives stays listed there and elsewhere
-pub put_stays : (f : Object → List Object) (ds vs there : List Object) (owner w o : Object) → there ≡ cond (same owner w) vs (f w) → f owner ≡ ds → (is_in ds o ≡ true → is_in vs o ≡ true) → is_in (f w) o ≡ true → is_in there o ≡ true
-put_stays f ds vs there owner w o put was stays is = ap (λ xs. is_in xs o) put ∙ go (same owner w) refl
+-- and one for an owner that has none
+abbrev or_other : Option (Placed ℕ) → Option (Placed ℕ) → Option (Placed ℕ)
+or_other None other = other
+or_other (Some p) other = Some p
+
+entry_behind : (xs : List (Placed ℕ)) (e : Placed ℕ) (w : Object) → entry_of (xs ++ e ∷ []) w ≡ or_other (entry_of xs w) (cond (same e.object w) (Some e) None)
+entry_behind [] e w = refl
+entry_behind (x ∷ xs) e w = go (same x.object w) (entry_behind xs e w)
   where
-    go : (t : Bool) → same owner w ≡ t → is_in (cond t vs (f w)) o ≡ true
-    go true h = stays (ap (λ xs. is_in xs o) (sym was ∙ ap f (same-true owner w h)) ∙ is)
-    go false h = is
+    go : (t : Bool) → entry_of (xs ++ e ∷ []) w ≡ or_other (entry_of xs w) (cond (same e.object w) (Some e) None)
+        → cond t (Some x) (entry_of (xs ++ e ∷ []) w) ≡ or_other (cond t (Some x) (entry_of xs w)) (cond (same e.object w) (Some e) None)
+    go true ih = refl
+    go false ih = ih
 
--- a list that is opened is empty
+pub head_opened : (xs ys : List (Placed ℕ)) (e : Placed ℕ) (w : Object) → entry_of xs e.object ≡ None → ys ≡ xs ++ e ∷ [] → head_at (entry_of ys w) ≡ cond (same e.object w) e.value (head_at (entry_of xs w))
+head_opened xs ys e w none is = ap (λ (es : List (Placed ℕ)). head_at (entry_of es w)) is ∙ (ap head_at (entry_behind xs e w) ∙ go (entry_of xs w) refl (same e.object w) refl)
+  where
+    go : (o : Option (Placed ℕ)) → entry_of xs w ≡ o → (t : Bool) → same e.object w ≡ t → head_at (or_other o (cond t (Some e) None)) ≡ cond t e.value (head_at o)
+    go None at true h = refl
+    go None at false h = refl
+    go (Some p) at false h = refl
+    go (Some p) at true h = let gone : entry_of xs w ≡ None = ap (entry_of xs) (sym (same-true e.object w h)) ∙ none in cc
+
+-- one owner more at which an object is listed
+pub listed_more : (f g : Object → List Object) (before : Bool) (owner object w : Object) → (before ≡ true → is_in (f w) object ≡ true) → (is_in (f w) object ≡ true → is_in (g w) object ≡ true) → is_in (g owner) object ≡ true
+    → (before || same owner w) ≡ true → is_in (g w) object ≡ true
+listed_more f g before owner object w was stays there is = go before refl (same owner w) refl is
+  where
+    go : (b : Bool) → before ≡ b → (t : Bool) → same owner w ≡ t → (b || t) ≡ true → is_in (g w) object ≡ true
+    go true k t h e = stays (was k)
+    go false k true h e = ap (λ y. is_in (g y) object) (sym (same-true owner w h)) ∙ there
+    go false k false h e = cc e
+
+-- ---- chains of nodes
+
+got_before : {X : Type 0} (xs : List X) (e : X) (i : ℕ) → i < length xs → slice_get (xs ++ e ∷ []) i ≡ slice_get xs i
+got_before [] e i less = absurd (omega (arith, less))
+got_before (x ∷ xs) e zero less = refl
+got_before (x ∷ xs) e (suc i) less = got_before xs e i (omega (arith, less))
+
 got_last : {X : Type 0} (xs : List X) (e : X) → slice_get (xs ++ e ∷ []) (length xs) ≡ Some e
 got_last [] e = refl
 got_last (x ∷ xs) e = got_last xs e
 
-pub opened_at : {X : Type 0} (places : Object → Option ℕ) (xs ys : List (Placed X)) (e : Placed X) (n : ℕ) → AreTheirPlaces places ys → ys ≡ xs ++ e ∷ [] → n ≡ length xs → (n < length ys) × (slice_get ys n ≡ entry_of ys e.object)
-opened_at places xs ys e n placed is at =
-    let there : slice_get ys n ≡ Some e = ap (λ zs. slice_get zs n) is ∙ (ap (slice_get (xs ++ e ∷ [])) at ∙ got_last xs e) in (slice_get_within ys n e there, there ∙ sym (entry_at places ys placed e.object n e there (same_self e.object)))
-
-pub opened_listed : (xs ys : List (Placed OwnedList)) (e : Placed OwnedList) (w : Object) → ys ≡ xs ++ e ∷ [] → e.value.objects.items ≡ [] → objects_of_list (entry_of ys w) ≡ objects_of_list (entry_of xs w)
-opened_listed xs ys e w is none = ap (λ (zs : List (Placed OwnedList)). objects_of_list (entry_of zs w)) is ∙ go xs
+got_more : (xs : List OwnedNode) (e : OwnedNode) (j : ℕ) (q : OwnedNode) → slice_get (xs ++ e ∷ []) j ≡ Some q → (slice_get xs j ≡ Some q) ⊎ ((j ≡ length xs) × (q ≡ e))
+got_more [] e zero q at = inr (refl, sym (some_is e q at))
+got_more [] e (suc j) q at = cc at
+got_more (x ∷ xs) e zero q at = inl at
+got_more (x ∷ xs) e (suc j) q at = go (got_more xs e j q at)
   where
-    end : (t : Bool) → objects_of_list (cond t (Some e) None) ≡ []
-    end true = none
-    end false = refl
+    go : (slice_get xs j ≡ Some q) ⊎ ((j ≡ length xs) × (q ≡ e)) → (slice_get xs j ≡ Some q) ⊎ ((suc j ≡ length (x ∷ xs)) × (q ≡ e))
+    go (inl h) = inl h
+    go (inr h) = inr (omega (arith, h.0), h.1)
 
-    by : (x : Placed OwnedList) (zs : List (Placed OwnedList)) (t : Bool) → objects_of_list (entry_of (zs ++ e ∷ []) w) ≡ objects_of_list (entry_of zs w)
-        → objects_of_list (cond t (Some x) (entry_of (zs ++ e ∷ []) w)) ≡ objects_of_list (cond t (Some x) (entry_of zs w))
-    by x zs true ih = refl
-    by x zs false ih = ih
+-- what a chain holds from a node on
+abbrev from_node : (ℕ → List Object) → Option OwnedNode → List Object
+from_node rest n = option_map_or (λ (x : OwnedNode). x.object ∷ rest x.before) n []
 
-    go : (zs : List (Placed OwnedList)) → objects_of_list (entry_of (zs ++ e ∷ []) w) ≡ objects_of_list (entry_of zs w)
-    go [] = end (same e.object w)
-    go (x ∷ zs) = by x zs (same x.object w) (go zs)
-
--- one owner more at which an object is listed
-pub listed_more : (f g : Object → List Object) (before : Bool) (owner object w : Object) → (before ≡ true → is_in (f w) object ≡ true) → (same owner w ≡ false → g w ≡ f w) → is_in (g owner) object ≡ true
-    → (before || same owner w) ≡ true → is_in (g w) object ≡ true
-listed_more f g before owner object w was others there is = go (same owner w) refl before refl
+-- a chain is no longer than its link says
+chain_enough : (nodes : List OwnedNode) → GoDown nodes → (m n link : ℕ) → link ≤ m → link ≤ n → objects_within nodes m link ≡ objects_within nodes n link
+chain_enough nodes down zero zero link a b = refl
+chain_enough nodes down zero (suc n) zero a b = refl
+chain_enough nodes down zero (suc n) (suc place) a b = absurd (omega (arith, a))
+chain_enough nodes down (suc m) zero zero a b = refl
+chain_enough nodes down (suc m) zero (suc place) a b = absurd (omega (arith, b))
+chain_enough nodes down (suc m) (suc n) zero a b = refl
+chain_enough nodes down (suc m) (suc n) (suc place) a b = go (λ l c d. chain_enough nodes down m n l c d) (slice_get nodes place) refl
   where
-    go : (t : Bool) → same owner w ≡ t → (b : Bool) → before ≡ b → is_in (g w) object ≡ true
-    go true h b k = ap (λ y. is_in (g y) object) (sym (same-true owner w h)) ∙ there
-    go false h true k = ap (λ xs. is_in xs object) (others h) ∙ was k
-    go false h false k = let none : (before || same owner w) ≡ false = ap (λ t. before || t) h ∙ (ap (λ t. t || false) k) in cc
+    go : ((l : ℕ) → l ≤ m → l ≤ n → objects_within nodes m l ≡ objects_within nodes n l) → (e : Option OwnedNode) → slice_get nodes place ≡ e → from_node (objects_within nodes m) e ≡ from_node (objects_within nodes n) e
+    go ih None is = refl
+    go ih (Some x) is = let low : x.before ≤ place = down place x is in ap (λ (xs : List Object). x.object ∷ xs) (ih x.before (omega (arith, a, low)) (omega (arith, b, low)))
+
+-- a node behind leaves chains as they are
+chain_behind : (nodes : List OwnedNode) (e : OwnedNode) → GoDown nodes → (m link : ℕ) → link ≤ length nodes → objects_within (nodes ++ e ∷ []) m link ≡ objects_within nodes m link
+chain_behind nodes e down zero link a = refl
+chain_behind nodes e down (suc m) zero a = refl
+chain_behind nodes e down (suc m) (suc place) a =
+    ap (from_node (objects_within (nodes ++ e ∷ []) m)) (got_before nodes e place (omega (arith, a))) ∙ go (λ l c. chain_behind nodes e down m l c) (slice_get nodes place) refl
+  where
+    go : ((l : ℕ) → l ≤ length nodes → objects_within (nodes ++ e ∷ []) m l ≡ objects_within nodes m l) → (o : Option OwnedNode) → slice_get nodes place ≡ o → from_node (objects_within (nodes ++ e ∷ []) m) o ≡ from_node (objects_within nodes m) o
+    go ih None is = refl
+    go ih (Some x) is = let low : x.before ≤ place = down place x is in ap (λ (xs : List Object). x.object ∷ xs) (ih x.before (omega (arith, a, low)))
+
+-- a chain from it begins with it
+chain_new : (nodes : List OwnedNode) (e : OwnedNode) → GoDown nodes → e.before ≤ length nodes → objects_from (nodes ++ e ∷ []) (suc (length nodes)) ≡ e.object ∷ objects_from nodes e.before
+chain_new nodes e down within =
+    ap (from_node (objects_within (nodes ++ e ∷ []) (length nodes))) (got_last nodes e)
+    ∙ ap (λ (xs : List Object). e.object ∷ xs) (chain_behind nodes e down (length nodes) e.before within ∙ chain_enough nodes down (length nodes) e.before e.before within (omega arith))
+
+-- links go down still
+down_more : (nodes : List OwnedNode) (e : OwnedNode) → GoDown nodes → e.before ≤ length nodes → GoDown (nodes ++ e ∷ [])
+down_more nodes e down within i n at = go (got_more nodes e i n at)
+  where
+    go : (slice_get nodes i ≡ Some n) ⊎ ((i ≡ length nodes) × (n ≡ e)) → n.before ≤ i
+    go (inl here) = down i n here
+    go (inr here) = subst (λ (k : ℕ). n.before ≤ k) (sym here.0) (subst (λ (x : OwnedNode). x.before ≤ length nodes) (sym here.1) within)
+
+-- the chain from a link: its node's object, and the chain from the link before
+pub chain_next : (nodes : List OwnedNode) (link : ℕ) (d : OwnedNode) → GoDown nodes → 0 < link → link ≤ length nodes
+    → (objects_from nodes link ≡ (get_or nodes (link - 1) d).object ∷ objects_from nodes (get_or nodes (link - 1) d).before) × ((get_or nodes (link - 1) d).before < link)
+chain_next nodes zero d down some within = absurd (omega (arith, some))
+chain_next nodes (suc place) d down some within =
+    let here : suc place - 1 ≡ place = omega arith in
+    let x : OwnedNode = get_or nodes (suc place - 1) d in
+    let there : slice_get nodes place ≡ Some x = ap (slice_get nodes) (sym here) ∙ slice_get-get_or nodes (suc place - 1) d (omega (arith, within)) in
+    let low : x.before ≤ place = down place x there in
+    (ap (from_node (objects_within nodes place)) there ∙ ap (λ (xs : List Object). x.object ∷ xs) (chain_enough nodes down place x.before x.before low (omega arith)), omega (arith, low))
+
+-- no nodes
+pub chained_none : (heads : PlacedTable ℕ) (nodes : List OwnedNode) → ArePlaced heads → heads.entries.items ≡ [] → nodes ≡ [] → LeadToNodes heads nodes
+chained_none heads nodes placed none empty = record {
+  placed = placed;
+  down = λ i n at. let gone : slice_get [] i ≡ Some n = ap (λ (ns : List OwnedNode). slice_get ns i) (sym empty) ∙ at in cc;
+  within = λ w. let first : head_in heads w ≡ 0 = ap (λ (es : List (Placed ℕ)). head_at (entry_of es w)) none in omega (arith, first);
+}
+
+-- a node behind that is no owner's
+pub chained_stray : (heads after : PlacedTable ℕ) (nodes news : List OwnedNode) (e : OwnedNode) → LeadToNodes heads nodes → ArePlaced after → news ≡ nodes ++ e ∷ [] → e.before ≤ length nodes → ((w : Object) → head_in after w ≡ head_in heads w)
+    → LeadToNodes after news × ((w : Object) → objects_from news (head_in after w) ≡ objects_from nodes (head_in heads w))
+chained_stray heads after nodes news e chained placed is within heads_stay = (
+  subst (LeadToNodes after) (sym is) (record {
+    placed = placed;
+    down = down_more nodes e chained.down within;
+    within = λ w. let few : head_in heads w ≤ length nodes = chained.within w in let stays : head_in after w ≡ head_in heads w = heads_stay w in omega (arith, few, stays, length-append nodes (e ∷ []));
+  }),
+  (λ w. ap (λ (ns : List OwnedNode). objects_from ns (head_in after w)) is ∙ (ap (objects_from (nodes ++ e ∷ [])) (heads_stay w) ∙ chain_behind nodes e chained.down (head_in heads w) (head_in heads w) (chained.within w))),
+)
+
+-- and one that is an owner's latest
+pub chained_more : (heads after : PlacedTable ℕ) (nodes news : List OwnedNode) (e : OwnedNode) (owner : Object) (link : ℕ) → LeadToNodes heads nodes → ArePlaced after → news ≡ nodes ++ e ∷ [] → e.before ≡ head_in heads owner → link ≡ length nodes + 1
+    → ((w : Object) → head_in after w ≡ cond (same owner w) link (head_in heads w))
+    → LeadToNodes after news × ((w : Object) → objects_from news (head_in after w) ≡ cond (same owner w) (e.object ∷ objects_from nodes (head_in heads owner)) (objects_from nodes (head_in heads w)))
+chained_more heads after nodes news e owner link chained placed is before at put = (
+  subst (LeadToNodes after) (sym is) (record { placed = placed; down = down_more nodes e chained.down low; within = λ w. subst (λ (k : ℕ). k ≤ length (nodes ++ e ∷ [])) (sym (put w)) (few w (same owner w)) }),
+  (λ w. ap (λ (ns : List OwnedNode). objects_from ns (head_in after w)) is ∙ (ap (objects_from (nodes ++ e ∷ [])) (put w) ∙ go w (same owner w))),
+)
+  where
+    low : e.before ≤ length nodes
+    low = subst (λ (k : ℕ). k ≤ length nodes) (sym before) (chained.within owner)
+
+    few : (w : Object) (t : Bool) → cond t link (head_in heads w) ≤ length (nodes ++ e ∷ [])
+    few w true = omega (arith, at, length-append nodes (e ∷ []))
+    few w false = let one : head_in heads w ≤ length nodes = chained.within w in omega (arith, one, length-append nodes (e ∷ []))
+
+    first : objects_from (nodes ++ e ∷ []) link ≡ e.object ∷ objects_from nodes (head_in heads owner)
+    first =
+        let one : link ≡ suc (length nodes) = omega (arith, at) in
+        ap (objects_from (nodes ++ e ∷ [])) one ∙ (chain_new nodes e chained.down low ∙ ap (λ (k : ℕ). e.object ∷ objects_from nodes k) before)
+
+    go : (w : Object) (t : Bool) → objects_from (nodes ++ e ∷ []) (cond t link (head_in heads w)) ≡ cond t (e.object ∷ objects_from nodes (head_in heads owner)) (objects_from nodes (head_in heads w))
+    go w true = first
+    go w false = chain_behind nodes e chained.down (head_in heads w) (head_in heads w) (chained.within w)
+
+-- fewer heads
+pub chained_fewer : (heads after : PlacedTable ℕ) (nodes : List OwnedNode) → LeadToNodes heads nodes → ArePlaced after → ((w : Object) → head_in after w ≤ head_in heads w) → LeadToNodes after nodes
+chained_fewer heads after nodes chained placed fewer = record {
+  placed = placed;
+  down = chained.down;
+  within = λ w. let few : head_in heads w ≤ length nodes = chained.within w in let less : head_in after w ≤ head_in heads w = fewer w in omega (arith, few, less);
+}
+
+-- so what is listed stays, and the object is listed at the owner
+pub put_stays : (f g : Object → List Object) (owner x : Object) → ((w : Object) → g w ≡ cond (same owner w) (x ∷ f owner) (f w)) → ((w o : Object) → is_in (f w) o ≡ true → is_in (g w) o ≡ true) × (is_in (g owner) x ≡ true)
+put_stays f g owner x put = (
+  (λ w o is. ap (λ xs. is_in xs o) (put w) ∙ go w o (same owner w) refl is),
+  ap (λ xs. is_in xs x) (put owner ∙ ap (λ t. cond t (x ∷ f owner) (f owner)) (same_self owner)) ∙ or_left (same x x) (is_in (f owner) x) (same_self x),
+)
+  where
+    go : (w o : Object) (t : Bool) → same owner w ≡ t → is_in (f w) o ≡ true → is_in (cond t (x ∷ f owner) (f w)) o ≡ true
+    go w o true h is = or_right (same x o) (is_in (f owner) o) (ap (λ y. is_in (f y) o) (same-true owner w h) ∙ is)
+    go w o false h is = is
+
+-- ---- a walk through a chain: of what was passed, all has ended that the named object owns
+pub record AreWalked (before after : List Birth) (chain rest : List Object) (named : Object) : Type 0 where
+  pub done : List Object
+  pub all : done ++ rest ≡ chain
+  pub left : AreLeft before (λ o. is_in done o && is_in (owners_in before o) named) after
 
 -- ---- ends
 
@@ -211,9 +324,16 @@ left_unowned before x named apart = left_all before (λ o. same x o && is_in (ow
     go o true h = ap (λ y. is_in (owners_in before y) named) (sym (same-true x o h)) ∙ apart
     go o false h = refl
 
--- the lists of others stay
-pub others_stay : (lists after : PlacedTable OwnedList) (x : Object) → ((w : Object) → entry_of after.entries.items w ≡ cond (same x w) None (entry_of lists.entries.items w)) → (w : Object) → same x w ≡ false → listed_in after w ≡ listed_in lists w
-others_stay lists after x left w apart = ap objects_of_list (left w ∙ ap (λ t. cond t None (entry_of lists.entries.items w)) apart)
+-- the heads of others stay, and no head is greater
+pub others_stay : (heads after : PlacedTable ℕ) (x : Object) → ((w : Object) → entry_of after.entries.items w ≡ cond (same x w) None (entry_of heads.entries.items w)) → (w : Object) → same x w ≡ false → head_in after w ≡ head_in heads w
+others_stay heads after x left w apart = ap head_at (left w ∙ ap (λ t. cond t None (entry_of heads.entries.items w)) apart)
+
+pub heads_fewer : (heads after : PlacedTable ℕ) (x : Object) → ((w : Object) → entry_of after.entries.items w ≡ cond (same x w) None (entry_of heads.entries.items w)) → (w : Object) → head_in after w ≤ head_in heads w
+heads_fewer heads after x left w = subst (λ (k : ℕ). k ≤ head_in heads w) (sym (ap head_at (left w))) (go (same x w))
+  where
+    go : (t : Bool) → head_at (cond t None (entry_of heads.entries.items w)) ≤ head_in heads w
+    go true = omega arith
+    go false = omega arith
 
 pub owned_apart : (bs : List Birth) (x named w : Object) → is_in (owners_in bs x) named ≡ true → (same x w && is_in (owners_in bs w) named) ≡ false → same x w ≡ false
 owned_apart bs x named w owned apart = go (same x w) refl
@@ -240,6 +360,29 @@ each_more before mid after a x named first then =
     go true true false = refl
     go true false false = refl
     go false s o = refl
+
+pub walk_begun : (bs : List Birth) (chain : List Object) (named : Object) → AreWalked bs bs chain chain named
+walk_begun bs chain named = record { done = []; all = refl; left = left_all bs (λ o. is_in [] o && is_in (owners_in bs o) named) (λ o. refl) }
+
+pub walk_more : (before mid after : List Birth) (chain from rest : List Object) (x named : Object) → AreWalked before mid chain from named → from ≡ x ∷ rest → AreLeft mid (λ o. same x o && is_in (owners_in mid o) named) after
+    → AreWalked before after chain rest named
+walk_more before mid after chain from rest x named walked is then =
+    let done = walked.done in
+    record {
+      done = done ++ x ∷ [];
+      all = append_assoc done (x ∷ []) rest ∙ (ap (λ (xs : List Object). done ++ xs) (sym is) ∙ walked.all);
+      left = left_test before after (λ o. (is_in done o || same x o) && is_in (owners_in before o) named) (λ o. is_in (done ++ x ∷ []) o && is_in (owners_in before o) named)
+          (λ o. ap (λ t. t && is_in (owners_in before o) named) (ap (λ t. is_in done o || t) (or_none (same x o)) ∙ sym (list_any-append (λ y. same y o) done (x ∷ [])))) (each_more before mid after (is_in done) x named walked.left then);
+    }
+  where
+    or_none : (t : Bool) → t ≡ (t || false)
+    or_none true = refl
+    or_none false = refl
+
+pub walk_ended : (before after : List Birth) (chain rest : List Object) (named : Object) → AreWalked before after chain rest named → rest ≡ [] → AreLeft before (λ o. is_in chain o && is_in (owners_in before o) named) after
+walk_ended before after chain rest named walked none =
+    left_test before after (λ o. is_in walked.done o && is_in (owners_in before o) named) (λ o. is_in chain o && is_in (owners_in before o) named)
+    (λ o. ap (λ xs. is_in xs o && is_in (owners_in before o) named) (sym (append-nil walked.done) ∙ (ap (λ (xs : List Object). walked.done ++ xs) (sym none) ∙ walked.all))) walked.left
 
 -- all ends that the named object owns, where its list was gone through
 pub left_below : (bs after : List Birth) (listed : Object → List Object) (objects : List Object) (named : Object) → AreListed bs listed → listed named ≡ objects
@@ -366,22 +509,30 @@ below_more before mid after xs a lined left then =
 
 -- ---- births
 
--- what lives stays listed
-pub listed_still : (bs : List Birth) (f g : Object → List Object) → AreListed bs f → ((w o : Object) → born_in bs o ≡ true → is_in (f w) o ≡ true → is_in (g w) o ≡ true) → AreListed bs g
-listed_still bs f g all stays w o owned = stays w o (owned_born bs o w owned) (all w o owned)
+-- what an owner owns stays listed
+pub listed_still : (bs : List Birth) (f g : Object → List Object) → AreListed bs f → ((w o : Object) → is_in (owners_in bs o) w ≡ true → is_in (f w) o ≡ true → is_in (g w) o ≡ true) → AreListed bs g
+listed_still bs f g all stays w o owned = stays w o owned (all w o owned)
 
 -- an object that is born is listed at its owners
-pub listed_new : (bs : List Birth) (f g : Object → List Object) (b : Birth) → AreListed bs f → ((w o : Object) → born_in bs o ≡ true → is_in (f w) o ≡ true → is_in (g w) o ≡ true)
+pub listed_new : (bs : List Birth) (f g : Object → List Object) (b : Birth) → AreListed bs f → ((w o : Object) → is_in (owners_in bs o) w ≡ true → is_in (f w) o ≡ true → is_in (g w) o ≡ true)
     → ((w : Object) → is_in b.owners w ≡ true → is_in (g w) b.object ≡ true) → AreListed (bs ++ b ∷ []) g
 listed_new bs f g b all stays own w o owned = go (born_in bs o) refl (ap (λ os. is_in os w) (sym (owners_joined bs (b ∷ []) o)) ∙ owned)
   where
     go : (t : Bool) → born_in bs o ≡ t → is_in (cond t (owners_in bs o) (owners_in (b ∷ []) o)) w ≡ true → is_in (g w) o ≡ true
-    go true h k = stays w o h (all w o k)
+    go true h k = stays w o k (all w o k)
     go false h k = by (same b.object o) refl k
       where
         by : (s : Bool) → same b.object o ≡ s → is_in (option_map_or (λ (x : Birth). x.owners) (cond s (Some b) None) []) w ≡ true → is_in (g w) o ≡ true
         by true e j = ap (is_in (g w)) (sym (same-true b.object o e)) ∙ own w j
         by false e j = cc j
+
+-- one birth more of those that are listed again
+pub relisted_more : (births : List (Placed BirthEntry)) (i : ℕ) (p : Placed BirthEntry) (owners : List Object) (f g : Object → List Object) → AreListed (births_shown (take i births)) f → i < length births → p ≡ get_or births i p → owners ≡ owners_kept p.value.owners
+    → ((w o : Object) → is_in (f w) o ≡ true → is_in (g w) o ≡ true) → ((w : Object) → is_in owners w ≡ true → is_in (g w) p.object ≡ true) → AreListed (births_shown (take (i + 1) births)) g
+relisted_more births i p owners f g all less is from stays own =
+    subst (λ (bs : List Birth). AreListed bs g)
+    (sym (ap births_shown (take_more births i p less) ∙ (map-append birth_of (take i births) (get_or births i p ∷ []) ∙ ap (λ (q : Placed BirthEntry). births_shown (take i births) ++ birth_of q ∷ []) (sym is))))
+    (listed_new (births_shown (take i births)) f g (birth_of p) all (λ w o owned there. stays w o there) (λ w owned. own w (ap (λ os. is_in os w) from ∙ owned)))
 
 -- ---- births of one call
 
@@ -522,3 +673,94 @@ added_one before mid after created owners objects o added is = subst (λ (bs : L
         alike_added before (given ++ mk o ∷ []) (mid ++ mk o ∷ []) (λ x.
         subst (λ (bs : List Birth). (born_in (mid ++ mk o ∷ []) x ≡ born_in bs x) × IsBornAlike (mid ++ mk o ∷ []) bs x) (append_assoc before given (mk o ∷ []))
         (alike_more mid (before ++ given) (mk o) x (added_alike before given mid added x)))
+
+-- ---- room for further nodes, by the capacity, the length and the room for heads
+
+pub same_room : (room : ℕ) → room ≤ room
+same_room room = omega arith
+
+pub one_more : (room : ℕ) → room ≤ room + 1
+one_more room = omega arith
+
+pub at_least : (room n : ℕ) → room ≤ room + n
+at_least room n = omega arith
+
+-- a node more, and one that could not be added
+pub room_more : (cap more len now heads after : ℕ) → cap ≤ more → now ≡ len + 1 → heads ≤ after + 1 → min (min cap 4294967295 - len) heads ≤ min (min more 4294967295 - now) after + 1
+room_more cap more len now heads after grown longer fewer = omega arith
+
+pub room_still : (cap more len now heads : ℕ) → cap ≤ more → now ≡ len → min (min cap 4294967295 - len) heads ≤ min (min more 4294967295 - now) heads + 1
+room_still cap more len now heads grown as_long = omega arith
+
+-- where there is room, a node and a head can be added
+pub room_there : (cap len heads : ℕ) → 1 ≤ min (min cap 4294967295 - len) heads → (len < 4294967295) × (len < cap) × (1 ≤ heads)
+room_there cap len heads some = (omega (arith, some), omega (arith, some), omega (arith, some))
+
+-- where there is too little for nodes, there is too little
+pub room_short : (nodes heads room n : ℕ) → room ≡ nodes → room < n → min nodes heads < n
+room_short nodes heads room n is short = omega arith
+
+pub room_heads : (nodes heads after : ℕ) → heads ≤ after → min nodes heads ≤ min nodes after
+room_heads nodes heads after fewer = omega arith
+
+-- an entry with another link takes none
+pub set_room : (cap len now places : ℕ) → now ≡ len → min (min cap 4294967296 - len) places ≤ min (min cap 4294967296 - now) places + 1
+set_room cap len now places as_long = omega arith
+
+-- room that is made
+pub room_made : (cap more len now heads after : ℕ) → now ≡ len → cap ≤ more → heads ≤ after → min (min cap 4294967295 - len) heads ≤ min (min more 4294967295 - now) after
+room_made cap more len now heads after as_long grown fewer = omega arith
+
+pub room_new : (n more now after : ℕ) → now + n ≤ more → n ≤ 4294967295 - now → n ≤ after → n ≤ min (min more 4294967295 - now) after
+room_new n more now after there few heads = omega arith
+
+-- it leaves lists as they are
+pub listed_same : (heads after : PlacedTable ℕ) (nodes news : List OwnedNode) → after.entries.items ≡ heads.entries.items → news ≡ nodes → (w : Object) → objects_from news (head_in after w) ≡ objects_from nodes (head_in heads w)
+listed_same heads after nodes news kept is w = ap (λ (ns : List OwnedNode). objects_from ns (head_in after w)) is ∙ ap (λ (es : List (Placed ℕ)). objects_from nodes (head_at (entry_of es w))) kept
+
+pub chained_same : (heads after : PlacedTable ℕ) (nodes news : List OwnedNode) → LeadToNodes heads nodes → ArePlaced after → after.entries.items ≡ heads.entries.items → news ≡ nodes → LeadToNodes after news
+chained_same heads after nodes news chained placed kept is = subst (LeadToNodes after) (sym is) (record {
+  placed = placed;
+  down = chained.down;
+  within = λ w. subst (λ (k : ℕ). k ≤ length nodes) (ap (λ (es : List (Placed ℕ)). head_at (entry_of es w)) (sym kept)) (chained.within w);
+})
+
+-- ---- room that one owner after another takes
+
+pub none_listed : (all : ℕ) → all ≤ all + 0
+none_listed all = omega arith
+
+pub left_more_room : (all left now i : ℕ) → all ≤ left + i → left ≤ now + 1 → all ≤ now + (i + 1)
+left_more_room all left now i before step = omega arith
+
+pub all_listed : (all left i count : ℕ) → i ≤ count → all ≤ left + i → all ≤ left + count
+all_listed all left i count few before = omega arith
+
+-- nothing is made anew where there is room
+pub both_steps : (all mid left n : ℕ) → (n ≤ all → mid ≡ all) → mid ≤ left + n → all ≤ left + n
+both_steps all mid left n stays step = go (ltb all n) refl
+  where
+    go : (b : Bool) → ltb all n ≡ b → all ≤ left + n
+    go true less = let few : all < n = ltb-true all n less in omega (arith, few)
+    go false more = let same : mid ≡ all = stays (ltb-false all n more) in omega (arith, same, step)
+
+pub made_room : (all n now : ℕ) → all < n → n ≤ now → all ≤ now
+made_room all n now short there = omega arith
+
+-- ---- room that the births of one call take: so many links for each
+
+pub three_more : (all left now owners i : ℕ) → owners ≤ 3 → all ≤ left + 3 * i → left ≤ now + owners → all ≤ now + 3 * (i + 1)
+three_more all left now owners i few before step = omega arith
+
+pub enough_left : (all left i count : ℕ) → i < count → count ≤ all → all ≤ left + i → 1 ≤ left
+enough_left all left i count less enough before = omega arith
+
+pub no_more_links : (all left owners i count : ℕ) → owners ≤ 3 → i < count → 3 * count ≤ all → all ≤ left + 3 * i → owners ≤ left
+no_more_links all left owners i count few less enough before = omega arith
+
+-- what has an error hasn't succeeded
+pub never : {P : Type 0} → false ≡ true → P
+never e = absurd (none e)
+  where
+    none : false ≡ true → ⊥
+    none f = cc f

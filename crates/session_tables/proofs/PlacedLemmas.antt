@@ -154,6 +154,14 @@ module _ {X : Type 0} (places : Object → Option ℕ) (entries : List (Placed X
               let so : list_any (λ (q : Placed X). same q.object o && t q) entries ≡ true =
               any_at (λ (q : Placed X). same q.object o && t q) entries f.0 p f.1 (ap (λ b. b && t p) f.2 ∙ h) in cc
 
+-- where the places stay
+pub placed_same : {X : Type 0} (places after : Object → Option ℕ) (xs ys : List (Placed X)) → AreTheirPlaces places xs → ys ≡ xs → ((o : Object) → after o ≡ places o) → AreTheirPlaces after ys
+placed_same {X = X} places after xs ys placed one same i p at = same p.object ∙ placed i p (ap (λ (zs : List (Placed X)). slice_get zs i) (sym one) ∙ at)
+
+-- where there is no entry
+pub placed_none : {X : Type 0} (places : Object → Option ℕ) (xs : List (Placed X)) → xs ≡ [] → AreTheirPlaces places xs
+placed_none {X = X} places xs none i p at = let no : None ≡ Some p = ap (λ (zs : List (Placed X)). slice_get zs i) (sym none) ∙ at in cc no
+
 -- ---- one taken out, and the last in its place
 
 module _ {X : Type 0} (xs ys : List X) (i : ℕ) (less : i < length xs) (len : length ys + 1 ≡ length xs) (moved : (d : X) → i + 1 < length xs → get_or ys i d ≡ get_or xs (length xs - 1) d)

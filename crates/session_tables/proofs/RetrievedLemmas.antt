@@ -1,189 +1,278 @@
--- Retrieved objects by their keys, with one more.
-use Rattle.std.proofs.Common.{◌≡◌, ℕ, suc, ◌&&◌, ◌==◌, Bool, true, false, cond, length, Option, Some, None, List, [], ◌∷◌, ◌++◌, refl, sym, ap, ◌∙◌, arith}
-use Rattle.std.specs.Prelude.{Vec, option_and_then, find, is_some}
-use Rattle.std.specs.Str.{bytes_eq}
-use Rattle.std.specs.Option.{option_map, option_map_or, option_or}
+-- Ways through the chains of retrieved objects, and chains with one entry more.
+use Rattle.std.proofs.Common.{◌≡◌, ◌==◌, ◌<◌, ◌≤◌, ◌⊎◌, ◌-◌, ◌&&◌, ℕ, zero, suc, ◌+◌, Bool, true, false, cond, Option, Some, None, List, [], ◌∷◌, ◌++◌, map, length, take, drop, get_or, refl, ap, sym, ◌∙◌, subst, arith, unwrap_or, inl, inr, length-append}
+use Rattle.std.proofs.lemmas.List.{map-append}
+use Rattle.std.proofs.Math.Nat.{eq-or-lt_of_le}
+use Rattle.std.proofs.Math.ListN.{get_or-append, drop_of_length-le}
+use Rattle.std.proofs.Math.Seq.{drop-cons, get_or-append_seam}
 use Rattle.std.proofs.lemmas.Bool.{eqb-true, eq-eqb}
-use Rattle.std.proofs.lemmas.Option.{slice_get_past}
-use Rattle.std.proofs.lemmas.List.Folds.{find-append}
-use Rattle.std.proofs.lemmas.Slice.Eq.{bytes_eq-Decides}
+use Rattle.std.specs.List.{find}
+use Rattle.std.specs.Option.{option_map}
+use Rattle.std.specs.Str.{bytes_eq}
+use denote.Enum.Bare.{true_same}
+use Rattle.command_tables.specs.contracts.types.ObjectType as type
+use Rattle.command_tables.specs.declared.types.ObjectType.{ObjectType}
 use Rattle.command_tables.specs.Tests.{same_type}
 use Rattle.object_model.specs.declared.Object.{Object}
-use Rattle.object_model.specs.Objects.{same}
-use Rattle.session_tables.specs.declared.object_places.ObjectPlaces.{ObjectPlaces}
-use Rattle.session_tables.specs.declared.retrieved_map.RetrievedKey.{RetrievedKey}
-use Rattle.session_tables.specs.declared.retrieved_map.RetrievedPlace.{RetrievedPlace}
-use Rattle.session_tables.specs.declared.retrieved_table.RetrievedEntry.{RetrievedEntry}
-use Rattle.session_tables.specs.Dense.{cell, cell_in}
-use Rattle.session_tables.specs.Filing.{kept}
+use Rattle.object_model.specs.Objects.{are_same}
+use Rattle.handle_map.specs.Pairs.{MapEntry, is_pair, with_values}
 use Rattle.replay_model.specs.Past.{Retrieval}
 use Rattle.replay_model.specs.Births.{is_kept}
-use Rattle.session_tables.specs.Retrieved.{retrieval_of, retrieved_shown, first_kept, found_in, has_key, holds_key, near_key, same_key}
+use Rattle.session_tables.specs.declared.retrieved_map.RetrievedKey.{RetrievedKey}
+use Rattle.session_tables.specs.declared.retrieved_table.RetrievedEntry.{RetrievedEntry}
+use Rattle.session_tables.specs.Retrieved.{AreChained, AreLatest, AreLinked, HavePayloads, IsLink, chain_number, first_kept, first_link, has_key, is_in_chain, is_owned_in, latest_in, link_of, retrieval_of, with_link}
 use Rattle.session_tables.proofs.Objects.{same-true, type_is}
-use Rattle.session_tables.proofs.Same.{key_alike}
-use Rattle.session_tables.proofs.Lists.{find_map, mapped}
 
 and_true : (a b : Bool) → (a && b) ≡ true → (a ≡ true) × (b ≡ true)
 and_true true b e = (refl, e)
 and_true false b e = cc e
 
--- a row that is opened is empty
-pub opened_row : {A : Type 0} (rows : List (Vec (Option RetrievedPlace) A)) (old new : ObjectPlaces) (owner : Object) (row : ℕ) (k : RetrievedKey) → kept old owner ≡ None → row ≡ length rows
-    → kept new k.owner ≡ cond (same owner k.owner) (Some row) (kept old k.owner) → near_key rows new k ≡ near_key rows old k
-opened_row {A = A} rows old new owner row k none last is = ap (λ (m : Option ℕ). cond (length k.payload.items == 0) (option_and_then (λ n. cell None rows n k.place) m) None) is ∙ go (same owner k.owner) refl (length k.payload.items == 0)
+type_self : (t : ObjectType) → same_type t t ≡ true
+unfolding same_type
+type_self t = true_same type.the_type t t refl
+
+-- ---- looking
+
+-- an entry with a key is of the key's chain
+has_chain : (e : RetrievedEntry) (bytes : List ℕ) (k : RetrievedKey) → has_key k (retrieval_of bytes e) ≡ true → is_in_chain k.owner.ty (chain_number k.owner k.place) e ≡ true
+has_chain e bytes k has =
+    let parts = and_true (same_type e.object.ty k.ty) (are_same e.owner (Some k.owner) && (e.place == k.place && bytes_eq (take e.len (drop e.start bytes)) k.payload.now)) has in
+    let more = and_true (are_same e.owner (Some k.owner)) (e.place == k.place && bytes_eq (take e.len (drop e.start bytes)) k.payload.now) parts.1 in
+    let last = and_true (e.place == k.place) (bytes_eq (take e.len (drop e.start bytes)) k.payload.now) more.1 in
+    go e.owner more.0 (eqb-true e.place k.place last.0)
   where
-    behind : cell None rows row k.place ≡ None
-    behind = ap (λ (m : Option (Vec (Option RetrievedPlace) A)). option_map_or (λ (r : Vec (Option RetrievedPlace) A). cell_in None r.items k.place) m None) (slice_get_past rows row (omega (arith, last)))
+    go : (x : Option Object) → are_same x (Some k.owner) ≡ true → e.place ≡ k.place → is_owned_in k.owner.ty (chain_number k.owner k.place) x e.place ≡ true
+    go None owned place = cc owned
+    go (Some p) owned place =
+        ap (λ (q : Object). same_type q.ty k.owner.ty && chain_number q e.place == chain_number k.owner k.place) (same-true p k.owner owned)
+        ∙ (ap (λ (n : ℕ). same_type k.owner.ty k.owner.ty && chain_number k.owner n == chain_number k.owner k.place) place
+        ∙ (ap (λ (u : Bool). u && chain_number k.owner k.place == chain_number k.owner k.place) (type_self k.owner.ty) ∙ eq-eqb (chain_number k.owner k.place) (chain_number k.owner k.place) refl))
 
-    go : (t : Bool) → same owner k.owner ≡ t → (b : Bool) → cond b (option_and_then (λ n. cell None rows n k.place) (cond t (Some row) (kept old k.owner))) None ≡ cond b (option_and_then (λ n. cell None rows n k.place) (kept old k.owner)) None
-    go true e true = behind ∙ ap (option_and_then (λ n. cell None rows n k.place)) (sym (ap (kept old) (sym (same-true owner k.owner e)) ∙ none))
-    go true e false = refl
-    go false e b = refl
-
--- what the same key finds
-same_parts : (a b : RetrievedKey) → same_key a b ≡ true → (same_type a.ty b.ty ≡ true) × (same a.owner b.owner ≡ true) × ((a.place == b.place) ≡ true) × (bytes_eq a.payload.items b.payload.items ≡ true)
-same_parts a b e =
-    let p = and_true (same_type a.ty b.ty) (same a.owner b.owner && (a.place == b.place && bytes_eq a.payload.items b.payload.items)) e in
-    let q = and_true (same a.owner b.owner) (a.place == b.place && bytes_eq a.payload.items b.payload.items) p.1 in
-    let r = and_true (a.place == b.place) (bytes_eq a.payload.items b.payload.items) q.1 in
-    (p.0, q.0, r.0, r.1)
-
-near_same : {A : Type 0} (rows : List (Vec (Option RetrievedPlace) A)) (owners : ObjectPlaces) (a b : RetrievedKey) → same_key a b ≡ true → near_key rows owners a ≡ near_key rows owners b
-near_same rows owners a b e =
-    let parts = same_parts a b e in
-    ap (λ (bytes : List ℕ). cond (length bytes == 0) (option_and_then (λ row. cell None rows row a.place) (kept owners a.owner)) None) ((bytes_eq-Decides a.payload.items b.payload.items).0 parts.3)
-    ∙ (ap (λ n. cond (length b.payload.items == 0) (option_and_then (λ row. cell None rows row n) (kept owners a.owner)) None) (eqb-true a.place b.place parts.2)
-    ∙ ap (λ o. cond (length b.payload.items == 0) (option_and_then (λ row. cell None rows row b.place) (kept owners o)) None) (same-true a.owner b.owner parts.1))
-
-holds_same : (p : Option RetrievedPlace) (a b : RetrievedKey) → same_key a b ≡ true → holds_key p a ≡ holds_key p b
-holds_same None a b e = refl
-holds_same (Some p) a b e =
-    let parts = same_parts a b e in
-    ap (λ o. same p.owner o && same_type p.object.ty a.ty) (same-true a.owner b.owner parts.1) ∙ ap (λ t. same p.owner b.owner && same_type p.object.ty t) (type_is a.ty b.ty parts.0)
-
-found_other : (p : Option RetrievedPlace) (k : RetrievedKey) (other : Option Object) → holds_key p k ≡ false → found_in p k other ≡ other
-found_other None k other e = refl
-found_other (Some p) k other e = ap (λ t. cond t (Some p.object) other) e
-
-found_none : (p : Option RetrievedPlace) (k : RetrievedKey) (other : Option Object) → found_in p k other ≡ None → holds_key p k ≡ false
-found_none None k other e = refl
-found_none (Some p) k other e = go (holds_key (Some p) k) refl
+-- one of another chain has another key
+has_not : (e : RetrievedEntry) (bytes : List ℕ) (k : RetrievedKey) → is_in_chain k.owner.ty (chain_number k.owner k.place) e ≡ false → has_key k (retrieval_of bytes e) ≡ false
+has_not e bytes k other = go (has_key k (retrieval_of bytes e)) refl
   where
-    go : (t : Bool) → holds_key (Some p) k ≡ t → t ≡ false
-    go true f = let no : Some p.object ≡ None = sym (ap (λ t. cond t (Some p.object) other) f) ∙ e in cc
-    go false f = refl
+    go : (u : Bool) → has_key k (retrieval_of bytes e) ≡ u → u ≡ false
+    go true has = sym (has_chain e bytes k has) ∙ other
+    go false has = refl
 
--- one more in the map
-pub put_other : {A : Type 0} (rows : List (Vec (Option RetrievedPlace) A)) (owners : ObjectPlaces) (key k : RetrievedKey) (o : Object) (old new : Option Object) (before : Option Object)
-    → found_in (near_key rows owners key) key before ≡ None → new ≡ cond (same_key key k) (Some o) old → found_in (near_key rows owners k) k new ≡ cond (same_key key k) (Some o) (found_in (near_key rows owners k) k old)
-put_other rows owners key k o old new before none is = ap (found_in (near_key rows owners k) k) is ∙ go (same_key key k) refl
+-- entries without the key may be left out
+skip : (es : List RetrievedEntry) (bytes : List ℕ) (k : RetrievedKey) (a b : ℕ) → a ≤ b → b ≤ length es → ((p : ℕ) (d : RetrievedEntry) → a ≤ p → p < b → has_key k (retrieval_of bytes (get_or es p d)) ≡ false) → first_kept (map (retrieval_of bytes) (drop a es)) k ≡ first_kept (map (retrieval_of bytes) (drop b es)) k
+skip [] bytes k zero zero low high none = refl
+skip [] bytes k zero (suc b) low high none = refl
+skip [] bytes k (suc a) zero low high none = refl
+skip [] bytes k (suc a) (suc b) low high none = refl
+skip (e ∷ es) bytes k zero zero low high none = refl
+skip (e ∷ es) bytes k zero (suc b) low high none =
+    ap (λ (u : Bool). option_map (λ (r : Retrieval). r.object) (cond u (Some (retrieval_of bytes e)) (find (is_kept k.ty (Some k.owner) k.place k.payload.now) (map (retrieval_of bytes) es)))) (none 0 e (omega arith) (omega arith))
+    ∙ skip es bytes k 0 b (omega arith) (omega (arith, high)) (λ (p : ℕ) (d : RetrievedEntry) (from : 0 ≤ p) (below : p < b). none (suc p) d (omega arith) (omega (arith, below)))
+skip (e ∷ es) bytes k (suc a) zero low high none = absurd (omega (arith, low))
+skip (e ∷ es) bytes k (suc a) (suc b) low high none = skip es bytes k a b (omega (arith, low)) (omega (arith, high)) (λ (p : ℕ) (d : RetrievedEntry) (from : a ≤ p) (below : p < b). none (suc p) d (omega (arith, from)) (omega (arith, below)))
+
+-- the walk came to a link, and found what is kept from there on
+pub record IsWay (es : List RetrievedEntry) (bytes : List ℕ) (k : RetrievedKey) (link : ℕ) (found : Option Object) : Type 0 where
+  pub within : link ≤ length es
+  pub here : (p : ℕ) (d : RetrievedEntry) → link ≡ suc p → is_in_chain k.owner.ty (chain_number k.owner k.place) (get_or es p d) ≡ true
+  pub rest : found ≡ first_kept (map (retrieval_of bytes) (drop link es)) k
+
+pub way_in : (es : List RetrievedEntry) (bytes : List ℕ) (k : RetrievedKey) (link : ℕ) → IsLink es k.owner.ty (chain_number k.owner k.place) (length es) link → IsWay es bytes k link None
+way_in es bytes k link is = record {
+  within = is.within;
+  here = is.here;
+  rest = sym (skip es bytes k link (length es) is.within (omega arith) (λ (p : ℕ) (d : RetrievedEntry) (from : link ≤ p) (below : p < length es). has_not (get_or es p d) bytes k (is.none p d from below))
+      ∙ ap (λ (xs : List RetrievedEntry). first_kept (map (retrieval_of bytes) xs) k) (drop_of_length-le es (omega arith)));
+}
+
+way_on : (es : List RetrievedEntry) (bytes : List ℕ) (k : RetrievedKey) (p : ℕ) (d : RetrievedEntry) (found : Option Object) → AreLinked es → IsWay es bytes k (suc p) found
+    → IsWay es bytes k (get_or es p d).before (cond (has_key k (retrieval_of bytes (get_or es p d))) (Some (get_or es p d).object) found)
+way_on es bytes k p d found linked way =
+    let less : p < length es = omega (arith, way.within) in
+    let link : IsLink es k.owner.ty (chain_number k.owner k.place) p (get_or es p d).before = linked p d less k.owner.ty (chain_number k.owner k.place) (way.here p d refl) in
+    record {
+      within = omega (arith, link.within, less);
+      here = link.here;
+      rest = ap (λ (x : Option Object). cond (has_key k (retrieval_of bytes (get_or es p d))) (Some (get_or es p d).object) x) way.rest
+          ∙ (at (has_key k (retrieval_of bytes (get_or es p d)))
+          ∙ (sym (ap (λ (xs : List RetrievedEntry). first_kept (map (retrieval_of bytes) xs) k) (drop-cons es p d less))
+          ∙ sym (skip es bytes k (get_or es p d).before p link.within (omega (arith, less)) (λ (q : ℕ) (x : RetrievedEntry) (from : (get_or es p d).before ≤ q) (below : q < p). has_not (get_or es q x) bytes k (link.none q x from below)))));
+    }
   where
-    go : (t : Bool) → same_key key k ≡ t → found_in (near_key rows owners k) k (cond t (Some o) old) ≡ cond t (Some o) (found_in (near_key rows owners k) k old)
-    go true e =
-        found_other (near_key rows owners k) k (Some o)
-        (ap (λ (p : Option RetrievedPlace). holds_key p k) (sym (near_same rows owners key k e)) ∙ (sym (holds_same (near_key rows owners key) key k e) ∙ found_none (near_key rows owners key) key before none))
-    go false e = refl
+    at : (u : Bool) → cond u (Some (get_or es p d).object) (first_kept (map (retrieval_of bytes) (drop (suc p) es)) k) ≡ option_map (λ (r : Retrieval). r.object) (cond u (Some (retrieval_of bytes (get_or es p d))) (find (is_kept k.ty (Some k.owner) k.place k.payload.now) (map (retrieval_of bytes) (drop (suc p) es))))
+    at true = refl
+    at false = refl
 
-no_bytes : (xs : List ℕ) → (length xs == 0) ≡ true → xs ≡ []
-no_bytes [] e = refl
-no_bytes (x ∷ xs) e = absurd (not_zero (length xs) (eqb-true (length (x ∷ xs)) 0 e))
+pub way_next : (es : List RetrievedEntry) (bytes : List ℕ) (k : RetrievedKey) (link : ℕ) (d : RetrievedEntry) (found more : Option Object) → AreLinked es → IsWay es bytes k link found → (link ≡ 0 → ⊥)
+    → more ≡ cond (has_key k (retrieval_of bytes (get_or es (link - 1) d))) (Some (get_or es (link - 1) d).object) found → IsWay es bytes k (get_or es (link - 1) d).before more
+way_next es bytes k zero d found more linked way some is = absurd (some refl)
+way_next es bytes k (suc p) d found more linked way some is =
+    let here : suc p - 1 ≡ p = omega arith in
+    subst (λ (x : Option Object). IsWay es bytes k (get_or es (suc p - 1) d).before x) (sym is)
+    (subst (λ (n : ℕ). IsWay es bytes k (get_or es n d).before (cond (has_key k (retrieval_of bytes (get_or es n d))) (Some (get_or es n d).object) found)) (sym here) (way_on es bytes k p d found linked way))
+
+-- ---- one entry more
+
+-- a link into a chain stays one
+grown : (es : List RetrievedEntry) (e : RetrievedEntry) (t : ObjectType) (n count link : ℕ) → count ≤ length es → IsLink es t n count link → IsLink (es ++ e ∷ []) t n count link
+grown es e t n count link low is = record {
+  within = is.within;
+  here = λ (p : ℕ) (d : RetrievedEntry) (at : link ≡ suc p). ap (is_in_chain t n) (get_or-append es (e ∷ []) d p (omega (arith, at, low, is.within))) ∙ is.here p d at;
+  none = λ (p : ℕ) (d : RetrievedEntry) (from : link ≤ p) (below : p < count). ap (is_in_chain t n) (get_or-append es (e ∷ []) d p (omega (arith, below, low))) ∙ is.none p d from below;
+}
+
+-- a link past an entry of another chain
+passed : (es : List RetrievedEntry) (e : RetrievedEntry) (t : ObjectType) (n link : ℕ) → is_in_chain t n e ≡ false → IsLink es t n (length es) link → IsLink (es ++ e ∷ []) t n (length (es ++ e ∷ [])) link
+passed es e t n link other is =
+    let count : length (es ++ e ∷ []) ≡ suc (length es) = length-append es (e ∷ []) ∙ omega arith in
+    record {
+      within = omega (arith, count, is.within);
+      here = (grown es e t n (length es) link (omega arith) is).here;
+      none = λ (p : ℕ) (d : RetrievedEntry) (from : link ≤ p) (below : p < length (es ++ e ∷ [])). at p d from (eq-or-lt_of_le (omega (arith, below, count)));
+    }
   where
-    not_zero : (n : ℕ) → suc n ≡ 0 → ⊥
-    not_zero n is = omega (arith, is)
+    at : (p : ℕ) (d : RetrievedEntry) → link ≤ p → (p ≡ length es) ⊎ (p < length es) → is_in_chain t n (get_or (es ++ e ∷ []) p d) ≡ false
+    at p d from (inr l) = (grown es e t n (length es) link (omega arith) is).none p d from l
+    at p d from (inl l) = ap (λ (q : ℕ). is_in_chain t n (get_or (es ++ e ∷ []) q d)) l ∙ (ap (is_in_chain t n) (get_or-append_seam es e [] d) ∙ other)
 
--- one more in a row
-pub put_row : {A : Type 0} (rows more : List (Vec (Option RetrievedPlace) A)) (owners : ObjectPlaces) (key k : RetrievedKey) (o : Object) (row : ℕ) (other : Option Object) → o.ty ≡ key.ty → kept owners key.owner ≡ Some row
-    → (length key.payload.items == 0) ≡ true → cell None rows row key.place ≡ None
-    → ((r n : ℕ) → cell None more r n ≡ cond (row == r && key.place == n) (Some (record { owner = key.owner; object = o })) (cell None rows r n))
-    → found_in (near_key more owners k) k other ≡ cond (same_key key k) (Some o) (found_in (near_key rows owners k) k other)
-put_row rows more owners key k o row other typed there empty none is = go (length k.payload.items == 0) refl (kept owners k.owner) refl (same_key key k) refl
+-- the link to a new entry
+newest : (es : List RetrievedEntry) (e : RetrievedEntry) (t : ObjectType) (n : ℕ) → is_in_chain t n e ≡ true → IsLink (es ++ e ∷ []) t n (length (es ++ e ∷ [])) (suc (length es))
+newest es e t n this =
+    let count : length (es ++ e ∷ []) ≡ suc (length es) = length-append es (e ∷ []) ∙ omega arith in
+    record {
+      within = omega (arith, count);
+      here = λ (p : ℕ) (d : RetrievedEntry) (at : suc (length es) ≡ suc p). at_place p d (omega (arith, at));
+      none = λ (p : ℕ) (d : RetrievedEntry) (from : suc (length es) ≤ p) (below : p < length (es ++ e ∷ [])). absurd (omega (arith, from, below, count));
+    }
   where
-    swapped : (a b : Bool) → (a && b) ≡ (b && (a && true))
-    swapped true true = refl
-    swapped true false = refl
-    swapped false true = refl
-    swapped false false = refl
+    at_place : (p : ℕ) (d : RetrievedEntry) → p ≡ length es → is_in_chain t n (get_or (es ++ e ∷ []) p d) ≡ true
+    at_place p d at = ap (λ (q : ℕ). is_in_chain t n (get_or (es ++ e ∷ []) q d)) at ∙ (ap (is_in_chain t n) (get_or-append_seam es e [] d) ∙ this)
 
-    one_key : (length k.payload.items == 0) ≡ true → (key.place == k.place) ≡ true → (same key.owner k.owner && same_type o.ty k.ty) ≡ same_key key k
-    one_key e at =
-        let bytes : bytes_eq key.payload.items k.payload.items ≡ true = ap (λ xs. bytes_eq xs k.payload.items) (no_bytes key.payload.items empty) ∙ ap (bytes_eq []) (no_bytes k.payload.items e) in
-        ap (λ t. same key.owner k.owner && same_type t k.ty) typed
-        ∙ (swapped (same key.owner k.owner) (same_type key.ty k.ty)
-        ∙ sym (ap (λ u. same_type key.ty k.ty && (same key.owner k.owner && (u && bytes_eq key.payload.items k.payload.items))) at ∙ ap (λ u. same_type key.ty k.ty && (same key.owner k.owner && u)) bytes))
-
-    at : (r : ℕ) → kept owners k.owner ≡ Some r → (length k.payload.items == 0) ≡ true → (t : Bool) → (row == r && key.place == k.place) ≡ t → (s : Bool) → same_key key k ≡ s
-        → found_in (cond t (Some (record { owner = key.owner; object = o })) (cell None rows r k.place)) k other ≡ cond s (Some o) (found_in (cell None rows r k.place) k other)
-    at r f e true h s g =
-        let parts = and_true (row == r) (key.place == k.place) h in
-        let gone : cell None rows r k.place ≡ None = ap (λ n. cell None rows n k.place) (sym (eqb-true row r parts.0)) ∙ (ap (cell None rows row) (sym (eqb-true key.place k.place parts.1)) ∙ none) in
-        ap (λ u. cond u (Some o) other) (one_key e parts.1 ∙ g) ∙ ap (λ (q : Option RetrievedPlace). cond s (Some o) (found_in q k other)) (sym gone)
-    at r f e false h true g =
-        let parts = same_parts key k g in
-        let rowed : Some row ≡ Some r = sym there ∙ (ap (kept owners) (same-true key.owner k.owner parts.1) ∙ f) in
-        let same_row : row ≡ r = cc in
-        let both : (row == r && key.place == k.place) ≡ true = ap (λ t. t && key.place == k.place) (eq-eqb row r same_row) ∙ parts.2 in
-        cc
-    at r f e false h false g = refl
-
-    go : (b : Bool) → (length k.payload.items == 0) ≡ b → (m : Option ℕ) → kept owners k.owner ≡ m → (s : Bool) → same_key key k ≡ s
-        → found_in (cond b (option_and_then (λ r. cell None more r k.place) m) None) k other ≡ cond s (Some o) (found_in (cond b (option_and_then (λ r. cell None rows r k.place) m) None) k other)
-    go false e m f true g =
-        let parts = same_parts key k g in
-        let no : true ≡ false = sym empty ∙ (ap (λ (bytes : List ℕ). length bytes == 0) ((bytes_eq-Decides key.payload.items k.payload.items).0 parts.3) ∙ e) in
-        cc
-    go false e m f false g = refl
-    go true e None f true g =
-        let parts = same_parts key k g in
-        let no : Some row ≡ None = sym there ∙ (ap (kept owners) (same-true key.owner k.owner parts.1) ∙ f) in
-        cc
-    go true e None f false g = refl
-    go true e (Some r) f s g = ap (λ (p : Option RetrievedPlace). found_in p k other) (is r k.place) ∙ at r f e (row == r && key.place == k.place) refl s g
-
--- ---- the first object of a key
-
-find_alike : {X : Type 0} (p q : X → Bool) → ((x : X) → p x ≡ q x) → (xs : List X) → find p xs ≡ find q xs
-find_alike p q alike [] = refl
-find_alike p q alike (x ∷ xs) = ap (λ t. cond t (Some x) (find p xs)) (alike x) ∙ ap (λ f. cond (q x) (Some x) f) (find_alike p q alike xs)
-
-first_alike : (es : List RetrievedEntry) (k q : RetrievedKey) → same_key k q ≡ true → first_kept es k ≡ first_kept es q
-first_alike es k q e = ap (option_map (λ (x : RetrievedEntry). x.object)) (find_alike (has_key k) (has_key q) (key_alike k q e) es)
-
--- in a list with one more
-pub first_more : (es : List RetrievedEntry) (e : RetrievedEntry) (k : RetrievedKey) → first_kept (es ++ e ∷ []) k ≡ option_or (first_kept es k) (cond (has_key k e) (Some e.object) None)
-first_more es e k = ap (option_map (λ (x : RetrievedEntry). x.object)) (find-append (has_key k) es (e ∷ [])) ∙ go (find (has_key k) es) (has_key k e)
+-- what a map has for a pair that was put, and for another
+put_there : (m : List (MapEntry (List ℕ))) (t : ObjectType) (n link : ℕ) → latest_in (with_values m t n (link ∷ [])) t n ≡ link
+put_there [] t n link = ap (λ (u : Bool). unwrap_or (option_map first_link (option_map (λ (x : MapEntry (List ℕ)). x.values) (cond u (Some (record { ty = t; id = n; values = link ∷ [] })) None))) 0) (ap (λ (u : Bool). u && n == n) (type_self t) ∙ eq-eqb n n refl)
+put_there (e ∷ m) t n link = go (is_pair t n e) refl (put_there m t n link)
   where
-    go : (f : Option RetrievedEntry) (t : Bool) → option_map (λ (x : RetrievedEntry). x.object) (option_or f (cond t (Some e) None)) ≡ option_or (option_map (λ (x : RetrievedEntry). x.object) f) (cond t (Some e.object) None)
-    go None true = refl
-    go None false = refl
-    go (Some x) t = refl
+    go : (u : Bool) → is_pair t n e ≡ u → latest_in (with_values m t n (link ∷ [])) t n ≡ link → latest_in (cond u (record e { values = link ∷ [] } ∷ m) (e ∷ with_values m t n (link ∷ []))) t n ≡ link
+    go true is ih = ap (λ (v : Bool). unwrap_or (option_map first_link (option_map (λ (y : MapEntry (List ℕ)). y.values) (cond v (Some (record e { values = link ∷ [] })) (find (is_pair t n) m)))) 0) is
+    go false is ih = ap (λ (v : Bool). unwrap_or (option_map first_link (option_map (λ (y : MapEntry (List ℕ)). y.values) (cond v (Some e) (find (is_pair t n) (with_values m t n (link ∷ [])))))) 0) is ∙ ih
 
--- the first object of each key, with one entry more: it is new where its key had none
-pub first_put : (es : List RetrievedEntry) (e : RetrievedEntry) (key : RetrievedKey) (f g : RetrievedKey → Option Object) → ((k : RetrievedKey) → f k ≡ first_kept es k) → ((k : RetrievedKey) → has_key k e ≡ same_key key k)
-    → ((k : RetrievedKey) → g k ≡ cond (is_some (f key)) (f k) (cond (same_key key k) (Some e.object) (f k))) → (k : RetrievedKey) → g k ≡ first_kept (es ++ e ∷ []) k
-first_put es e key f g is own more k = more k ∙ (go (same_key key k) refl (f key) refl (f k) refl ∙ (ap (λ m. option_or m (cond (same_key key k) (Some e.object) None)) (is k) ∙ (ap (λ t. option_or (first_kept es k) (cond t (Some e.object) None)) (sym (own k)) ∙ sym (first_more es e k))))
+put_else : (m : List (MapEntry (List ℕ))) (t u : ObjectType) (n k link : ℕ) → (same_type t u && n == k) ≡ false → latest_in (with_values m t n (link ∷ [])) u k ≡ latest_in m u k
+put_else [] t u n k link other = ap (λ (v : Bool). unwrap_or (option_map first_link (option_map (λ (x : MapEntry (List ℕ)). x.values) (cond v (Some (record { ty = t; id = n; values = link ∷ [] })) None))) 0) other
+put_else (e ∷ m) t u n k link other = go (is_pair t n e) refl (put_else m t u n k link other)
   where
-    go : (t : Bool) → same_key key k ≡ t → (a : Option Object) → f key ≡ a → (b : Option Object) → f k ≡ b → cond (is_some a) b (cond t (Some e.object) b) ≡ option_or b (cond t (Some e.object) None)
-    go true s None h None j = refl
-    go true s None h (Some y) j = let no : Some y ≡ None = sym j ∙ (is k ∙ (sym (first_alike es key k s) ∙ (sym (is key) ∙ h))) in cc
-    go true s (Some x) h None j = let no : None ≡ Some x = sym j ∙ (is k ∙ (sym (first_alike es key k s) ∙ (sym (is key) ∙ h))) in cc
-    go true s (Some x) h (Some y) j = refl
-    go false s None h None j = refl
-    go false s None h (Some y) j = refl
-    go false s (Some x) h None j = refl
-    go false s (Some x) h (Some y) j = refl
+    same_front : (x : MapEntry (List ℕ)) (xs ys : List (MapEntry (List ℕ))) → latest_in xs u k ≡ latest_in ys u k → (v : Bool)
+        → unwrap_or (option_map first_link (option_map (λ (y : MapEntry (List ℕ)). y.values) (cond v (Some x) (find (is_pair u k) xs)))) 0 ≡ unwrap_or (option_map first_link (option_map (λ (y : MapEntry (List ℕ)). y.values) (cond v (Some x) (find (is_pair u k) ys)))) 0
+    same_front x xs ys is true = refl
+    same_front x xs ys is false = is
 
--- an entry without an owner has no key
-pub first_none : (es : List RetrievedEntry) (e : RetrievedEntry) (k : RetrievedKey) → has_key k e ≡ false → first_kept (es ++ e ∷ []) k ≡ first_kept es k
-first_none es e k none = first_more es e k ∙ (ap (λ t. option_or (first_kept es k) (cond t (Some e.object) None)) none ∙ or_none (first_kept es k))
-  where
-    or_none : (f : Option Object) → option_or f None ≡ f
-    or_none None = refl
-    or_none (Some x) = refl
+    go : (v : Bool) → is_pair t n e ≡ v → latest_in (with_values m t n (link ∷ [])) u k ≡ latest_in m u k → latest_in (cond v (record e { values = link ∷ [] } ∷ m) (e ∷ with_values m t n (link ∷ []))) u k ≡ latest_in (e ∷ m) u k
+    go true is ih =
+        let parts = and_true (same_type e.ty t) (e.id == n) is in
+        let apart : is_pair u k e ≡ false = ap (λ (x : ObjectType). same_type x u && e.id == k) (type_is e.ty t parts.0) ∙ (ap (λ (x : ℕ). same_type t u && x == k) (eqb-true e.id n parts.1) ∙ other) in
+        ap (λ (w : Bool). unwrap_or (option_map first_link (option_map (λ (y : MapEntry (List ℕ)). y.values) (cond w (Some (record e { values = link ∷ [] })) (find (is_pair u k) m)))) 0) apart
+        ∙ sym (ap (λ (w : Bool). unwrap_or (option_map first_link (option_map (λ (y : MapEntry (List ℕ)). y.values) (cond w (Some e) (find (is_pair u k) m)))) 0) apart)
+    go false is ih = same_front e (with_values m t n (link ∷ [])) m ih (is_pair u k e)
 
--- what is found among entries, as the definitions say it
-pub kept_first : (es : List RetrievedEntry) (k : RetrievedKey) → option_map (λ (r : Retrieval). r.object) (find (is_kept k.ty (Some k.owner) k.place k.payload.items) (retrieved_shown es)) ≡ first_kept es k
-kept_first es k = ap (option_map (λ (r : Retrieval). r.object)) (find_map (is_kept k.ty (Some k.owner) k.place k.payload.items) retrieval_of es) ∙ go (find (has_key k) es)
+-- the link before a new entry of a chain
+link_is : (m : List (MapEntry (List ℕ))) (owner : Option Object) (place : ℕ) (t : ObjectType) (n : ℕ) → is_owned_in t n owner place ≡ true → link_of m owner place ≡ latest_in m t n
+link_is m None place t n this = cc this
+link_is m (Some o) place t n this =
+    let parts = and_true (same_type o.ty t) (chain_number o place == n) this in
+    ap (λ (u : ObjectType). latest_in m u (chain_number o place)) (type_is o.ty t parts.0) ∙ ap (λ (x : ℕ). latest_in m t x) (eqb-true (chain_number o place) n parts.1)
+
+-- the link of its chain then
+link_put : (m : List (MapEntry (List ℕ))) (owner : Option Object) (place link : ℕ) (t : ObjectType) (n : ℕ) → is_owned_in t n owner place ≡ true → latest_in (with_link m owner place link) t n ≡ link
+link_put m None place link t n this = cc this
+link_put m (Some o) place link t n this =
+    let parts = and_true (same_type o.ty t) (chain_number o place == n) this in
+    sym (ap (λ (u : ObjectType). latest_in (with_link m (Some o) place link) u (chain_number o place)) (type_is o.ty t parts.0) ∙ ap (λ (x : ℕ). latest_in (with_link m (Some o) place link) t x) (eqb-true (chain_number o place) n parts.1))
+    ∙ put_there m o.ty (chain_number o place) link
+
+-- and those of others
+link_else : (m : List (MapEntry (List ℕ))) (owner : Option Object) (place link : ℕ) (t : ObjectType) (n : ℕ) → is_owned_in t n owner place ≡ false → latest_in (with_link m owner place link) t n ≡ latest_in m t n
+link_else m None place link t n other = refl
+link_else m (Some o) place link t n other = put_else m o.ty t (chain_number o place) n link other
+
+-- each entry links to those before it, with a new one behind them
+linked_more : (es : List RetrievedEntry) (m : List (MapEntry (List ℕ))) (e : RetrievedEntry) → AreLinked es → AreLatest es m → e.before ≡ link_of m e.owner e.place → AreLinked (es ++ e ∷ [])
+linked_more es m e linked ends before p d less t n inside = go (eq-or-lt_of_le (omega (arith, less, length-append es (e ∷ []))))
   where
-    go : (f : Option RetrievedEntry) → option_map (λ (r : Retrieval). r.object) (mapped retrieval_of f) ≡ option_map (λ (e : RetrievedEntry). e.object) f
-    go None = refl
-    go (Some e) = refl
+    go : (p ≡ length es) ⊎ (p < length es) → IsLink (es ++ e ∷ []) t n p (get_or (es ++ e ∷ []) p d).before
+    go (inr l) =
+        let same : get_or (es ++ e ∷ []) p d ≡ get_or es p d = get_or-append es (e ∷ []) d p l in
+        subst (λ (x : RetrievedEntry). IsLink (es ++ e ∷ []) t n p x.before) (sym same) (grown es e t n p (get_or es p d).before (omega (arith, l)) (linked p d l t n (sym (ap (is_in_chain t n) same) ∙ inside)))
+    go (inl l) =
+        let same : get_or (es ++ e ∷ []) p d ≡ e = ap (λ (q : ℕ). get_or (es ++ e ∷ []) q d) l ∙ get_or-append_seam es e [] d in
+        let this : is_in_chain t n e ≡ true = sym (ap (is_in_chain t n) same) ∙ inside in
+        subst (λ (x : RetrievedEntry). IsLink (es ++ e ∷ []) t n p x.before) (sym same)
+        (subst (λ (x : ℕ). IsLink (es ++ e ∷ []) t n x e.before) (sym l)
+        (subst (λ (x : ℕ). IsLink (es ++ e ∷ []) t n (length es) x) (sym (before ∙ link_is m e.owner e.place t n this)) (grown es e t n (length es) (latest_in m t n) (omega arith) (ends t n))))
+
+-- the map has the link to the new entry
+latest_more : (es : List RetrievedEntry) (m : List (MapEntry (List ℕ))) (e : RetrievedEntry) → AreLatest es m → AreLatest (es ++ e ∷ []) (with_link m e.owner e.place (suc (length es)))
+latest_more es m e ends t n = go (is_in_chain t n e) refl
+  where
+    go : (u : Bool) → is_in_chain t n e ≡ u → IsLink (es ++ e ∷ []) t n (length (es ++ e ∷ [])) (latest_in (with_link m e.owner e.place (suc (length es))) t n)
+    go true this = subst (λ (x : ℕ). IsLink (es ++ e ∷ []) t n (length (es ++ e ∷ [])) x) (sym (link_put m e.owner e.place (suc (length es)) t n this)) (newest es e t n this)
+    go false other = subst (λ (x : ℕ). IsLink (es ++ e ∷ []) t n (length (es ++ e ∷ [])) x) (sym (link_else m e.owner e.place (suc (length es)) t n other)) (passed es e t n (latest_in m t n) other (ends t n))
+
+-- a payload stands as it did where more stand behind it
+payload_stays : (bytes more : List ℕ) (start len : ℕ) → start + len ≤ length bytes → take len (drop start (bytes ++ more)) ≡ take len (drop start bytes)
+payload_stays [] more zero zero within = refl
+payload_stays [] more zero (suc len) within = absurd (omega (arith, within))
+payload_stays [] more (suc start) len within = absurd (omega (arith, within))
+payload_stays (x ∷ bytes) more zero zero within = refl
+payload_stays (x ∷ bytes) more zero (suc len) within = ap (λ ys. x ∷ ys) (payload_stays bytes more zero len (omega (arith, within)))
+payload_stays (x ∷ bytes) more (suc start) len within = payload_stays bytes more start len (omega (arith, within))
+
+-- the last payload
+payload_own : (bytes more : List ℕ) → take (length more) (drop (length bytes) (bytes ++ more)) ≡ more
+payload_own [] [] = refl
+payload_own [] (v ∷ more) = ap (λ xs. v ∷ xs) (payload_own [] more)
+payload_own (x ∷ bytes) more = payload_own bytes more
+
+-- what is kept is as before, with a payload more
+kept_stay : (es : List RetrievedEntry) (bytes more : List ℕ) → HavePayloads es bytes → map (retrieval_of (bytes ++ more)) es ≡ map (retrieval_of bytes) es
+kept_stay [] bytes more have = refl
+kept_stay (e ∷ es) bytes more have =
+    ap (λ (xs : List ℕ). (let r : Retrieval = record { owner = e.owner; place = e.place; payload = xs; object = e.object } in r) ∷ map (retrieval_of (bytes ++ more)) es) (payload_stays bytes more e.start e.len (have 0 e (omega arith)))
+    ∙ ap (λ (xs : List Retrieval). retrieval_of bytes e ∷ xs) (kept_stay es bytes more (λ (p : ℕ) (d : RetrievedEntry) (less : p < length es). have (suc p) d (omega (arith, less))))
+
+-- and what is kept then
+kept_then : (es : List RetrievedEntry) (bytes more : List ℕ) (e : RetrievedEntry) → HavePayloads es bytes → e.start ≡ length bytes → e.len ≡ length more
+    → map (retrieval_of (bytes ++ more)) (es ++ e ∷ []) ≡ map (retrieval_of bytes) es ++ record { owner = e.owner; place = e.place; payload = more; object = e.object } ∷ []
+kept_then es bytes more e have start len =
+    map-append (retrieval_of (bytes ++ more)) es (e ∷ [])
+    ∙ (ap (λ (xs : List Retrieval). xs ++ retrieval_of (bytes ++ more) e ∷ []) (kept_stay es bytes more have)
+    ∙ ap (λ (xs : List ℕ). map (retrieval_of bytes) es ++ (let r : Retrieval = record { owner = e.owner; place = e.place; payload = xs; object = e.object } in r) ∷ []) payload)
+  where
+    payload : take e.len (drop e.start (bytes ++ more)) ≡ more
+    payload = ap (λ (n : ℕ). take n (drop e.start (bytes ++ more))) len ∙ (ap (λ (n : ℕ). take (length more) (drop n (bytes ++ more))) start ∙ payload_own bytes more)
+
+-- the payloads then
+payloads_then : (es : List RetrievedEntry) (bytes more : List ℕ) (e : RetrievedEntry) → HavePayloads es bytes → e.start ≡ length bytes → e.len ≡ length more → HavePayloads (es ++ e ∷ []) (bytes ++ more)
+payloads_then es bytes more e have start len p d less = go (eq-or-lt_of_le (omega (arith, less, length-append es (e ∷ []))))
+  where
+    long : length (bytes ++ more) ≡ length bytes + length more
+    long = length-append bytes more
+
+    go : (p ≡ length es) ⊎ (p < length es) → (get_or (es ++ e ∷ []) p d).start + (get_or (es ++ e ∷ []) p d).len ≤ length (bytes ++ more)
+    go (inr l) = let old : (get_or es p d).start + (get_or es p d).len ≤ length bytes = have p d l in
+        subst (λ (x : RetrievedEntry). x.start + x.len ≤ length (bytes ++ more)) (sym (get_or-append es (e ∷ []) d p l)) (omega (arith, old, long))
+    go (inl l) = subst (λ (x : RetrievedEntry). x.start + x.len ≤ length (bytes ++ more)) (sym (ap (λ (q : ℕ). get_or (es ++ e ∷ []) q d) l ∙ get_or-append_seam es e [] d)) (omega (arith, start, len, long))
+
+-- one entry more, with its link
+pub added : (es : List RetrievedEntry) (bytes more : List ℕ) (m m2 : List (MapEntry (List ℕ))) (e : RetrievedEntry) (link : ℕ) → AreChained es bytes m → e.before ≡ link_of m e.owner e.place → link ≡ length es + 1 → m2 ≡ with_link m e.owner e.place link
+    → e.start ≡ length bytes → e.len ≡ length more → AreChained (es ++ e ∷ []) (bytes ++ more) m2
+added es bytes more m m2 e link are before is put start len =
+    let count : link ≡ suc (length es) = omega (arith, is) in
+    record {
+      linked = linked_more es m e are.linked are.ends before;
+      ends = subst (λ (x : List (MapEntry (List ℕ))). AreLatest (es ++ e ∷ []) x) (sym (put ∙ ap (with_link m e.owner e.place) count)) (latest_more es m e are.ends);
+      payloads = payloads_then es bytes more e are.payloads start len;
+    }
+
+-- what is kept then, as the code has it
+pub kept_as : (es es2 : List RetrievedEntry) (bytes bytes2 more : List ℕ) (e : RetrievedEntry) → HavePayloads es bytes → e.start ≡ length bytes → e.len ≡ length more → es2 ≡ es ++ e ∷ [] → bytes2 ≡ bytes ++ more
+    → map (retrieval_of bytes2) es2 ≡ map (retrieval_of bytes) es ++ record { owner = e.owner; place = e.place; payload = more; object = e.object } ∷ []
+kept_as es es2 bytes bytes2 more e have start len entries payloads =
+    ap (λ (xs : List RetrievedEntry). map (retrieval_of bytes2) xs) entries
+    ∙ (ap (λ (bs : List ℕ). map (retrieval_of bs) (es ++ e ∷ [])) payloads ∙ kept_then es bytes more e have start len)

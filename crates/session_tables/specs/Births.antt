@@ -8,6 +8,11 @@ use Rattle.session_tables.specs.declared.owner_list.OwnerList.{OwnerList}
 use Rattle.session_tables.specs.declared.owner_list.OwnerList.TheVariants as of
 use Rattle.session_tables.specs.declared.placed_table.Placed.{Placed}
 
+-- births, and how many further ones of up to three owners can be held with no further memory
+pub record BirthsState : Type 0 where
+  pub births : List Birth
+  pub spare : ℕ
+
 -- the owners that are kept of an object
 abbrev pub owners_kept : OwnerList → List Object
 owners_kept of.None = []

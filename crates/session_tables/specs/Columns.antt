@@ -10,6 +10,11 @@ pub record ListState : Type 0 where
   pub objects : List Object
   pub spare : ℕ
 
+-- names with their objects, and how many further ones can be held with no further memory
+pub record NamesState : Type 0 where
+  pub names : List Named
+  pub spare : ℕ
+
 -- each type with the number in its place
 abbrev pub objects_shown : List ObjectType → List ℕ → List Object
 objects_shown [] numbers = []

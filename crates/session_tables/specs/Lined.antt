@@ -1,7 +1,24 @@
 -- The births of what lives, in any order: what is left of them when objects end, and what is added when objects are born. Source: this project.
-use Rattle.std.specs.Prelude.{◌≡◌, Bool, true, not, ◌&&◌, ◌||◌, List, [], ◌∷◌, ◌++◌}
+use Rattle.std.specs.Prelude.{◌≡◌, ℕ, Bool, true, not, ◌&&◌, ◌||◌, List, [], ◌∷◌, ◌++◌}
+use Rattle.command_tables.specs.declared.types.Effect.{Effect}
+use Rattle.command_tables.specs.declared.types.Effect.TheVariants as eff
+use Rattle.object_model.specs.declared.Argument.{Argument}
 use Rattle.object_model.specs.declared.Object.{Object}
-use Rattle.object_model.specs.History.{Birth, born_in, created_in, owners_in}
+use Rattle.object_model.specs.History.{Birth, born_in, created_in, owners_given, owners_in}
+
+-- births, and the room for further ones with no further memory: for how many births, for how many entries in the lists of owners, and how
+-- many owners what one call makes can have
+pub record ObjectsState : Type 0 where
+  pub births : List Birth
+  pub spare : ℕ
+  pub links : ℕ
+  pub owners : ℕ
+
+-- the owners of what a call makes, by its effect
+abbrev pub owners_made : List Birth → List (List Argument) → Effect → List Object
+owners_made before args (eff.Create t owner many) = owners_given before args owner
+owners_made before args (eff.Retrieve t owner many) = owners_given before args owner
+owners_made before args _ = []
 
 -- these owners stand in a line: the first is among those born, and behind it stand its own owners
 abbrev pub IsLine : List Birth → List Object → Type 0

@@ -1,6 +1,6 @@
 -- The tables' entries as the lists of the definitions. Source: this project.
-use Rattle.std.specs.Prelude.{ℕ, zero, suc, if◌then◌else◌, Option, Some, None, List, [], ◌∷◌, map, Vec}
-use Rattle.std.specs.Option.{option_map}
+use Rattle.std.specs.Prelude.{ℕ, zero, suc, if◌then◌else◌, Option, Some, None, List, [], ◌∷◌, map, option_and_then, Vec}
+use Rattle.std.specs.Option.{option_map, option_or}
 use Rattle.object_model.specs.declared.Argument.{Argument}
 use Rattle.trace_format.specs.declared.event.Name.{Name}
 use Rattle.trace_format.specs.Accepting.{same_name}
@@ -14,6 +14,10 @@ place_before (suc place) = Some place
 -- the place that is linked where a name stands in the rows
 abbrev pub place_at : {A : Type 0} → List (Vec ℕ A) → Name → Option ℕ
 place_at rows name = place_before (cell 0 rows name.thread name.number)
+
+-- the place of a name: by its link in the rows, or else by the one beside them
+abbrev pub place_kept : {A : Type 0} → List (Vec ℕ A) → Option ℕ → Name → Option ℕ
+place_kept rows other name = option_or (place_at rows name) (option_and_then (λ (link : ℕ). place_before link) other)
 
 -- the place where a name stands first
 abbrev pub first_at : List Name → Name → Option ℕ

@@ -1,5 +1,5 @@
 // The births of the objects that live.
-ghost use Rattle.std.specs.Prelude.{◌≡◌, ◌++◌, ◌∷◌, ◌<◌, ◌^◌, [], OnOk, OnErr, false, length};
+ghost use Rattle.std.specs.Prelude.{◌≡◌, ◌++◌, ◌∷◌, ◌+◌, ◌<◌, ◌≤◌, ◌^◌, [], IsOk, OnOk, OnErr, false, length};
 ghost use Rattle.object_model.specs.Objects.{same};
 ghost use Rattle.object_model.specs.History.{born_in, created_in, owners_in};
 ghost use Rattle.session_tables.specs.Births.{AreApart, births_shown};
@@ -18,28 +18,27 @@ pub struct BirthEntry {
     pub owners: OwnerList,
 }
 
-/// The births of the objects that live. What an end takes out leaves its room to the next birth.
+/// The births of the objects that live. What an end takes out leaves its room to the next birth. Contracts see besides how many further births
+/// can be held with no further memory.
 #[derive(Drop)]
 pub struct BirthTable {
     births: PlacedTable<BirthEntry>,
 }
 
 impl Model for BirthTable {
-    ghost use Rattle.std.specs.Prelude.{List};
-    ghost use Rattle.object_model.specs.History.{Birth};
-    ghost use Rattle.session_tables.specs.Births.{births_shown};
-    ghost use Rattle.session_tables.specs.Placed.{ArePlaced};
+    ghost use Rattle.session_tables.specs.Births.{BirthsState, births_shown};
+    ghost use Rattle.session_tables.specs.Placed.{ArePlaced, table_room};
 
-    ghost Value = { List Birth };
+    ghost Value = { BirthsState };
 
-    ghost view = { λ t. births_shown t.births.entries.items };
+    ghost view = { λ t. record { births = births_shown t.births.entries.items; spare = table_room t.births } };
 
     ghost invariant = { λ t. ArePlaced t.births };
 }
 
 impl BirthTable {
     pub fn new(alloc: Global) -> BirthTable
-        ensures { result ≡ [] }
+        ensures { result.births ≡ [] }
     {
         BirthTable {
             births: PlacedTable::new(alloc),
@@ -48,31 +47,31 @@ impl BirthTable {
 
     /// How many births there are: each object has one.
     pub fn len(&self) -> usize
-        ensures len { result ≡ length self.now }
+        ensures len { result ≡ length self.now.births }
         ensures few { result < 2 ^ 62 }
-        ensures apart { AreApart self.now }
+        ensures apart { AreApart self.now.births }
     {
         self.births.entries.as_slice().len()
     }
 
     /// The births, each with its object.
     pub(crate) fn entries(&self) -> &[Placed<BirthEntry>]
-        ensures births { births_shown result.now ≡ self.now }
-        ensures apart { AreApart self.now }
+        ensures births { births_shown result.now ≡ self.now.births }
+        ensures apart { AreApart self.now.births }
     {
         self.births.entries.as_slice()
     }
 
     /// Whether an object was born.
     pub fn is_born(&self, object: Object) -> bool
-        ensures { result ≡ born_in self.now object }
+        ensures { result ≡ born_in self.now.births object }
     {
         self.births.get(object).is_some()
     }
 
     /// Whether an object was created.
     pub fn is_created(&self, object: Object) -> bool
-        ensures { result ≡ created_in self.now object }
+        ensures { result ≡ created_in self.now.births object }
     {
         match self.births.get(object) {
             None => false,
@@ -82,7 +81,7 @@ impl BirthTable {
 
     /// The owner of an object, its owner, and so on.
     pub fn owners_of(&self, object: Object) -> &[Object]
-        ensures { result.now ≡ owners_in self.now object }
+        ensures { result.now ≡ owners_in self.now.births object }
     {
         match self.births.get(object) {
             None => &[],
@@ -90,7 +89,19 @@ impl BirthTable {
         }
     }
 
-    /// Adds the birth of an object that has none, in memory up to the object's place.
+    /// Makes room for so many further births, so that those of up to three owners take no memory. Takes none where there is room. `AllocError`
+    /// comes too where there would be more than 2^32; after it the births are as before, and no room is lost.
+    pub fn reserve(&mut self, n: usize) -> Result<(), AllocError>
+        ensures births { self.new.births ≡ self.old.births }
+        ensures ok { OnOk result (n ≤ self.new.spare) }
+        ensures spare { self.old.spare ≤ self.new.spare }
+        ensures succeeds { n ≤ self.old.spare → IsOk result }
+    {
+        self.births.reserve(n)
+    }
+
+    /// Adds the birth of an object that has none. Up to three owners take no memory where there is room; else it takes memory up to the object's
+    /// place.
     pub fn push(
         &mut self,
         alloc: Global,
@@ -98,9 +109,11 @@ impl BirthTable {
         created: bool,
         owners: &[Object],
     ) -> Result<(), AllocError>
-        requires { born_in self.old object ≡ false }
-        ensures ok { OnOk result (self.new ≡ self.old ++ record { object = object; created = created; owners = owners.now } ∷ []) }
-        ensures err { OnErr result (self.new ≡ self.old) }
+        requires { born_in self.old.births object ≡ false }
+        ensures ok { OnOk result (self.new.births ≡ self.old.births ++ record { object = object; created = created; owners = owners.now } ∷ []) }
+        ensures err { OnErr result (self.new.births ≡ self.old.births) }
+        ensures succeeds { length owners.now ≤ 3 → 1 ≤ self.old.spare → IsOk result }
+        ensures spare { self.old.spare ≤ self.new.spare + 1 }
     {
         let birth = BirthEntry {
             created,
@@ -110,9 +123,10 @@ impl BirthTable {
         Ok(())
     }
 
-    /// Takes out the birth of an object.
+    /// Takes out the birth of an object. Its room stays.
     pub fn remove(&mut self, object: Object)
-        ensures { AreLeft self.old (same object) self.new }
+        ensures left { AreLeft self.old.births (same object) self.new.births }
+        ensures spare { self.old.spare ≤ self.new.spare }
     {
         let _ = self.births.remove(object);
     }

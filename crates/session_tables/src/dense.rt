@@ -1,15 +1,8 @@
 // Values by row and place, in plain vectors: a look-up is two reads. Places where nothing was put hold the value of an empty one.
-ghost use Rattle.std.specs.Prelude.{◌≡◌, ◌&&◌, ◌==◌, ◌<◌, ◌^◌, ℕ, IfOk, OnOk, OnErr, if◌then◌else◌, length, true};
+ghost use Rattle.std.specs.Prelude.{◌≡◌, ◌&&◌, ◌==◌, ◌<◌, ◌^◌, ℕ, IfOk, IsOk, OnOk, OnErr, if◌then◌else◌, length, true};
 ghost use Rattle.session_tables.specs.Dense.{cell, cell_in, has_cell};
 
 use std::alloc::{AllocError, Global};
-
-/// The place behind so many. Places have 32 bits.
-pub fn place_behind(count: usize) -> Result<u32, AllocError>
-    ensures { IfOk result (λ place. place ≡ count) }
-{
-    u32::try_from(count).ok().ok_or(AllocError)
-}
 
 /// The value in a place.
 pub fn value_at<V: Copy>(rows: &[Vec<V>], row: usize, at: usize, empty: V) -> V
@@ -21,6 +14,16 @@ pub fn value_at<V: Copy>(rows: &[Vec<V>], row: usize, at: usize, empty: V) -> V
             None => empty,
             Some(value) => *value,
         },
+    }
+}
+
+/// Whether there is such a place.
+pub fn has_place<V: Copy>(rows: &[Vec<V>], row: usize, at: usize) -> bool
+    ensures { result ≡ has_cell rows.now row at }
+{
+    match rows.get(row) {
+        None => false,
+        Some(cells) => at < cells.len(),
     }
 }
 
@@ -78,7 +81,7 @@ fn put_in<V: Copy + Drop>(
     Ok(())
 }
 
-/// Puts a value into a place, in memory up to the place.
+/// Puts a value into a place, in memory up to the place: in none where the place is there.
 pub fn put_value<V: Copy + Drop>(
     alloc: Global,
     rows: &mut Vec<Vec<V>>,
@@ -90,7 +93,12 @@ pub fn put_value<V: Copy + Drop>(
     requires { at < 2 ^ 63 }
     ensures ok { OnOk result ((r n : ℕ) → cell empty rows.new.items r n ≡ (if row == r && at == n then value else cell empty rows.old.items r n)) }
     ensures err { OnErr result ((r n : ℕ) → cell empty rows.new.items r n ≡ cell empty rows.old.items r n) }
+    ensures succeeds { has_cell rows.old.items row at ≡ true → IsOk result }
 {
+    if has_place(rows, row, at) {
+        overwrite(rows, row, at, value);
+        return Ok(());
+    }
     add_rows(alloc, rows, row)?;
     put_in(&mut rows[row], at, value, empty)?;
     Ok(())

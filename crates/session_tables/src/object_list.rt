@@ -1,5 +1,5 @@
 // Objects in a row.
-ghost use Rattle.std.specs.Prelude.{◌≡◌, ◌≤◌, ◌<◌, ◌++◌, ◌∷◌, [], length, slice_get, Some, IsOk, IfOk, OnOk, OnErr};
+ghost use Rattle.std.specs.Prelude.{◌≡◌, ◌≤◌, ◌<◌, ◌+◌, ◌++◌, ◌∷◌, [], length, slice_get, Some, IsOk, IfOk, OnOk, OnErr};
 
 use command_tables::ObjectType;
 use object_model::Object;
@@ -56,10 +56,13 @@ impl ObjectList {
         }
     }
 
-    /// Makes room for so many further objects. After `AllocError` the objects are as before.
+    /// Makes room for so many further objects. Takes no memory where there is room. After `AllocError` the objects are as before, and no room is
+    /// lost.
     pub fn reserve(&mut self, n: usize) -> Result<(), AllocError>
         ensures objects { self.new.objects ≡ self.old.objects }
         ensures ok { OnOk result (n ≤ self.new.spare) }
+        ensures spare { self.old.spare ≤ self.new.spare }
+        ensures succeeds { n ≤ self.old.spare → IsOk result }
     {
         self.types.reserve(n)?;
         self.numbers.reserve(n)?;
@@ -71,6 +74,7 @@ impl ObjectList {
         ensures ok { OnOk result (self.new.objects ≡ self.old.objects ++ object ∷ []) }
         ensures err { OnErr result (self.new.objects ≡ self.old.objects) }
         ensures succeeds { 1 ≤ self.old.spare → IsOk result }
+        ensures spare { self.old.spare ≤ self.new.spare + 1 }
     {
         self.types.reserve(1)?;
         self.numbers.push(object.number)?;

@@ -1,5 +1,5 @@
 // The objects that live, by their births.
-ghost use Rattle.std.specs.Prelude.{◌≡◌, ◌++◌, ◌∷◌, ◌<◌, ◌^◌, ◌&&◌, [], IfOk, OnOk, if◌then◌else◌, true, false, length, map};
+ghost use Rattle.std.specs.Prelude.{◌≡◌, ◌+◌, ◌*◌, ◌++◌, ◌∷◌, ◌<◌, ◌≤◌, ◌^◌, ◌&&◌, [], IfOk, IsOk, OnOk, if◌then◌else◌, true, false, length, map};
 ghost use Rattle.std.specs.List.{list_any, filter_map};
 ghost use Rattle.std.specs.Option.{option_map_or};
 ghost use Rattle.object_model.specs.declared.Object.{Object};
@@ -7,13 +7,13 @@ ghost use Rattle.object_model.specs.Objects.{same, is_in, object_of};
 ghost use Rattle.object_model.specs.History.{births_given, births_of, born_in, created_in, ends_by, ends_with, owners_given, owners_in};
 ghost use Rattle.replay_model.specs.Past.{objects_of};
 ghost use Rattle.session_tables.specs.Births.{AreApart, births_shown};
-ghost use Rattle.session_tables.specs.Lined.{AreAdded, AreLeft, AreLined};
-ghost use Rattle.session_tables.specs.Owned.{listed_in};
-ghost use Rattle.session_tables.specs.Placed.{ArePlaced};
+ghost use Rattle.session_tables.specs.Lined.{AreAdded, AreLeft, AreLined, owners_made};
+ghost use Rattle.session_tables.specs.Owned.{GoDown, objects_from, head_in};
+ghost use Rattle.session_tables.specs.Placed.{ArePlaced, table_room};
 ghost use Rattle.session_tables.specs.Shown.{args_shown};
 
 use crate::birth_table::{BirthEntry, BirthTable};
-use crate::owned_list::{OwnedList, list_at_each};
+use crate::owned_lists::{OwnedLists, OwnedNode, list_at_each, reserve_lists};
 use crate::owners::{arguments_at, fill_owners, object_in_place};
 use crate::placed_table::{Placed, PlacedTable};
 use command_tables::{Effect, OwnerOf};
@@ -28,22 +28,21 @@ use std::mem;
 #[derive(Drop)]
 pub struct ObjectTable {
     births: BirthTable,
-    lists: PlacedTable<OwnedList>,
+    lists: OwnedLists,
     // Room for owners that is used again at each return.
     owners: Vec<Object>,
 }
 
 impl Model for ObjectTable {
-    ghost use Rattle.std.specs.Prelude.{List};
-    ghost use Rattle.object_model.specs.History.{Birth};
-    ghost use Rattle.session_tables.specs.Owned.{AreListed, listed_in};
-    ghost use Rattle.session_tables.specs.Placed.{ArePlaced};
+    ghost use Rattle.std.specs.Prelude.{vec_capacity};
+    ghost use Rattle.session_tables.specs.Lined.{ObjectsState};
+    ghost use Rattle.session_tables.specs.Owned.{LeadToNodes, AreListed, listed_in, lists_room};
 
-    ghost Value = { List Birth };
+    ghost Value = { ObjectsState };
 
-    ghost view = { λ t. t.births };
+    ghost view = { λ t. record { births = t.births.births; spare = t.births.spare; links = lists_room t.lists; owners = vec_capacity t.owners } };
 
-    ghost invariant = { λ t. ArePlaced t.lists × AreListed t.births (listed_in t.lists) };
+    ghost invariant = { λ t. LeadToNodes t.lists.heads t.lists.nodes.items × AreListed t.births.births (listed_in t.lists) };
 }
 
 #[tactic(auto, unfolding(command_tables::specs::Tests::same_type))]
@@ -54,44 +53,51 @@ fn is_among(objects: &[Object], object: Object) -> bool
 }
 
 // Ends an object, and drops its list, where the named one owns it.
-fn end_owned(
-    births: &mut BirthTable,
-    lists: &mut PlacedTable<OwnedList>,
-    object: Object,
-    named: Object,
-)
-    requires { ArePlaced lists.old }
-    ensures left { AreLeft births.old (λ o. same object o && is_in (owners_in births.old o) named) births.new }
-    ensures lists { (w : Object) → (same object w && is_in (owners_in births.old w) named) ≡ false → listed_in lists.new w ≡ listed_in lists.old w }
-    ensures placed { ArePlaced lists.new }
+fn end_owned(births: &mut BirthTable, heads: &mut PlacedTable<u32>, object: Object, named: Object)
+    requires { ArePlaced heads.old }
+    ensures left { AreLeft births.old.births (λ o. same object o && is_in (owners_in births.old.births o) named) births.new.births }
+    ensures heads { (w : Object) → (same object w && is_in (owners_in births.old.births w) named) ≡ false → head_in heads.new w ≡ head_in heads.old w }
+    ensures fewer { (w : Object) → head_in heads.new w ≤ head_in heads.old w }
+    ensures spare { births.old.spare ≤ births.new.spare }
+    ensures room { table_room heads.old ≤ table_room heads.new }
+    ensures placed { ArePlaced heads.new }
 {
     if is_among(births.owners_of(object), named) {
         births.remove(object);
-        let _ = lists.remove(object);
+        let _ = heads.remove(object);
     }
 }
 
-// Of these objects those end that the named one owns, and their lists are dropped.
+// Of the objects of a chain those end that the named one owns, and their lists are dropped.
 fn end_each(
     births: &mut BirthTable,
-    lists: &mut PlacedTable<OwnedList>,
-    objects: &[Object],
+    heads: &mut PlacedTable<u32>,
+    nodes: &[OwnedNode],
+    head: u32,
     named: Object,
 )
-    requires { ArePlaced lists.old }
-    ensures left { AreLeft births.old (λ o. is_in objects.now o && is_in (owners_in births.old o) named) births.new }
-    ensures lists { (w : Object) → is_in (owners_in births.old w) named ≡ false → listed_in lists.new w ≡ listed_in lists.old w }
-    ensures placed { ArePlaced lists.new }
+    requires placed { ArePlaced heads.old }
+    requires down { GoDown nodes.now }
+    requires within { head ≤ length nodes.now }
+    ensures left { AreLeft births.old.births (λ o. is_in (objects_from nodes.now head) o && is_in (owners_in births.old.births o) named) births.new.births }
+    ensures heads { (w : Object) → is_in (owners_in births.old.births w) named ≡ false → head_in heads.new w ≡ head_in heads.old w }
+    ensures fewer { (w : Object) → head_in heads.new w ≤ head_in heads.old w }
+    ensures spare { births.old.spare ≤ births.new.spare }
+    ensures room { table_room heads.old ≤ table_room heads.new }
+    ensures placed { ArePlaced heads.new }
 {
-    for object in objects {
-        end_owned(births, lists, *object, named);
+    let mut link = head;
+    while link > 0 {
+        let node = nodes[link as usize - 1];
+        end_owned(births, heads, node.object, named);
+        link = node.before;
     }
 }
 
 // A table with these births. It lists nothing that has ended.
 fn with_births(alloc: Global, births: &[Placed<BirthEntry>]) -> Result<ObjectTable, AllocError>
     requires { AreApart (births_shown births.now) }
-    ensures { IfOk result (λ table. table ≡ births_shown births.now) }
+    ensures { IfOk result (λ table. table.births ≡ births_shown births.now) }
 {
     let mut table = ObjectTable::new(alloc);
     for birth in births {
@@ -107,58 +113,92 @@ fn with_births(alloc: Global, births: &[Placed<BirthEntry>]) -> Result<ObjectTab
 
 impl ObjectTable {
     pub fn new(alloc: Global) -> ObjectTable
-        ensures { result ≡ [] }
+        ensures { result.births ≡ [] }
     {
         ObjectTable {
             births: BirthTable::new(alloc),
-            lists: PlacedTable::new(alloc),
+            lists: OwnedLists::new(alloc),
             owners: Vec::new(alloc),
         }
     }
 
-    /// A table of its own with the same births.
+    /// A table of its own with the same births. Of room nothing is said.
     pub fn copy(&self) -> Result<ObjectTable, AllocError>
-        ensures { IfOk result (λ copy. copy ≡ self.now) }
+        ensures { IfOk result (λ copy. copy.births ≡ self.now.births) }
     {
         with_births(*self.owners.allocator(), self.births.entries())
     }
 
     /// How many objects live.
     pub fn len(&self) -> usize
-        ensures len { result ≡ length self.now }
+        ensures len { result ≡ length self.now.births }
         ensures few { result < 2 ^ 62 }
-        ensures apart { AreApart self.now }
+        ensures apart { AreApart self.now.births }
     {
         self.births.len()
     }
 
+    /// Makes room for so many births of objects with at most three owners, so that these take no memory. After an error what lives is as
+    /// before, and no room is lost.
+    pub fn reserve(&mut self, n: usize) -> Result<(), AllocError>
+        ensures births { self.new.births ≡ self.old.births }
+        ensures ok_spare { OnOk result (n ≤ self.new.spare) }
+        ensures ok_links { OnOk result (3 * n ≤ self.new.links) }
+        ensures ok_owners { OnOk result (3 ≤ self.new.owners) }
+        ensures spare { self.old.spare ≤ self.new.spare }
+        ensures links { self.old.links ≤ self.new.links }
+        ensures owners { self.old.owners ≤ self.new.owners }
+    {
+        let alloc = *self.owners.allocator();
+        let Some(links) = n.checked_mul(3) else {
+            return Err(AllocError);
+        };
+        self.owners.clear();
+        self.owners.reserve(3)?;
+        self.births.reserve(n)?;
+        reserve_lists(alloc, &mut self.lists, &self.births, links)?;
+        Ok(())
+    }
+
     pub fn births(&self) -> &BirthTable
-        ensures { result.now ≡ self.now }
+        ensures { result.now.births ≡ self.now.births }
     {
         &self.births
     }
 
     /// Whether an object lives.
     pub fn is_living(&self, object: Object) -> bool
-        ensures { result ≡ born_in self.now object }
+        ensures { result ≡ born_in self.now.births object }
     {
         self.births.is_born(object)
     }
 
     // All ends that an object owns.
     fn end_below(&mut self, named: Object)
-        requires { AreLined self.old }
-        ensures { AreLeft self.old (λ o. is_in (owners_in self.old o) named) self.new }
+        requires { AreLined self.old.births }
+        ensures left { AreLeft self.old.births (λ o. is_in (owners_in self.old.births o) named) self.new.births }
+        ensures spare { self.old.spare ≤ self.new.spare }
+        ensures links { self.old.links ≤ self.new.links }
+        ensures owners { self.old.owners ≤ self.new.owners }
     {
-        if let Some(list) = self.lists.remove(named) {
-            end_each(&mut self.births, &mut self.lists, &list.objects, named);
+        if let Some(head) = self.lists.heads.remove(named) {
+            end_each(
+                &mut self.births,
+                &mut self.lists.heads,
+                &self.lists.nodes,
+                head,
+                named,
+            );
         }
     }
 
     // A created object ends with all that it owns.
     fn end_with(&mut self, named: Object)
-        requires { AreLined self.old }
-        ensures { AreLeft self.old (λ o. ends_with self.old o named) self.new }
+        requires { AreLined self.old.births }
+        ensures left { AreLeft self.old.births (λ o. ends_with self.old.births o named) self.new.births }
+        ensures spare { self.old.spare ≤ self.new.spare }
+        ensures links { self.old.links ≤ self.new.links }
+        ensures owners { self.old.owners ≤ self.new.owners }
     {
         if self.births.is_created(named) {
             self.end_below(named);
@@ -168,8 +208,11 @@ impl ObjectTable {
 
     // What an argument names ends, with all that it owns.
     fn end_at(&mut self, argument: Argument)
-        requires { AreLined self.old }
-        ensures { AreLeft self.old (λ o. option_map_or (ends_with self.old o) (object_of argument) false) self.new }
+        requires { AreLined self.old.births }
+        ensures left { AreLeft self.old.births (λ o. option_map_or (ends_with self.old.births o) (object_of argument) false) self.new.births }
+        ensures spare { self.old.spare ≤ self.new.spare }
+        ensures links { self.old.links ≤ self.new.links }
+        ensures owners { self.old.owners ≤ self.new.owners }
     {
         if let Some(named) = object_in_place(argument) {
             self.end_with(named);
@@ -178,8 +221,11 @@ impl ObjectTable {
 
     // What an argument names stays, and all ends that it owns.
     fn end_below_at(&mut self, argument: Argument)
-        requires { AreLined self.old }
-        ensures { AreLeft self.old (λ o. option_map_or (is_in (owners_in self.old o)) (object_of argument) false) self.new }
+        requires { AreLined self.old.births }
+        ensures left { AreLeft self.old.births (λ o. option_map_or (is_in (owners_in self.old.births o)) (object_of argument) false) self.new.births }
+        ensures spare { self.old.spare ≤ self.new.spare }
+        ensures links { self.old.links ≤ self.new.links }
+        ensures owners { self.old.owners ≤ self.new.owners }
     {
         if let Some(named) = object_in_place(argument) {
             self.end_below(named);
@@ -188,8 +234,11 @@ impl ObjectTable {
 
     // What these arguments name ends, with all that it owns. One may have ended by an earlier one: then all that it owns has ended too.
     fn end_named(&mut self, at: &[Argument])
-        requires { AreLined self.old }
-        ensures { AreLeft self.old (λ o. list_any (ends_with self.old o) (filter_map object_of at.now)) self.new }
+        requires { AreLined self.old.births }
+        ensures left { AreLeft self.old.births (λ o. list_any (ends_with self.old.births o) (filter_map object_of at.now)) self.new.births }
+        ensures spare { self.old.spare ≤ self.new.spare }
+        ensures links { self.old.links ≤ self.new.links }
+        ensures owners { self.old.owners ≤ self.new.owners }
     {
         for argument in at {
             self.end_at(*argument);
@@ -198,18 +247,24 @@ impl ObjectTable {
 
     // What these arguments name stays, and all ends that it owns.
     fn end_below_named(&mut self, at: &[Argument])
-        requires { AreLined self.old }
-        ensures { AreLeft self.old (λ o. list_any (is_in (owners_in self.old o)) (filter_map object_of at.now)) self.new }
+        requires { AreLined self.old.births }
+        ensures left { AreLeft self.old.births (λ o. list_any (is_in (owners_in self.old.births o)) (filter_map object_of at.now)) self.new.births }
+        ensures spare { self.old.spare ≤ self.new.spare }
+        ensures links { self.old.links ≤ self.new.links }
+        ensures owners { self.old.owners ≤ self.new.owners }
     {
         for argument in at {
             self.end_below_at(*argument);
         }
     }
 
-    /// Ends what a call ends.
+    /// Ends what a call ends. No room is lost.
     pub fn end_some(&mut self, args: &[Vec<Argument>], effect: Effect)
-        requires { AreLined self.old }
-        ensures { AreLeft self.old (ends_by self.old (args_shown args.now) effect) self.new }
+        requires { AreLined self.old.births }
+        ensures left { AreLeft self.old.births (ends_by self.old.births (args_shown args.now) effect) self.new.births }
+        ensures spare { self.old.spare ≤ self.new.spare }
+        ensures links { self.old.links ≤ self.new.links }
+        ensures owners { self.old.owners ≤ self.new.owners }
     {
         match effect {
             Effect::Destroy(p) | Effect::Free(p) => self.end_named(arguments_at(args, p)),
@@ -225,8 +280,12 @@ impl ObjectTable {
         created: bool,
         owners: &[Object],
     ) -> Result<(), AllocError>
-        requires { born_in self.old object ≡ false }
-        ensures { OnOk result (self.new ≡ self.old ++ record { object = object; created = created; owners = owners.now } ∷ []) }
+        requires { born_in self.old.births object ≡ false }
+        ensures ok { OnOk result (self.new.births ≡ self.old.births ++ record { object = object; created = created; owners = owners.now } ∷ []) }
+        ensures succeeds { length owners.now ≤ 3 → 1 ≤ self.old.spare → length owners.now ≤ self.old.links → IsOk result }
+        ensures spare { self.old.spare ≤ self.new.spare + 1 }
+        ensures links { self.old.links ≤ self.new.links + length owners.now }
+        ensures owners { self.old.owners ≤ self.new.owners }
     {
         list_at_each(alloc, &mut self.lists, &self.births, owners, object)?;
         self.births.push(alloc, object, created, owners)?;
@@ -241,7 +300,11 @@ impl ObjectTable {
         created: bool,
         owners: &[Object],
     ) -> Result<(), AllocError>
-        ensures { OnOk result (self.new ≡ (if born_in self.old object then self.old else self.old ++ record { object = object; created = created; owners = owners.now } ∷ [])) }
+        ensures ok { OnOk result (self.new.births ≡ (if born_in self.old.births object then self.old.births else self.old.births ++ record { object = object; created = created; owners = owners.now } ∷ [])) }
+        ensures succeeds { length owners.now ≤ 3 → 1 ≤ self.old.spare → length owners.now ≤ self.old.links → IsOk result }
+        ensures spare { self.old.spare ≤ self.new.spare + 1 }
+        ensures links { self.old.links ≤ self.new.links + length owners.now }
+        ensures owners { self.old.owners ≤ self.new.owners }
     {
         if self.births.is_born(object) {
             Ok(())
@@ -258,7 +321,11 @@ impl ObjectTable {
         owners: &[Object],
         made: &[Born],
     ) -> Result<(), AllocError>
-        ensures { OnOk result (AreAdded self.old (births_of self.old created owners.now (objects_of made.now)) self.new) }
+        ensures ok { OnOk result (AreAdded self.old.births (births_of self.old.births created owners.now (objects_of made.now)) self.new.births) }
+        ensures succeeds { length owners.now ≤ 3 → length made.now ≤ self.old.spare → 3 * length made.now ≤ self.old.links → IsOk result }
+        ensures spare { self.old.spare ≤ self.new.spare + length made.now }
+        ensures links { length owners.now ≤ 3 → self.old.links ≤ self.new.links + 3 * length made.now }
+        ensures owners { self.old.owners ≤ self.new.owners }
     {
         for born in made {
             self.add(alloc, born.object, created, owners)?;
@@ -275,16 +342,21 @@ impl ObjectTable {
         owner: OwnerOf,
         made: &[Born],
     ) -> Result<(), AllocError>
-        ensures { OnOk result (AreAdded self.old (births_of self.old created (owners_given self.old (args_shown args.now) owner) (objects_of made.now)) self.new) }
+        ensures ok { OnOk result (AreAdded self.old.births (births_of self.old.births created (owners_given self.old.births (args_shown args.now) owner) (objects_of made.now)) self.new.births) }
+        ensures succeeds { length (owners_given self.old.births (args_shown args.now) owner) ≤ 3 → 3 ≤ self.old.owners → length made.now ≤ self.old.spare → 3 * length made.now ≤ self.old.links → IsOk result }
+        ensures spare { self.old.spare ≤ self.new.spare + length made.now }
+        ensures links { length (owners_given self.old.births (args_shown args.now) owner) ≤ 3 → self.old.links ≤ self.new.links + 3 * length made.now }
+        ensures owners { self.old.owners ≤ self.new.owners }
     {
-        let mut owners = mem::replace(&mut self.owners, Vec::new(alloc));
-        fill_owners(&mut owners, &self.births, args, owner)?;
-        self.add_all(alloc, created, &owners, made)?;
+        fill_owners(&mut self.owners, &self.births, args, owner)?;
+        let owners = mem::replace(&mut self.owners, Vec::new(alloc));
+        let added = self.add_all(alloc, created, &owners, made);
         self.owners = owners;
-        Ok(())
+        added
     }
 
-    /// Adds what a call made, as far as it doesn't live.
+    /// Adds what a call made, as far as it doesn't live. Takes no memory where there is room, and no more of it than one birth, with an entry
+    /// for each of its owners, for each object.
     pub fn bear(
         &mut self,
         alloc: Global,
@@ -292,7 +364,11 @@ impl ObjectTable {
         effect: Effect,
         made: &[Born],
     ) -> Result<(), AllocError>
-        ensures { OnOk result (AreAdded self.old (births_given self.old (args_shown args.now) effect (objects_of made.now)) self.new) }
+        ensures ok { OnOk result (AreAdded self.old.births (births_given self.old.births (args_shown args.now) effect (objects_of made.now)) self.new.births) }
+        ensures succeeds { length (owners_made self.old.births (args_shown args.now) effect) ≤ 3 → 3 ≤ self.old.owners → length made.now ≤ self.old.spare → 3 * length made.now ≤ self.old.links → IsOk result }
+        ensures spare { self.old.spare ≤ self.new.spare + length made.now }
+        ensures links { length (owners_made self.old.births (args_shown args.now) effect) ≤ 3 → self.old.links ≤ self.new.links + 3 * length made.now }
+        ensures owners { self.old.owners ≤ self.new.owners }
     {
         match effect {
             Effect::Create { owner, .. } => self.bear_of(alloc, true, args, owner, made),

@@ -1,5 +1,5 @@
 // The owners of one object.
-ghost use Rattle.std.specs.Prelude.{◌≡◌, IfOk};
+ghost use Rattle.std.specs.Prelude.{◌≡◌, ◌≤◌, IfOk, IsOk, length};
 ghost use Rattle.session_tables.specs.Births.{owners_kept};
 
 use object_model::Object;
@@ -17,7 +17,8 @@ pub enum OwnerList {
 
 impl OwnerList {
     pub fn from_slice(alloc: Global, owners: &[Object]) -> Result<OwnerList, AllocError>
-        ensures { IfOk result (λ l. owners_kept l ≡ owners.now) }
+        ensures kept { IfOk result (λ l. owners_kept l ≡ owners.now) }
+        ensures succeeds { length owners.now ≤ 3 → IsOk result }
     {
         match owners {
             [] => Ok(OwnerList::None),

@@ -1,5 +1,5 @@
 // The owners of what a call makes.
-ghost use Rattle.std.specs.Prelude.{◌≡◌, [], slice_get, unwrap_or, OnOk};
+ghost use Rattle.std.specs.Prelude.{◌≡◌, ◌≤◌, [], length, slice_get, unwrap_or, vec_capacity, IsOk, OnOk};
 ghost use Rattle.object_model.specs.Objects.{first_in, object_of};
 ghost use Rattle.object_model.specs.History.{owners_given};
 ghost use Rattle.replay_model.specs.Past.{owner_by};
@@ -40,14 +40,17 @@ fn first_object(args: &[Vec<Argument>], p: u8) -> Option<Object>
     }
 }
 
-/// Fills a list with the owner of what a call makes, its owner, and so on. What stood in the list before is gone.
+/// Fills a list with the owner of what a call makes, its owner, and so on. What stood in the list before is gone, and its room stays. Takes
+/// no memory where there is room.
 pub fn fill_owners(
     owners: &mut Vec<Object>,
     births: &BirthTable,
     args: &[Vec<Argument>],
     owner: OwnerOf,
 ) -> Result<(), AllocError>
-    ensures { OnOk result (owners.new.items ≡ owners_given births.now (args_shown args.now) owner) }
+    ensures ok { OnOk result (owners.new.items ≡ owners_given births.now.births (args_shown args.now) owner) }
+    ensures succeeds { length (owners_given births.now.births (args_shown args.now) owner) ≤ vec_capacity owners.old → IsOk result }
+    ensures room { vec_capacity owners.old ≤ vec_capacity owners.new }
 {
     owners.clear();
     match owner {
@@ -69,7 +72,7 @@ pub fn fill_owners(
 }
 
 fn owner_for(births: &BirthTable, args: &[Vec<Argument>], owner: OwnerOf) -> Option<Object>
-    ensures { result ≡ slice_get (owners_given births.now (args_shown args.now) owner) 0 }
+    ensures { result ≡ slice_get (owners_given births.now.births (args_shown args.now) owner) 0 }
 {
     match owner {
         OwnerOf::Nobody => None,
@@ -83,7 +86,7 @@ fn owner_for(births: &BirthTable, args: &[Vec<Argument>], owner: OwnerOf) -> Opt
 
 /// The owner of what a call makes.
 pub fn owner(births: &BirthTable, args: &[Vec<Argument>], effect: Effect) -> Option<Object>
-    ensures { result ≡ owner_by births.now (args_shown args.now) effect }
+    ensures { result ≡ owner_by births.now.births (args_shown args.now) effect }
 {
     match effect {
         Effect::Create { owner, .. } | Effect::Retrieve { owner, .. } => {

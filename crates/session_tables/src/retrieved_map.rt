@@ -1,166 +1,142 @@
-// Retrieved objects by their keys.
-ghost use Rattle.std.specs.Prelude.{◌≡◌, ◌==◌, ◌<◌, ◌^◌, None, Some, OnOk, OnErr, IfOk, IfSome, if◌then◌else◌, length, true};
-ghost use Rattle.std.specs.HashMap.{get};
-ghost use Rattle.session_tables.specs.declared.retrieved_map.RetrievedKey.{RetrievedKey};
-ghost use Rattle.session_tables.specs.Filing.{kept};
-ghost use Rattle.session_tables.specs.Retrieved.{FitsRow, near_key, object_for, same_key};
+// Retrieved objects by their keys, through chains.
+ghost use Rattle.std.specs.Prelude.{◌≡◌, ◌≤◌, ◌+◌, Some, map, length, if◌then◌else◌, IfOk, IsOk, OnErr};
+ghost use Rattle.object_model.specs.Objects.{are_same};
+ghost use Rattle.session_tables.specs.Retrieved.{AreLatest, AreLinked, chain_number, first_kept, has_key, HavePayloads, IsLink, latest_in, link_of, retrieval_of, with_link};
 
-use crate::dense::{place_behind, put_value, value_at};
-use crate::object_places::ObjectPlaces;
+use crate::retrieved_table::RetrievedEntry;
 use command_tables::ObjectType;
+use handle_map::HandleMap;
 use object_model::Object;
-use std::alloc::{AllocError, Global};
-use std::collections::HashMap;
-
-/// A call has at most so many results. A key with a greater place has none among the rows.
-const MOST_PLACES: usize = 1_024;
+use std::alloc::AllocError;
 
 /// What tells one retrieved object from another.
-#[derive(Drop, PartialEq, Eq, Hash)]
-pub struct RetrievedKey {
+#[derive(Clone, Copy)]
+pub struct RetrievedKey<'a> {
     pub ty: ObjectType,
     pub owner: Object,
     pub place: usize,
-    pub payload: Vec<u8>,
+    pub payload: &'a [u8],
 }
 
-/// A retrieved object, in a place of its owner's row.
-#[derive(Clone, Copy)]
-pub struct RetrievedPlace {
-    pub owner: Object,
-    pub object: Object,
+// The number of the chain of an owner's place, among those of the owner's type. An object's number is made of its first name, the
+// `number`-th of a thread, as `number * 2048 + thread`. Images are mostly named right behind their swapchain, so that few share a chain;
+// and four names count as one, so that chains are numbered about as densely as objects are retrieved, and a map finds each in one look.
+fn chain_of(owner: Object, place: usize) -> u64
+    ensures { result ≡ chain_number owner place }
+{
+    owner.number / 8192 + owner.number % 2048 * 16 + place as u64 % 0x1_0000_0000
 }
 
-/// Retrieved objects by their keys. An object whose key has no payload stands in its place of its owner's row. One with a payload stands in a map,
-/// and so does one whose place another one has.
-#[derive(Drop)]
-pub struct RetrievedMap {
-    owners: ObjectPlaces,
-    rows: Vec<Vec<Option<RetrievedPlace>>>,
-    others: HashMap<RetrievedKey, Object>,
-    alloc: Global,
+// The link to the latest entry of the chain of this owner and place.
+fn latest_of(latest: &HandleMap<1024>, owner: Object, place: usize) -> usize
+    ensures { result ≡ latest_in latest.now.entries owner.ty (chain_number owner place) }
+{
+    match latest.get(owner.ty, chain_of(owner, place)) {
+        None => 0,
+        Some([]) => 0,
+        Some([link, ..]) => *link as usize,
+    }
 }
 
-#[cold]
-#[inline(never)]
 #[tactic(auto, unfolding(command_tables::specs::Tests::same_type))]
-fn other(others: &HashMap<RetrievedKey, Object>, key: &RetrievedKey) -> Option<Object>
-    ensures { result ≡ get same_key others.now key.now }
+fn is_owner(owner: Option<Object>, object: Object) -> bool
+    ensures { result ≡ are_same owner (Some object) }
 {
-    if others.is_empty() {
-        None
+    match owner {
+        None => false,
+        Some(owner) => owner == object,
+    }
+}
+
+// Whether an entry has this key.
+#[tactic(auto, unfolding(command_tables::specs::Tests::same_type))]
+fn is_kept_by(entry: &RetrievedEntry, bytes: &[u8], key: RetrievedKey<'_>) -> bool
+    requires { entry.now.start + entry.now.len ≤ length bytes.now }
+    ensures { result ≡ has_key key.entry (retrieval_of bytes.now entry.now) }
+{
+    let payload = &bytes[entry.start..entry.start + entry.len];
+    entry.object.ty == key.ty
+        && is_owner(entry.owner, key.owner)
+        && entry.place == key.place
+        && payload == key.payload
+}
+
+// The object that was found, by one entry more.
+fn found_by(
+    entry: &RetrievedEntry,
+    bytes: &[u8],
+    key: RetrievedKey<'_>,
+    found: Option<Object>,
+) -> Option<Object>
+    requires { entry.now.start + entry.now.len ≤ length bytes.now }
+    ensures { result ≡ (if has_key key.entry (retrieval_of bytes.now entry.now) then Some entry.now.object else found) }
+{
+    if is_kept_by(entry, bytes, key) {
+        Some(entry.object)
     } else {
-        others.get(key).copied()
+        found
     }
 }
 
-fn near(
-    rows: &[Vec<Option<RetrievedPlace>>],
-    owners: &ObjectPlaces,
-    key: &RetrievedKey,
-) -> Option<RetrievedPlace>
-    ensures { result ≡ near_key rows.now owners.now key.now }
+// The object with a key, on the way from a link through its chain. Of more than one the oldest counts.
+fn walk(
+    entries: &[RetrievedEntry],
+    bytes: &[u8],
+    first: usize,
+    key: RetrievedKey<'_>,
+) -> Option<Object>
+    requires linked { AreLinked entries.now }
+    requires payloads { HavePayloads entries.now bytes.now }
+    requires first { IsLink entries.now key.owner.ty (chain_number key.owner key.place) (length entries.now) first }
+    ensures { result ≡ first_kept (map (retrieval_of bytes.now) entries.now) key.entry }
 {
-    if key.payload.as_slice().is_empty() {
-        match owners.get(key.owner) {
-            None => None,
-            Some(row) => value_at(rows, row as usize, key.place, None),
-        }
-    } else {
-        None
+    let mut link = first;
+    let mut found = None;
+    while link != 0 {
+        let entry = &entries[link - 1];
+        found = found_by(entry, bytes, key, found);
+        link = entry.before;
     }
+    found
 }
 
-// The row of an owner, which is opened where there is none.
-#[tactic(auto, using(crate::proofs::RetrievedLemmas::opened_row))]
-fn open_row(
-    owners: &mut ObjectPlaces,
-    rows: &[Vec<Option<RetrievedPlace>>],
-    owner: Object,
-) -> Result<u32, AllocError>
-    ensures at { IfOk result (λ row. kept owners.new owner ≡ Some row) }
-    ensures same { (k : RetrievedKey) → near_key rows.now owners.new k ≡ near_key rows.now owners.old k }
+/// The object with a key, if there is one. Takes no memory.
+pub fn object_of(
+    entries: &[RetrievedEntry],
+    bytes: &[u8],
+    latest: &HandleMap<1024>,
+    key: RetrievedKey<'_>,
+) -> Option<Object>
+    requires linked { AreLinked entries.now }
+    requires payloads { HavePayloads entries.now bytes.now }
+    requires latest { AreLatest entries.now latest.now.entries }
+    ensures { result ≡ first_kept (map (retrieval_of bytes.now) entries.now) key.entry }
 {
-    match owners.get(owner) {
-        Some(row) => Ok(row),
-        None => {
-            let row = place_behind(rows.len())?;
-            owners.put(owner, row)?;
-            Ok(row)
-        }
-    }
+    walk(entries, bytes, latest_of(latest, key.owner, key.place), key)
 }
 
-// The row in which an object is put: none where its key has a payload, or its place is taken.
-fn row_for(
-    owners: &mut ObjectPlaces,
-    rows: &[Vec<Option<RetrievedPlace>>],
-    key: &RetrievedKey,
-) -> Result<Option<usize>, AllocError>
-    ensures row { IfOk result (λ r. IfSome r (λ row. FitsRow rows.now owners.new key.now row)) }
-    ensures same { (k : RetrievedKey) → near_key rows.now owners.new k ≡ near_key rows.now owners.old k }
+/// Makes a link that of the latest entry of an owner's place, and gives the one that was. After `AllocError` the links are as before; it
+/// comes only where there was no room.
+pub fn put_link(
+    latest: &mut HandleMap<1024>,
+    owner: Option<Object>,
+    place: usize,
+    link: usize,
+) -> Result<usize, AllocError>
+    ensures before { IfOk result (λ before. before ≡ link_of latest.old.entries owner place) }
+    ensures ok { IfOk result (λ before. latest.new.entries ≡ with_link latest.old.entries owner place link) }
+    ensures err { OnErr result (latest.new.entries ≡ latest.old.entries) }
+    ensures succeeds { 1 ≤ latest.old.spare → 1 ≤ latest.old.room → IsOk result }
+    ensures spare { latest.old.spare ≤ latest.new.spare + 1 }
+    ensures room { latest.old.room ≤ latest.new.room + 1 }
 {
-    if !key.payload.as_slice().is_empty() || key.place >= MOST_PLACES {
-        return Ok(None);
-    }
-    let row = open_row(owners, rows, key.owner)? as usize;
-    match value_at(rows, row, key.place, None) {
-        None => Ok(Some(row)),
-        Some(_) => Ok(None),
-    }
-}
-
-impl RetrievedMap {
-    pub fn new(alloc: Global) -> RetrievedMap
-        ensures { (k : RetrievedKey) → object_for result k ≡ None }
-    {
-        RetrievedMap {
-            owners: ObjectPlaces::new(alloc),
-            rows: Vec::new(alloc),
-            others: HashMap::new(alloc),
-            alloc,
-        }
-    }
-
-    /// The object with a key.
-    #[tactic(auto, unfolding(command_tables::specs::Tests::same_type))]
-    pub fn get(&self, key: &RetrievedKey) -> Option<Object>
-        ensures { result ≡ object_for self.now key.now }
-    {
-        match near(&self.rows, &self.owners, key) {
-            Some(place) if place.owner == key.owner && place.object.ty == key.ty => {
-                Some(place.object)
-            }
-            _ => other(&self.others, key),
-        }
-    }
-
-    /// Adds an object with a key that has none.
-    pub fn put(&mut self, key: RetrievedKey, object: Object) -> Result<(), AllocError>
-        requires ty { object.ty ≡ key.ty }
-        requires new { object_for self.old key ≡ None }
-        ensures ok { OnOk result ((k : RetrievedKey) → object_for self.new k ≡ (if same_key key k then Some object else object_for self.old k)) }
-        ensures err { OnErr result ((k : RetrievedKey) → object_for self.new k ≡ object_for self.old k) }
-    {
-        match row_for(&mut self.owners, &self.rows, &key)? {
-            Some(row) => {
-                let place = RetrievedPlace {
-                    owner: key.owner,
-                    object,
-                };
-                put_value(
-                    self.alloc,
-                    &mut self.rows,
-                    row,
-                    key.place,
-                    Some(place),
-                    None,
-                )?;
-                Ok(())
-            }
-            None => {
-                self.others.insert(key, object)?;
-                Ok(())
+    match owner {
+        None => Ok(0),
+        Some(owner) => {
+            let before = latest_of(latest, owner, place);
+            match latest.insert(owner.ty, chain_of(owner, place), &[link as u64]) {
+                Ok(()) => Ok(before),
+                Err(_) => Err(AllocError),
             }
         }
     }

@@ -7,6 +7,8 @@ mod map_tests;
 #[cfg(test)]
 mod record_tests;
 #[cfg(test)]
+mod room_tests;
+#[cfg(test)]
 mod session_copy_tests;
 #[cfg(test)]
 mod session_table_tests;

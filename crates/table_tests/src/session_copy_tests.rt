@@ -6,7 +6,7 @@ use command_tables::ObjectType;
 use object_model::Object;
 use replay_model::Named;
 use session_tables::{
-    NamedTable, ObjectList, ObjectPlaces, ObjectTable, RetrievedEntry, RetrievedTable,
+    BirthTable, NamedTable, ObjectList, ObjectPlaces, ObjectTable, RetrievedTable,
 };
 use std::alloc::Global;
 use std::process::Abort;
@@ -14,16 +14,16 @@ use std::test::Fail;
 use trace_format::Name;
 
 // None, a few, as many as a frame has, and as many as a long trace has.
-const SIZES: [u32; 4] = [0, 3, 400, 10_000];
+pub(crate) const SIZES: [u32; 4] = [0, 3, 400, 10_000];
 
-fn buffer(k: u32) -> Object {
+pub(crate) fn buffer(k: u32) -> Object {
     Object {
         ty: ObjectType::Buffer,
         number: (u64::from(k) + 1) * 2048 + 1,
     }
 }
 
-fn has_objects(rt: &impl Abort, list: &ObjectList, count: u32)
+pub(crate) fn has_objects(rt: &impl Abort, list: &ObjectList, count: u32)
     requires { count ≤ length list.now.objects }
 {
     for k in 0..count {
@@ -32,7 +32,7 @@ fn has_objects(rt: &impl Abort, list: &ObjectList, count: u32)
 }
 
 // An object stands behind so many.
-fn push_behind(
+pub(crate) fn push_behind(
     rt: &impl Abort,
     list: &mut ObjectList,
     count: u32,
@@ -58,11 +58,19 @@ fn copy_of_list(rt: &impl Abort, list: &mut ObjectList, count: u32) -> Result<()
 }
 
 // So many objects in a row.
-fn list_of(rt: &impl Abort, alloc: Global, count: u32) -> Result<(), Fail> {
-    let mut list = ObjectList::new(alloc);
+pub(crate) fn push_buffers(list: &mut ObjectList, count: u32) -> Result<(), Fail>
+    requires { 0 ≡ length list.old.objects }
+    ensures { OnOk result (count ≡ length list.new.objects) }
+{
     for k in 0..count {
         list.push(buffer(k))?;
     }
+    Ok(())
+}
+
+fn list_of(rt: &impl Abort, alloc: Global, count: u32) -> Result<(), Fail> {
+    let mut list = ObjectList::new(alloc);
+    push_buffers(&mut list, count)?;
     copy_of_list(rt, &mut list, count)
 }
 
@@ -76,7 +84,7 @@ fn copies_of_rows(rt: HostRuntime) -> Result<(), Fail> {
 }
 
 // An image with a buffer's number: it has its place beside the rows.
-fn image(k: u32) -> Object {
+pub(crate) fn image(k: u32) -> Object {
     Object {
         ty: ObjectType::Image,
         number: buffer(k).number,
@@ -84,7 +92,7 @@ fn image(k: u32) -> Object {
 }
 
 // So many buffers have a place, and as many images have the one behind.
-fn put_places(places: &mut ObjectPlaces, count: u32) -> Result<(), Fail> {
+pub(crate) fn put_places(places: &mut ObjectPlaces, count: u32) -> Result<(), Fail> {
     for k in 0..count {
         places.put(buffer(k), k)?;
         places.put(image(k), k + 1)?;
@@ -92,7 +100,7 @@ fn put_places(places: &mut ObjectPlaces, count: u32) -> Result<(), Fail> {
     Ok(())
 }
 
-fn has_places(rt: &impl Abort, places: &ObjectPlaces, count: u32) {
+pub(crate) fn has_places(rt: &impl Abort, places: &ObjectPlaces, count: u32) {
     for k in 0..count {
         let found = [places.get(buffer(k)), places.get(image(k))];
         assert_eq!(rt; found, [Some(k), Some(k + 1)], "place {k}");
@@ -136,14 +144,14 @@ fn copies_of_places(rt: HostRuntime) -> Result<(), Fail> {
 }
 
 // A name of another thread for this object.
-fn further(object: Object) -> Named {
+pub(crate) fn further(object: Object) -> Named {
     Named {
         name: name(2, 1),
         object,
     }
 }
 
-fn has_names(rt: &impl Abort, table: &NamedTable, count: u32) {
+pub(crate) fn has_names(rt: &impl Abort, table: &NamedTable, count: u32) {
     assert_eq!(rt; table.len() as u64, u64::from(count) + 1);
     for k in 0..count {
         assert_eq!(rt;
@@ -173,15 +181,21 @@ fn copy_of_names(rt: &impl Abort, table: &mut NamedTable, count: u32) -> Result<
     name_apart(rt, table, &mut copy)
 }
 
-// So many buffers have a name each, of which the first stands for a second object, too.
-fn names_of(rt: &impl Abort, alloc: Global, count: u32) -> Result<(), Fail> {
-    let mut table = NamedTable::new(alloc);
+// So many buffers have a name each.
+pub(crate) fn push_names(table: &mut NamedTable, count: u32) -> Result<(), Fail> {
     for k in 0..count {
         table.push(Named {
             name: name(1, k + 1),
             object: buffer(k),
         })?;
     }
+    Ok(())
+}
+
+// The first of the names stands for a second object, too.
+fn names_of(rt: &impl Abort, alloc: Global, count: u32) -> Result<(), Fail> {
+    let mut table = NamedTable::new(alloc);
+    push_names(&mut table, count)?;
     table.push(Named {
         name: name(1, 1),
         object: buffer(7),
@@ -198,25 +212,29 @@ fn copies_of_names(rt: HostRuntime) -> Result<(), Fail> {
     Ok(())
 }
 
-fn instance() -> Object {
+pub(crate) fn instance() -> Object {
     object(ObjectType::Instance, name(3, 1))
 }
 
-fn device() -> Object {
+pub(crate) fn device() -> Object {
     object(ObjectType::Device, name(3, 2))
 }
 
-fn has_buffers(rt: &impl Abort, table: &ObjectTable, count: u32) {
-    assert_eq!(rt; table.len() as u64, u64::from(count) + 2);
+pub(crate) fn has_births(rt: &impl Abort, births: &BirthTable, count: u32) {
     for k in 0..count {
         assert_eq!(rt;
-            table.births().owners_of(buffer(k)),
+            births.owners_of(buffer(k)),
             [device(), instance()].as_slice(),
             "buffer {k}"
         );
     }
-    assert_eq!(rt; table.births().owners_of(device()), [instance()].as_slice());
-    assert!(rt; table.births().is_created(device()));
+    assert_eq!(rt; births.owners_of(device()), [instance()].as_slice());
+    assert!(rt; births.is_created(device()));
+}
+
+pub(crate) fn has_buffers(rt: &impl Abort, table: &ObjectTable, count: u32) {
+    assert_eq!(rt; table.len() as u64, u64::from(count) + 2);
+    has_births(rt, table.births(), count);
 }
 
 // What is born in one of them isn't in the other.
@@ -251,7 +269,7 @@ fn copy_of_objects(
     bear_apart(rt, alloc, table, &mut copy)
 }
 
-fn buffer_names(alloc: Global, count: u32) -> Result<Vec<Name>, Fail> {
+pub(crate) fn buffer_names(alloc: Global, count: u32) -> Result<Vec<Name>, Fail> {
     let mut names = Vec::new(alloc);
     for k in 0..count {
         names.push(name(1, k + 1))?;
@@ -259,7 +277,11 @@ fn buffer_names(alloc: Global, count: u32) -> Result<Vec<Name>, Fail> {
     Ok(names)
 }
 
-fn bear_buffers(alloc: Global, table: &mut ObjectTable, names: &[Name]) -> Result<(), Fail> {
+pub(crate) fn bear_buffers(
+    alloc: Global,
+    table: &mut ObjectTable,
+    names: &[Name],
+) -> Result<(), Fail> {
     made(alloc, table, ObjectType::Instance, None, &[name(3, 1)])?;
     let instance = Some(instance());
     made(alloc, table, ObjectType::Device, instance, &[name(3, 2)])?;
@@ -283,84 +305,75 @@ fn copies_of_objects(rt: HostRuntime) -> Result<(), Fail> {
 }
 
 // The image with a key at this place.
-fn image_at(alloc: Global, table: &RetrievedTable, place: usize) -> Result<Option<Object>, Fail> {
-    Ok(table.object_with(&key(alloc, ObjectType::Image, place, b"")?))
+fn image_at(table: &RetrievedTable, place: usize) -> Option<Object> {
+    table.object_with(key(ObjectType::Image, place, b""))
 }
 
 // The queue with this payload.
-fn queue_by(alloc: Global, table: &RetrievedTable, payload: &[u8]) -> Result<Option<Object>, Fail> {
-    Ok(table.object_with(&key(alloc, ObjectType::Queue, 0, payload)?))
+pub(crate) fn queue_by(table: &RetrievedTable, payload: &[u8]) -> Option<Object> {
+    table.object_with(key(ObjectType::Queue, 0, payload))
 }
 
 // The k-th image and the k-th queue are found.
-fn finds_both(
-    rt: &impl Abort,
-    alloc: Global,
-    table: &RetrievedTable,
-    k: u32,
-    number: u32,
-) -> Result<(), Fail> {
+fn finds_both(rt: &impl Abort, table: &RetrievedTable, k: u32, number: u32) {
     let found = [
-        image_at(alloc, table, k as usize)?,
-        queue_by(alloc, table, &k.to_le_bytes())?,
+        image_at(table, k as usize),
+        queue_by(table, &k.to_le_bytes()),
     ];
     let wanted = [
         Some(object(ObjectType::Image, name(1, number))),
         Some(object(ObjectType::Queue, name(2, number))),
     ];
     assert_eq!(rt; found, wanted, "object {k}");
-    Ok(())
+}
+
+fn finds_all(rt: &impl Abort, table: &RetrievedTable, count: u32) {
+    for k in 0..count {
+        finds_both(rt, table, k, k + 1);
+    }
 }
 
 // An object is retrieved, and then this one is found.
 fn retrieve_one(
     rt: &impl Abort,
-    alloc: Global,
     table: &mut RetrievedTable,
     object: Object,
     wanted: Option<Object>,
 ) -> Result<(), Fail> {
-    retrieved(alloc, table, 0, b"last", object)?;
-    assert_eq!(rt; queue_by(alloc, table, b"last")?, wanted);
+    retrieved(table, 0, b"last", object)?;
+    assert_eq!(rt; queue_by(table, b"last"), wanted);
     Ok(())
 }
 
-fn copy_of_retrieved(
-    rt: &impl Abort,
-    alloc: Global,
-    table: &RetrievedTable,
-    count: u32,
-) -> Result<(), Fail> {
+fn copy_of_retrieved(rt: &impl Abort, table: &RetrievedTable, count: u32) -> Result<(), Fail> {
     let mut copy = table.copy()?;
-    for k in 0..count {
-        finds_both(rt, alloc, &copy, k, k + 1)?;
-    }
+    finds_all(rt, &copy, count);
     let queue = object(ObjectType::Queue, name(3, 1));
-    retrieve_one(rt, alloc, &mut copy, buffer(1), None)?;
-    retrieve_one(rt, alloc, &mut copy, queue, Some(queue))?;
-    assert_eq!(rt; queue_by(alloc, table, b"last")?, None);
+    retrieve_one(rt, &mut copy, buffer(1), None)?;
+    retrieve_one(rt, &mut copy, queue, Some(queue))?;
+    assert_eq!(rt; queue_by(table, b"last"), None);
     Ok(())
 }
 
-fn retrieve_both(
-    alloc: Global,
-    table: &mut RetrievedTable,
-    k: u32,
-    number: u32,
-) -> Result<(), Fail> {
+fn retrieve_both(table: &mut RetrievedTable, k: u32, number: u32) -> Result<(), Fail> {
     let image = object(ObjectType::Image, name(1, number));
     let queue = object(ObjectType::Queue, name(2, number));
-    retrieved(alloc, table, k as usize, b"", image)?;
-    retrieved(alloc, table, 0, &k.to_le_bytes(), queue)
+    retrieved(table, k as usize, b"", image)?;
+    retrieved(table, 0, &k.to_le_bytes(), queue)
 }
 
 // So many images of a device, each by its place, and as many queues, each by its payload.
+fn retrieve_all(table: &mut RetrievedTable, count: u32) -> Result<(), Fail> {
+    for k in 0..count {
+        retrieve_both(table, k, k + 1)?;
+    }
+    Ok(())
+}
+
 fn retrieved_of(rt: &impl Abort, alloc: Global, count: u32) -> Result<(), Fail> {
     let mut table = RetrievedTable::new(alloc);
-    for k in 0..count {
-        retrieve_both(alloc, &mut table, k, k + 1)?;
-    }
-    copy_of_retrieved(rt, alloc, &table, count)
+    retrieve_all(&mut table, count)?;
+    copy_of_retrieved(rt, &table, count)
 }
 
 #[test]
@@ -372,45 +385,25 @@ fn copies_of_retrieved_objects(rt: HostRuntime) -> Result<(), Fail> {
     Ok(())
 }
 
-fn push_three(
-    alloc: Global,
-    table: &mut RetrievedTable,
-    first: Object,
-    second: Object,
-) -> Result<(), Fail> {
-    table.push(
-        alloc,
-        RetrievedEntry {
-            owner: None,
-            place: 0,
-            payload: Vec::new(alloc),
-            object: second,
-        },
-    )?;
-    retrieved(alloc, table, 0, b"", first)?;
-    retrieved(alloc, table, 0, b"", second)?;
-    Ok(())
+fn push_three(table: &mut RetrievedTable, first: Object, second: Object) -> Result<(), Fail> {
+    table.push(None, 0, b"", second)?;
+    retrieved(table, 0, b"", first)?;
+    retrieved(table, 0, b"", second)
 }
 
-fn copy_keeps(
-    rt: &impl Abort,
-    alloc: Global,
-    table: &RetrievedTable,
-    first: Object,
-) -> Result<(), Fail> {
+fn copy_keeps(rt: &impl Abort, table: &RetrievedTable, first: Object) -> Result<(), Fail> {
     let copy = table.copy()?;
-    assert_eq!(rt; image_at(alloc, &copy, 0)?, Some(first));
-    assert_eq!(rt; image_at(alloc, &copy, 1)?, None);
+    assert_eq!(rt; image_at(&copy, 0), Some(first));
+    assert_eq!(rt; image_at(&copy, 1), None);
     Ok(())
 }
 
 // What has no owner isn't found, in a copy as before, and the first of a key stays the first.
 #[test]
 fn a_copy_keeps_the_first(rt: HostRuntime) -> Result<(), Fail> {
-    let alloc = rt.alloc();
-    let mut table = RetrievedTable::new(alloc);
+    let mut table = RetrievedTable::new(rt.alloc());
     let first = object(ObjectType::Image, name(1, 1));
     let second = object(ObjectType::Image, name(1, 2));
-    push_three(alloc, &mut table, first, second)?;
-    copy_keeps(&rt, alloc, &table, first)
+    push_three(&mut table, first, second)?;
+    copy_keeps(&rt, &table, first)
 }

@@ -3,9 +3,10 @@ use command_tables::{Effect, ObjectType, OwnerOf};
 use object_model::{Argument, Object};
 use replay_model::{Born, Named};
 use session_tables::{
-    NamedTable, ObjectList, ObjectPlaces, ObjectTable, RetrievedEntry, RetrievedKey, RetrievedTable,
+    NamedTable, ObjectList, ObjectPlaces, ObjectTable, RetrievedKey, RetrievedTable,
 };
 use std::alloc::Global;
+use std::process::Abort;
 use std::test::Fail;
 use trace_format::Name;
 
@@ -136,124 +137,144 @@ pub(crate) fn made(
     Ok(())
 }
 
-// A thousand buffers of a pool, and one object at the last place that a name may have.
-#[test]
-fn objects(rt: HostRuntime) -> Result<(), Fail> {
-    let alloc = rt.alloc();
-    let mut objects = ObjectTable::new(alloc);
-    let instance = object(ObjectType::Instance, name(1, 1));
-    let device = object(ObjectType::Device, name(1, 2));
-    let pool = object(ObjectType::CommandPool, name(1, 3));
-    let buffer = object(ObjectType::CommandBuffer, name(2, 1_024));
-    let last = object(ObjectType::Fence, name(LAST_THREAD, LAST_NUMBER));
+fn instance() -> Object {
+    object(ObjectType::Instance, name(1, 1))
+}
+
+fn device() -> Object {
+    object(ObjectType::Device, name(1, 2))
+}
+
+fn pool() -> Object {
+    object(ObjectType::CommandPool, name(1, 3))
+}
+
+fn buffer_names(alloc: Global) -> Result<Vec<Name>, Fail> {
     let mut names = Vec::new(alloc);
     for number in 1..1_025 {
         names.push(name(2, number))?;
     }
+    Ok(names)
+}
+
+fn bear_down_to_pool(alloc: Global, objects: &mut ObjectTable) -> Result<(), Fail> {
+    let device = Some(device());
+    made(alloc, objects, ObjectType::Instance, None, &[name(1, 1)])?;
     made(
         alloc,
-        &mut objects,
-        ObjectType::Instance,
-        None,
-        &[name(1, 1)],
-    )?;
-    made(
-        alloc,
-        &mut objects,
+        objects,
         ObjectType::Device,
-        Some(instance),
+        Some(instance()),
         &[name(1, 2)],
     )?;
     made(
         alloc,
-        &mut objects,
+        objects,
         ObjectType::CommandPool,
-        Some(device),
+        device,
         &[name(1, 3)],
-    )?;
+    )
+}
+
+fn bear_last(alloc: Global, objects: &mut ObjectTable) -> Result<(), Fail> {
+    let names = [name(LAST_THREAD, LAST_NUMBER)];
+    made(alloc, objects, ObjectType::Fence, Some(device()), &names)
+}
+
+fn bear_in_pool(alloc: Global, objects: &mut ObjectTable, names: &[Name]) -> Result<(), Fail> {
+    bear_down_to_pool(alloc, objects)?;
     made(
         alloc,
-        &mut objects,
+        objects,
         ObjectType::CommandBuffer,
-        Some(pool),
-        &names,
-    )?;
-    made(
-        alloc,
-        &mut objects,
-        ObjectType::Fence,
-        Some(device),
-        &[name(LAST_THREAD, LAST_NUMBER)],
-    )?;
+        Some(pool()),
+        names,
+    )
+}
+
+fn has_last(rt: &impl Abort, objects: &ObjectTable) {
+    let buffer = object(ObjectType::CommandBuffer, name(2, 1_024));
+    let last = object(ObjectType::Fence, name(LAST_THREAD, LAST_NUMBER));
     assert_eq!(rt;
         objects.births().owners_of(buffer),
-        [pool, device, instance].as_slice()
+        [pool(), device(), instance()].as_slice()
     );
     assert!(rt; objects.is_living(buffer) && objects.is_living(last));
     assert_eq!(rt; objects.len(), 1_028);
-    made(
-        alloc,
-        &mut objects,
-        ObjectType::Fence,
-        Some(device),
-        &[name(LAST_THREAD, LAST_NUMBER)],
-    )?;
+}
+
+// What lives already isn't born again.
+fn bear_last_twice(rt: &impl Abort, alloc: Global, objects: &mut ObjectTable) -> Result<(), Fail> {
+    bear_last(alloc, objects)?;
+    has_last(rt, objects);
+    bear_last(alloc, objects)?;
     assert_eq!(rt; objects.len(), 1_028);
     Ok(())
 }
 
-pub(crate) fn key(
-    alloc: Global,
-    ty: ObjectType,
-    place: usize,
-    payload: &[u8],
-) -> Result<RetrievedKey, Fail> {
-    Ok(RetrievedKey {
+// A thousand buffers of a pool, and one object at the last place that a name may have.
+fn bear_all(rt: &impl Abort, alloc: Global, objects: &mut ObjectTable) -> Result<(), Fail> {
+    bear_in_pool(alloc, objects, &buffer_names(alloc)?)?;
+    bear_last_twice(rt, alloc, objects)
+}
+
+#[test]
+fn objects(rt: HostRuntime) -> Result<(), Fail> {
+    let alloc = rt.alloc();
+    let mut objects = ObjectTable::new(alloc);
+    bear_all(&rt, alloc, &mut objects)
+}
+
+pub(crate) fn key(ty: ObjectType, place: usize, payload: &[u8]) -> RetrievedKey<'_> {
+    RetrievedKey {
         ty,
         owner: object(ObjectType::Device, name(1, 1)),
         place,
-        payload: Vec::from_slice(alloc, payload)?,
-    })
+        payload,
+    }
 }
 
 pub(crate) fn retrieved(
-    alloc: Global,
     table: &mut RetrievedTable,
     place: usize,
     payload: &[u8],
     object: Object,
 ) -> Result<(), Fail> {
-    let entry = RetrievedEntry {
-        owner: Some(self::object(ObjectType::Device, name(1, 1))),
-        place,
-        payload: Vec::from_slice(alloc, payload)?,
-        object,
-    };
-    table.push(alloc, entry)?;
+    let owner = self::object(ObjectType::Device, name(1, 1));
+    table.push(Some(owner), place, payload, object)?;
     Ok(())
 }
 
-#[test]
-fn retrieved_objects(rt: HostRuntime) -> Result<(), Fail> {
-    let alloc = rt.alloc();
-    let mut table = RetrievedTable::new(alloc);
-    let queue = object(ObjectType::Queue, name(1, 2));
-    let other = object(ObjectType::Queue, name(1, 3));
-    let image = object(ObjectType::Image, name(1, 4));
-    let last = object(ObjectType::Image, name(1, 5));
-    retrieved(alloc, &mut table, 0, b"0,0", queue)?;
-    retrieved(alloc, &mut table, 0, b"0,1", other)?;
-    retrieved(alloc, &mut table, 0, b"", image)?;
-    retrieved(alloc, &mut table, 0, b"", last)?;
-    retrieved(alloc, &mut table, 0, b"", queue)?;
-    retrieved(alloc, &mut table, 1_023, b"", last)?;
+fn retrieve_six(
+    table: &mut RetrievedTable,
+    queue: Object,
+    other: Object,
+    image: Object,
+    last: Object,
+) -> Result<(), Fail> {
+    retrieved(table, 0, b"0,0", queue)?;
+    retrieved(table, 0, b"0,1", other)?;
+    retrieved(table, 0, b"", image)?;
+    retrieved(table, 0, b"", last)?;
+    retrieved(table, 0, b"", queue)?;
+    retrieved(table, 1_023, b"", last)
+}
+
+fn finds_five(
+    rt: &impl Abort,
+    table: &RetrievedTable,
+    queue: Object,
+    other: Object,
+    image: Object,
+    last: Object,
+) {
     let found = [
-        table.object_with(&key(alloc, ObjectType::Queue, 0, b"0,0")?),
-        table.object_with(&key(alloc, ObjectType::Queue, 0, b"0,1")?),
-        table.object_with(&key(alloc, ObjectType::Image, 0, b"")?),
-        table.object_with(&key(alloc, ObjectType::Queue, 0, b"")?),
-        table.object_with(&key(alloc, ObjectType::Image, 1_023, b"")?),
-        table.object_with(&key(alloc, ObjectType::Image, 1, b"")?),
+        table.object_with(key(ObjectType::Queue, 0, b"0,0")),
+        table.object_with(key(ObjectType::Queue, 0, b"0,1")),
+        table.object_with(key(ObjectType::Image, 0, b"")),
+        table.object_with(key(ObjectType::Queue, 0, b"")),
+        table.object_with(key(ObjectType::Image, 1_023, b"")),
+        table.object_with(key(ObjectType::Image, 1, b"")),
     ];
     let wanted = [
         Some(queue),
@@ -264,5 +285,16 @@ fn retrieved_objects(rt: HostRuntime) -> Result<(), Fail> {
         None,
     ];
     assert_eq!(rt; found, wanted);
+}
+
+#[test]
+fn retrieved_objects(rt: HostRuntime) -> Result<(), Fail> {
+    let mut table = RetrievedTable::new(rt.alloc());
+    let queue = object(ObjectType::Queue, name(1, 2));
+    let other = object(ObjectType::Queue, name(1, 3));
+    let image = object(ObjectType::Image, name(1, 4));
+    let last = object(ObjectType::Image, name(1, 5));
+    retrieve_six(&mut table, queue, other, image, last)?;
+    finds_five(&rt, &table, queue, other, image, last);
     Ok(())
 }

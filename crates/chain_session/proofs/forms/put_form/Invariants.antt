@@ -6,7 +6,7 @@ use Rattle.chain_session.proofs.forms.put_form.Given as goal
 
 abbrev pub invariant-loop-arg : goal.invariant-loop-arg
 invariant-loop-arg l = record {
-  lists : l.form.args.lists ≡ map (map (handle_by (handle_in l.handed))) (args_shown (take l.arg-index l.args));
+  lists : l.form.args.lists ≡ map (map (handle_by (handle_in l.handed.handed))) (args_shown (take l.arg-index l.args));
   marks : l.form.args.marks ≡ map (map is_unborn) (args_shown (take l.arg-index l.args));
   cmd : l.form.cmd ≡ l.initial.form.cmd;
   asked : l.form.asked ≡ l.initial.form.asked;

@@ -11,12 +11,12 @@ use Rattle.chain_session.proofs.judging.look.Goals as goal
 
 pub returns-in_ok-report_first-clause-found : goal.returns-in_ok-report_first-clause-found
 returns-in_ok-report_first-clause-found g c =
-    let failing : is_failing (loader_failures (born_in c.args.objects.now) (row_of c.args.begin.cmd).params (args_shown c.args.args.now)) ≡ true = search rules in
-    loader_found c.args.objects.now c.args.handed.now c.args.states.now.kept (opened_read c.args.number (begin_content c.args.begin) (args_shown c.args.args.now)) (call_content c.args.form.now) c.args.held.now c.args.verdict.now
+    let failing : is_failing (loader_failures (born_in c.args.objects.now.births) (row_of c.args.begin.cmd).params (args_shown c.args.args.now)) ≡ true = search rules in
+    loader_found c.args.objects.now.births c.args.handed.now.handed c.args.states.now.kept (opened_read c.args.number (begin_content c.args.begin) (args_shown c.args.args.now)) (call_content c.args.form.now) c.args.held.now c.args.verdict.now
     c.report_first.new.verdict refl failing c.requires.empty c.requires.unheld c.in_ok-report_first.ensures.skip c.in_ok-report_first.ensures.reports
 
 pub returns-in_ok-walk_down-clause-found : goal.returns-in_ok-walk_down-clause-found
 returns-in_ok-walk_down-clause-found g c =
-    let failing : is_failing (loader_failures (born_in c.args.objects.now) (row_of c.args.begin.cmd).params (args_shown c.args.args.now)) ≡ false = search rules in
-    walked_found c.args.objects.now c.args.handed.now c.args.states.now.kept c.walk_down.new.states.kept (opened_read c.args.number (begin_content c.args.begin) (args_shown c.args.args.now)) (call_content c.walk_down.new.form) c.walk_down.new.held c.walk_down.new.verdict
+    let failing : is_failing (loader_failures (born_in c.args.objects.now.births) (row_of c.args.begin.cmd).params (args_shown c.args.args.now)) ≡ false = search rules in
+    walked_found c.args.objects.now.births c.args.handed.now.handed c.args.states.now.kept c.walk_down.new.states.kept (opened_read c.args.number (begin_content c.args.begin) (args_shown c.args.args.now)) (call_content c.walk_down.new.form) c.walk_down.new.held c.walk_down.new.verdict
     refl failing c.in_ok-walk_down.ensures.reports c.in_ok-walk_down.ensures.skip c.in_ok-walk_down.ensures.states c.in_ok-walk_down.ensures.bottom c.in_ok-walk_down.ensures.held

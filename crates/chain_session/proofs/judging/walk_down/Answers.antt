@@ -10,10 +10,10 @@ use Rattle.chain_session.proofs.judging.walk_down.Goals as goal
 
 pub walk_enter-requires-clause-shape : goal.walk_enter-requires-clause-shape
 walk_enter-requires-clause-shape g c =
-    let e : call_content c.put_call.new.form ≡ form_by (handle_in c.args.handed.now) (base_of (opened_read c.args.number (begin_content c.args.begin) (args_shown c.args.args.now))) (args_shown c.args.args.now) = search rules in
-    has_params (handle_in c.args.handed.now) (opened_read c.args.number (begin_content c.args.begin) (args_shown c.args.args.now)) c.put_call.new.form c.requires.fits e
+    let e : call_content c.put_call.new.form ≡ form_by (handle_in c.args.handed.now.handed) (base_of (opened_read c.args.number (begin_content c.args.begin) (args_shown c.args.args.now))) (args_shown c.args.args.now) = search rules in
+    has_params (handle_in c.args.handed.now.handed) (opened_read c.args.number (begin_content c.args.begin) (args_shown c.args.args.now)) c.put_call.new.form c.requires.fits e
 
 pub walk_enter-requires-clause-few : goal.walk_enter-requires-clause-few
 walk_enter-requires-clause-few g c =
-    let e : call_content c.put_call.new.form ≡ form_by (handle_in c.args.handed.now) (base_of (opened_read c.args.number (begin_content c.args.begin) (args_shown c.args.args.now))) (args_shown c.args.args.now) = search rules in
-    has_few_places (handle_in c.args.handed.now) (opened_read c.args.number (begin_content c.args.begin) (args_shown c.args.args.now)) c.put_call.new.form c.requires.fits e
+    let e : call_content c.put_call.new.form ≡ form_by (handle_in c.args.handed.now.handed) (base_of (opened_read c.args.number (begin_content c.args.begin) (args_shown c.args.args.now))) (args_shown c.args.args.now) = search rules in
+    has_few_places (handle_in c.args.handed.now.handed) (opened_read c.args.number (begin_content c.args.begin) (args_shown c.args.args.now)) c.put_call.new.form c.requires.fits e

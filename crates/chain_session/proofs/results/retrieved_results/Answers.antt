@@ -1,11 +1,11 @@
 use Rattle.trace_format.specs.declared.event.Name.{Name}
 use Rattle.replay_model.specs.Births.{retrieved_object}
-use Rattle.chain_session.specs.Opened.{opened_of}
+use Rattle.chain_session.specs.Opened.{returning_shown}
 use Rattle.chain_session.proofs.Retrieving.{placed_more}
 use Rattle.chain_session.proofs.results.retrieved_results.Goals as goal
 
 pub loop-k-preserved : goal.loop-k-preserved
 loop-k-preserved c =
     let first : Name = record { thread = 0; number = 0 } in
-    placed_more (retrieved_object c.args.table.now (opened_of c.args.call.now) c.args.owner c.args.ty) c.args.names.now c.loop-k.k first c.loop-k.all.items c.push.new.self.items _ c.loop-k-test.true c.loop-k.invariant
-    c.in_ok-push.ensures.items c.in_ok-retrieved.ensures
+    placed_more (retrieved_object c.args.table.now.kept (returning_shown c.args.call) c.args.owner c.args.ty) c.args.names.now c.loop-k.k first c.loop-k.all.items c.push.new.self.items _ c.loop-k-test.true c.loop-k.invariant
+    c.in_ok-push.ensures.items c.retrieved.ensures

@@ -4,7 +4,7 @@ use Rattle.object_model.specs.Objects.{same}
 use Rattle.session_tables.specs.Filing.{kept}
 use Rattle.session_tables.proofs.Names.{longer}
 use Rattle.chain_model.specs.Handed.{hand_one}
-use Rattle.chain_session.specs.Handed.{handed_shown, place_in}
+use Rattle.chain_session.specs.Handed.{HandedState, handed_shown, place_in}
 use Rattle.chain_session.proofs.Places.{hand_found, hand_new, place_new, place_within}
 use Rattle.chain_session.proofs.handed.HandedTable.hand.Goals as goal
 
@@ -16,7 +16,7 @@ index_mut-requires c =
 pub returns-in-Some-clause-ok : goal.returns-in-Some-clause-ok
 returns-in-Some-clause-ok c =
     hand_found c.self.inside.objects.objects c.self.inside.handles.items c.args.object c.args.handle c.in-Some.place c.self.invariant.0 (sym (c.self.invariant.1 c.args.object) ∙ (sym c.get.ensures ∙ c.in-Some.is))
-    ∙ ap (hand_one c.args.object c.args.handle) c.self.view_is
+    ∙ ap (λ (s : HandedState). hand_one c.args.object c.args.handle s.handed) c.self.view_is
 
 pub invariant_of-self-in-None : goal.invariant_of-self-in-None
 invariant_of-self-in-None c =
@@ -26,7 +26,7 @@ invariant_of-self-in-None c =
     let none : place_in os o ≡ None = sym (c.self.invariant.1 o) ∙ (sym c.get.ensures ∙ c.in-None.is) in
     let handles_are : c.push.new.self.items ≡ hs ++ c.args.handle ∷ [] = c.in_ok-push-in-None.ensures.items ∙ ap (λ (xs : List ℕ). xs ++ c.args.handle ∷ []) c.in_ok-reserve-in-None.ensures.items in
     let objects_are : c.push-in-None.new.self.objects ≡ os ++ o ∷ [] = c.in_ok-push-in-None-2.ensures.ok ∙ ap (λ (xs : List Object). xs ++ o ∷ []) c.in_ok-reserve-in-None-2.ensures.objects in
-    let long : c.in_ok-place-in-None.place ≡ length os = omega (arith, c.in_ok-place-in-None.ensures, c.len.ensures, ap (λ (xs : List ℕ). length xs) c.in_ok-reserve-in-None.ensures.items, c.self.invariant.0) in (
+    let long : c.len-at.result ≡ length os = omega (arith, c.len-at.ensures, c.self.invariant.0) in (
       ap length objects_are ∙ (longer os hs o c.args.handle c.self.invariant.0 ∙ sym (ap length handles_are)),
       (λ q.
           c.in_ok-put-in-None.ensures.ok q
@@ -44,4 +44,4 @@ returns-in_ok-push-in-None-2-clause-ok c =
     let objects_are : c.push-in-None.new.self.objects ≡ os ++ o ∷ [] = c.in_ok-push-in-None-2.ensures.ok ∙ ap (λ (xs : List Object). xs ++ o ∷ []) c.in_ok-reserve-in-None-2.ensures.objects in
     ap (λ (xs : List Object). handed_shown xs c.push.new.self.items) objects_are
     ∙ (ap (handed_shown (os ++ o ∷ [])) handles_are
-    ∙ (hand_new os hs o c.args.handle c.self.invariant.0 (sym (c.self.invariant.1 o) ∙ (sym c.get.ensures ∙ c.in-None.is)) ∙ ap (hand_one o c.args.handle) c.self.view_is))
+    ∙ (hand_new os hs o c.args.handle c.self.invariant.0 (sym (c.self.invariant.1 o) ∙ (sym c.get.ensures ∙ c.in-None.is)) ∙ ap (λ (s : HandedState). hand_one o c.args.handle s.handed) c.self.view_is))

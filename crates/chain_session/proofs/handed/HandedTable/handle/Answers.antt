@@ -1,5 +1,6 @@
 use Rattle.std.proofs.Common.{◌∙◌, ap, sym, arith}
 use Rattle.chain_model.specs.Handed.{handle_in}
+use Rattle.chain_session.specs.Handed.{HandedState}
 use Rattle.chain_session.proofs.Places.{handle_found, handle_missing, place_within}
 use Rattle.chain_session.proofs.handed.HandedTable.handle.Goals as goal
 
@@ -11,9 +12,9 @@ index-requires c =
 pub returns-in-None : goal.returns-in-None
 returns-in-None c =
     handle_missing c.self.inside.objects.objects c.self.inside.handles.items c.args.object (sym (c.self.invariant.1 c.args.object) ∙ (sym c.get.ensures ∙ c.in-None.is))
-    ∙ ap (λ hs. handle_in hs c.args.object) c.self.view_is
+    ∙ ap (λ (s : HandedState). handle_in s.handed c.args.object) c.self.view_is
 
 pub returns-in-Some : goal.returns-in-Some
 returns-in-Some c =
     handle_found c.self.inside.objects.objects c.self.inside.handles.items c.args.object c.in-Some.place c.index.result.now c.self.invariant.0 (sym (c.self.invariant.1 c.args.object) ∙ (sym c.get.ensures ∙ c.in-Some.is)) c.index.ensures
-    ∙ ap (λ hs. handle_in hs c.args.object) c.self.view_is
+    ∙ ap (λ (s : HandedState). handle_in s.handed c.args.object) c.self.view_is
