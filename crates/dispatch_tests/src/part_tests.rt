@@ -1,8 +1,8 @@
-//! Rows of commands, by hand from the rules.
+//! Rows of commands, by hand from the rules; and room for held calls.
 
 use chain_build::Chain;
 use command_tables::CommandId;
-use dispatch_chain::count_parts;
+use dispatch_chain::{Held, count_parts};
 use object_model::PartKind::{self, Lifetimes, Threads, Unique};
 use std::alloc::{AllocError, Global};
 use std::test::Fail;
@@ -68,6 +68,18 @@ fn each_kind_intercepts_its_commands(rt: HostRuntime) -> Result<(), Fail> {
         has_parts(rt.alloc(), Threads, *cmd, 1)?;
         has_parts(rt.alloc(), Lifetimes, *cmd, 1)?;
         has_parts(rt.alloc(), Unique, *cmd, 0)?;
+    }
+    Ok(())
+}
+
+// Room for no call, for one of a few handles, and for the largest one through the longest chain: no call is held yet.
+#[test]
+fn room_for_calls(rt: HostRuntime) -> Result<(), Fail> {
+    for (parts, handles, bytes) in [(0, 0, 0), (6, 8, 64), (192, 4_096, 65_536)] {
+        let held = Held::with_room(rt.alloc(), parts, handles, bytes)
+            .ok()
+            .ok_or("memory")?;
+        assert!(rt; held.forms().is_empty());
     }
     Ok(())
 }

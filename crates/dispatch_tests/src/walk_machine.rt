@@ -70,9 +70,12 @@ pub(crate) fn machine_of(alloc: Global, kit: &Kit, kinds: &[PartKind]) -> Result
     })
 }
 
-// A copy of what the parts keep stands in its place.
+// A copy of what the parts keep stands in its place, with room for nothing more, for a few births and uses, and for many.
 pub(crate) fn copy_states(machine: &mut Machine) -> Result<(), Fail> {
-    let copy = machine.states.copy().ok().ok_or("memory")?;
+    let mut copy = machine.states.copy().ok().ok_or("memory")?;
+    copy.reserve(0, 0).ok().ok_or("memory")?;
+    copy.reserve(3, 3).ok().ok_or("memory")?;
+    copy.reserve(10_000, 10_000).ok().ok_or("memory")?;
     machine.states = copy;
     Ok(())
 }

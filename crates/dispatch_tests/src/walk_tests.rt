@@ -573,7 +573,7 @@ fn tell(
     shape: &Shape,
     story: &Story,
 ) -> Result<(), Fail> {
-    let mut held = Held::new(alloc);
+    let mut held = Held::with_room(alloc, 6, 64, 8).ok().ok_or("memory")?;
     if let Story::Begins(given, params) = story {
         return begin_new(rt, alloc, machine, &mut held, given, params);
     }
