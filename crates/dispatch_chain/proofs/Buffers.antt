@@ -16,10 +16,10 @@ low (y ∷ xs) (suc i) x e = let l = low xs i x e in omega (arith, l)
 
 -- ---- no room is lost
 
-form_self : (r : FormRoom) → KeepsForm r r
+pub form_self : (r : FormRoom) → KeepsForm r r
 form_self r = record { slots = omega arith; handles = omega arith; bytes = omega arith }
 
-form_on : (q r s : FormRoom) → KeepsForm q r → KeepsForm r s → KeepsForm q s
+pub form_on : (q r s : FormRoom) → KeepsForm q r → KeepsForm r s → KeepsForm q s
 form_on q r s a b = record { slots = omega (arith, a.slots, b.slots); handles = omega (arith, a.handles, b.handles); bytes = omega (arith, a.bytes, b.bytes) }
 
 -- a buffer that was written

@@ -7,7 +7,7 @@ use Rattle.object_model.specs.declared.PartKind.{PartKind}
 use Rattle.dispatch_chain.specs.declared.entry.Entry.{Entry}
 use Rattle.dispatch_chain.specs.declared.part.Part.{Part}
 use Rattle.dispatch_chain.specs.Entries.{ArePlacesRising}
-use Rattle.dispatch_chain.specs.Room.{AllHaveBirths, HasBirthsAt, PartRoom, room_of}
+use Rattle.dispatch_chain.specs.Room.{AllHaveBirths, HasBirthsAt, KeepUses, PartRoom, room_of}
 use Rattle.dispatch_chain.specs.Rows.{entries_from, entries_of}
 use Rattle.dispatch_chain.proofs.Reserved.{low}
 
@@ -26,6 +26,14 @@ pub births_left : (ps : List Part) (i : ℕ) (x d : Part) (n : ℕ) → (room_of
 births_left [] i x d n less q r a b = cc a
 births_left (y ∷ ps) zero x d n less q r a b = subst (λ (z : PartRoom). z.births ≤ r.births + n) (same_Some (room_of y) q a) (subst (λ (z : PartRoom). (room_of y).births ≤ z.births + n) (same_Some (room_of x) r b) less)
 births_left (y ∷ ps) (suc i) x d n less q r a b = births_left ps i x d n less q r a b
+
+pub uses_left : (ps : List Part) (i : ℕ) (x d : Part) → (room_of x).uses ≡ (room_of (get_or ps i d)).uses
+    → (q r : PartRoom) → slice_get (map room_of ps) i ≡ Some q → slice_get (map room_of (slice_set ps i x)) i ≡ Some r → q.uses ≤ r.uses
+uses_left [] i x d same q r a b = cc a
+uses_left (y ∷ ps) zero x d same q r a b =
+    let was = ap (λ (z : PartRoom). z.uses) (same_Some (room_of y) q a) in
+    let is = ap (λ (z : PartRoom). z.uses) (same_Some (room_of x) r b) in omega (arith, was, is, same)
+uses_left (y ∷ ps) (suc i) x d same q r a b = uses_left ps i x d same q r a b
 
 pub births_here : (ps : List Part) (i : ℕ) (d : Part) (n : ℕ) → i < length ps → HasBirthsAt n (slice_get (map room_of ps) i) → n ≤ (room_of (get_or ps i d)).births
 births_here [] i d n less h = absurd (omega (arith, less))
@@ -67,22 +75,25 @@ pub record AreTaken (es : List Entry) (i n : ℕ) (old new : List PartRoom) : Ty
   pub count : length new ≡ length old
   pub still : (k : ℕ) (d : Entry) → k < i → slice_get new ((get_or es k d).place - 1) ≡ slice_get old ((get_or es k d).place - 1)
   pub less : (j : ℕ) (q r : PartRoom) → slice_get old j ≡ Some q → slice_get new j ≡ Some r → q.births ≤ r.births + n
+  pub uses : KeepUses old new
 
 pub none_taken : (es : List Entry) (i n : ℕ) (rooms : List PartRoom) → AreTaken es i n rooms rooms
-none_taken es i n rooms = record { count = refl; still = λ k d before. refl; less = λ j q r a b. let same = ap (λ (x : PartRoom). x.births) (same_Some q r (sym a ∙ b)) in omega (arith, same) }
+none_taken es i n rooms = record { count = refl; still = λ k d before. refl; less = λ j q r a b. let same = ap (λ (x : PartRoom). x.births) (same_Some q r (sym a ∙ b)) in omega (arith, same); uses = λ j q r a b. let same = ap (λ (x : PartRoom). x.uses) (same_Some q r (sym a ∙ b)) in omega (arith, same) }
 
 -- one part further up
 pub taken_more : (es : List Entry) (i n m : ℕ) (d : Entry) (old mid new : List PartRoom) → ArePlacesRising 0 es → 0 < i → i ≤ length es → m ≡ n → AreTaken es i n old mid → length new ≡ length mid
     → ((j : ℕ) → (j ≡ (get_or es (i - 1) d).place - 1 → ⊥) → slice_get new j ≡ slice_get mid j)
     → ((q r : PartRoom) → slice_get mid ((get_or es (i - 1) d).place - 1) ≡ Some q → slice_get new ((get_or es (i - 1) d).place - 1) ≡ Some r → q.births ≤ r.births + m)
+    → ((q r : PartRoom) → slice_get mid ((get_or es (i - 1) d).place - 1) ≡ Some q → slice_get new ((get_or es (i - 1) d).place - 1) ≡ Some r → q.uses ≤ r.uses)
     → AreTaken es (i - 1) n old new
-taken_more es i n m d old mid new rising some within size taken long others one = record {
+taken_more es i n m d old mid new rising some within size taken long others one uses = record {
   count = long ∙ taken.count;
   still = λ k f before.
       let lower : (get_or es k f).place < (get_or es (i - 1) d).place = rise 0 es k (i - 1) f d rising before (omega (arith, some, within)) in
       let first : 0 < (get_or es k f).place = above 0 es k f rising (omega (arith, before, within)) in
       others ((get_or es k f).place - 1) (λ e. absurd (omega (arith, e, lower, first))) ∙ taken.still k f (omega (arith, before));
   less = λ j q r a b. at j q r a b (same_or j ((get_or es (i - 1) d).place - 1));
+  uses = λ j q r a b. used j q r a b (same_or j ((get_or es (i - 1) d).place - 1));
 }
   where
     at : (j : ℕ) (q r : PartRoom) → slice_get old j ≡ Some q → slice_get new j ≡ Some r → (j ≡ (get_or es (i - 1) d).place - 1) ⊎ (j ≡ (get_or es (i - 1) d).place - 1 → ⊥) → q.births ≤ r.births + n
@@ -90,6 +101,12 @@ taken_more es i n m d old mid new rising some within size taken long others one 
         let was = taken.still (i - 1) d (omega (arith, some)) in
         let fewer = one q r (was ∙ (ap (slice_get old) (sym e) ∙ a)) (ap (slice_get new) (sym e) ∙ b) in omega (arith, fewer, size)
     at j q r a b (inr f) = taken.less j q r a (sym (others j f) ∙ b)
+
+    used : (j : ℕ) (q r : PartRoom) → slice_get old j ≡ Some q → slice_get new j ≡ Some r → (j ≡ (get_or es (i - 1) d).place - 1) ⊎ (j ≡ (get_or es (i - 1) d).place - 1 → ⊥) → q.uses ≤ r.uses
+    used j q r a b (inl e) =
+        let was = taken.still (i - 1) d (omega (arith, some)) in
+        uses q r (was ∙ (ap (slice_get old) (sym e) ∙ a)) (ap (slice_get new) (sym e) ∙ b)
+    used j q r a b (inr f) = taken.uses j q r a (sym (others j f) ∙ b)
 
 births_at : (n : ℕ) (rooms : List PartRoom) (i : ℕ) → AllHaveBirths n rooms → HasBirthsAt n (slice_get rooms i)
 births_at n rooms i all = go (slice_get rooms i) refl

@@ -4,6 +4,7 @@ use Rattle.std.specs.Prelude.{◌≡◌, ◌≤◌, ℕ, ◌+◌, ◌++◌, List
 use Rattle.std.specs.Result.{ForOk, ForErr}
 use Rattle.std.specs.Borrow.{Bor, MutBor}
 use Rattle.command_tables.specs.Calls.{call_content}
+use Rattle.command_tables.specs.Handles.{HasRoom}
 use Rattle.command_tables.specs.declared.call.LayerCall.{LayerCall}
 use Rattle.command_tables.specs.declared.memory.NoMemory.{NoMemory}
 use Rattle.object_model.specs.Findings.{at_place, is_failing}
@@ -27,10 +28,10 @@ Outcome = Result (Unit {0}) NoMemory
 abbrev pub UniqueMayEnter : (Bor UniqueState → MutBor LayerCall → Type 0) → Type 0
 UniqueMayEnter pre = (s : Bor UniqueState) (c : MutBor LayerCall) → pre s c
 
--- the call goes on with the handles below
+-- the call goes on with the handles below, and no room is lost
 abbrev pub UniqueEnters : (Bor UniqueState → MutBor LayerCall → Unit {0} → MutBor LayerCall → Type 0) → Type 0
 UniqueEnters post = (s : Bor UniqueState) (c : MutBor LayerCall) (r : Unit {0}) (c' : MutBor LayerCall) →
-    post s c r c' → call_content c'.now ≡ unique_enter s.now.ids (call_content c.now)
+    post s c r c' → (call_content c'.now ≡ unique_enter s.now.ids (call_content c.now)) × (HasRoom c'.now.args c.now.args.slots c.now.args.room × (vec_capacity c.now.payload ≤ vec_capacity c'.now.payload))
 
 -- it may be left with any results
 abbrev pub UniqueMayLeave : (MutBor UniqueState → Bor LayerCall → MutBor (List ℕ) → Type 0) → Type 0

@@ -46,6 +46,10 @@ pub record KeepRooms (old new : List PartRoom) : Type 0 where
   pub count : length new ≡ length old
   pub each : (i : ℕ) (q r : PartRoom) → slice_get old i ≡ Some q → slice_get new i ≡ Some r → KeepsRoom q r
 
+-- no part loses room for uses
+abbrev pub KeepUses : List PartRoom → List PartRoom → Type 0
+KeepUses old new = (i : ℕ) (q r : PartRoom) → slice_get old i ≡ Some q → slice_get new i ≡ Some r → q.uses ≤ r.uses
+
 -- each part has room for so many further births
 abbrev pub AllHaveBirths : ℕ → List PartRoom → Type 0
 AllHaveBirths n rooms = (i : ℕ) (r : PartRoom) → slice_get rooms i ≡ Some r → n ≤ r.births

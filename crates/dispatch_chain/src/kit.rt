@@ -7,6 +7,7 @@ ghost use Rattle.object_records.specs.Shape.{AreNewOnce, HasParams, arguments_of
 ghost use Rattle.lifetime_layer.specs.Reports.{reports_of};
 ghost use Rattle.lifetime_layer.specs.Shape.{HasFewPlaces};
 ghost use Rattle.thread_layer.specs.Room.{HaveRoom};
+ghost use Rattle.dispatch_chain.specs.Forms.{KeepsForm, form_room};
 ghost use Rattle.dispatch_chain.specs.Answers.{LifeEnters, LifeLeaves, LifeMayEnter, LifeMayLeave, UniqueEnters, UniqueLeaves, UniqueMayEnter, UniqueMayLeave, UseEnters, UseLeaves, UseMayEnter, UseMayLeave};
 
 use command_tables::{LayerCall, NoMemory};
@@ -90,7 +91,8 @@ impl Kit {
 
     // A unique part is entered.
     pub(crate) fn enter_unique(&self, unique: &UniqueState, call: &mut LayerCall)
-        ensures { call_content call.new ≡ unique_enter unique.now.ids (call_content call.old) }
+        ensures call { call_content call.new ≡ unique_enter unique.now.ids (call_content call.old) }
+        ensures form_room { KeepsForm (form_room call.old) (form_room call.new) }
     {
         (self.unique_enter)(unique, call)
     }

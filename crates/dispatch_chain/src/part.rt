@@ -6,7 +6,7 @@ ghost use Rattle.lifetime_layer.specs.Reports.{reports_of};
 ghost use Rattle.lifetime_layer.specs.Shape.{HasFewPlaces};
 ghost use Rattle.layer_model.specs.Parts.{unique_enter, unique_leave};
 ghost use Rattle.layer_model.specs.Walks.{new_part};
-ghost use Rattle.dispatch_chain.specs.Forms.{IsAsLarge};
+ghost use Rattle.dispatch_chain.specs.Forms.{IsAsLarge, KeepsForm, form_room};
 ghost use Rattle.dispatch_chain.specs.Kept.{IsKept, IsRising};
 ghost use Rattle.dispatch_chain.specs.Room.{CanEnter, CanOpen, room_of};
 ghost use Rattle.dispatch_chain.specs.Seats.{seat_at, seat_of, state_of};
@@ -77,6 +77,7 @@ fn enter_unique(kit: &Kit, unique: &UniqueState, call: &mut LayerCall)
     ensures shape { HasParams call.new }
     ensures few { HasFewPlaces call.new }
     ensures size { IsAsLarge (call_content call.new) (call_content call.old) }
+    ensures form_room { KeepsForm (form_room call.old) (form_room call.new) }
 {
     kit.enter_unique(unique, call);
 }
@@ -105,6 +106,7 @@ pub(crate) fn enter_part(
     ensures shape { HasParams call.new }
     ensures few { HasFewPlaces call.new }
     ensures size { IsAsLarge (call_content call.new) (call_content call.old) }
+    ensures form_room { KeepsForm (form_room call.old) (form_room call.new) }
     ensures births_room { (room_of part.old).births ≤ (room_of part.new).births }
     ensures uses_room { (room_of part.old).uses ≤ (room_of part.new).uses }
     ensures findings_room { vec_capacity verdict.old.findings ≤ vec_capacity verdict.new.findings }

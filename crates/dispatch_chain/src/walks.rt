@@ -7,10 +7,10 @@ ghost use Rattle.lifetime_layer.specs.Reports.{reports_of};
 ghost use Rattle.lifetime_layer.specs.Shape.{HasFewPlaces};
 ghost use Rattle.layer_model.specs.Walks.{are_parts_guarded, enter_parts, leave_parts};
 ghost use Rattle.dispatch_chain.specs.Entries.{AllWithin, ArePlacesRising, CanLeave, MayLeaveAt, down_of, enter_entries, leave_entries, step_down, step_up, with_front};
-ghost use Rattle.dispatch_chain.specs.Forms.{CanHold, IsAsLarge, KeepsForms};
+ghost use Rattle.dispatch_chain.specs.Forms.{CanHold, IsAsLarge, KeepsForm, KeepsForms, form_room};
 ghost use Rattle.dispatch_chain.specs.Holding.{AllShaped, IsHeldOf};
 ghost use Rattle.dispatch_chain.specs.Kept.{AllBareOnce, AllKept, AllLost};
-ghost use Rattle.dispatch_chain.specs.Room.{AllCanEnter, AllHaveBirths, KeepRooms, AreRoomy, CanEnterAt, HasBirthsAt, PartRoom, room_of};
+ghost use Rattle.dispatch_chain.specs.Room.{AllCanEnter, AllHaveBirths, KeepRooms, KeepUses, AreRoomy, CanEnterAt, HasBirthsAt, PartRoom, room_of};
 ghost use Rattle.dispatch_chain.specs.Rows.{entries_of};
 ghost use Rattle.dispatch_chain.specs.Seats.{kinds_of, seat_of, seats_from, state_of};
 
@@ -48,6 +48,7 @@ fn enter_at(
     ensures few { HasFewPlaces call.new }
     ensures cmd { OnOk result (call.new.cmd ≡ call.old.cmd) }
     ensures size { IsAsLarge (call_content call.new) (call_content call.old) }
+    ensures form_room { KeepsForm (form_room call.old) (form_room call.new) }
     ensures rooms { KeepRooms (map room_of parts.old) (map room_of parts.new) }
     ensures findings_room { vec_capacity verdict.old.findings ≤ vec_capacity verdict.new.findings }
     ensures succeeds { CanEnterAt thread number (slice_get (map state_of parts.old) (entry.place - 1)) (slice_get (map room_of parts.old) (entry.place - 1)) (call_content call.old) →
@@ -88,6 +89,7 @@ fn down(
     ensures shape { HasParams call.new }
     ensures few { HasFewPlaces call.new }
     ensures cmd { held.new.cmd ≡ held.old.cmd }
+    ensures form_room { KeepsForm (form_room call.old) (form_room call.new) }
     ensures rooms { KeepRooms (map room_of parts.old) (map room_of parts.new) }
     ensures findings_room { vec_capacity verdict.old.findings ≤ vec_capacity verdict.new.findings }
     ensures held_rooms { KeepsForms held.old.rooms held.new.rooms }
@@ -132,6 +134,7 @@ pub fn walk_enter(
     ensures kinds { kinds_of states.new.kept ≡ kinds_of states.old.kept }
     ensures shape { HasParams call.new }
     ensures few { HasFewPlaces call.new }
+    ensures form_room { KeepsForm (form_room call.old) (form_room call.new) }
     ensures rooms { KeepRooms states.old.rooms states.new.rooms }
     ensures findings_room { vec_capacity verdict.old.findings ≤ vec_capacity verdict.new.findings }
     ensures held_rooms { KeepsForms held.old.rooms held.new.rooms }
@@ -175,6 +178,7 @@ fn leave_at(
     ensures rooms { length (map room_of parts.new) ≡ length (map room_of parts.old) }
     ensures others { (j : ℕ) → (j ≡ entry.place - 1 → ⊥) → slice_get (map room_of parts.new) j ≡ slice_get (map room_of parts.old) j }
     ensures births { OnOk result ((q : PartRoom) (r : PartRoom) → slice_get (map room_of parts.old) (entry.place - 1) ≡ Some q → slice_get (map room_of parts.new) (entry.place - 1) ≡ Some r → q.births ≤ r.births + length results.old) }
+    ensures uses { (q : PartRoom) (r : PartRoom) → slice_get (map room_of parts.old) (entry.place - 1) ≡ Some q → slice_get (map room_of parts.new) (entry.place - 1) ≡ Some r → q.uses ≤ r.uses }
     ensures succeeds { HasBirthsAt (length results.old) (slice_get (map room_of parts.old) (entry.place - 1)) → IsOk result }
 {
     let index = entry.place as usize - 1;
@@ -206,6 +210,7 @@ fn up(
     requires rising { ArePlacesRising 0 entries.now }
     ensures count { length results.new ≡ length results.old }
     ensures births { OnOk result ((n : ℕ) → AllHaveBirths (n + length results.old) (map room_of parts.old) → AllHaveBirths n (map room_of parts.new)) }
+    ensures uses { OnOk result (KeepUses (map room_of parts.old) (map room_of parts.new)) }
     ensures succeeds { AllHaveBirths (length results.old) (map room_of parts.old) → IsOk result }
     ensures left { OnOk result (record { states = map state_of parts.new; results = results.new } ≡ leave_entries thread entries.now (map call_content forms.now) (record { states = map state_of parts.old; results = results.old })) }
     ensures seats { map seat_of parts.new ≡ map seat_of parts.old }
@@ -223,7 +228,7 @@ fn up(
 /// results above the first are those of the walk through all parts that the call had reached, of whose forms some are held. Each
 /// checking part has a unique part below it, so that results for which unique parts issue ids are new once to it; others must be, and
 /// those of a call that was stopped are lost. Takes no memory, and so doesn't answer `NoMemory`, where each part has room for as many
-/// births as there are results; no more room than that is used up. After `NoMemory` states and results are for dropping alone.
+/// births as there are results; no more room than that is used up, and none for uses. After `NoMemory` states and results are for dropping alone.
 pub fn walk_leave(
     table: &DispatchTable,
     states: &mut LayerStates,
@@ -239,6 +244,7 @@ pub fn walk_leave(
     ensures results { OnOk result ((forms : List CallContent) → IsHeldOf held.now (kinds_of states.old.kept) forms → results.new ≡ (leave_parts thread states.old.kept forms results.old).results) }
     ensures kinds { kinds_of states.new.kept ≡ kinds_of states.old.kept }
     ensures births { OnOk result ((n : ℕ) → AllHaveBirths (n + length results.old) states.old.rooms → AllHaveBirths n states.new.rooms) }
+    ensures uses { OnOk result (KeepUses states.old.rooms states.new.rooms) }
     ensures succeeds { AllHaveBirths (length results.old) states.old.rooms → IsOk result }
 {
     let entries = table.at(held.command());

@@ -1,6 +1,6 @@
 -- Lists replaced place by place.
 use Rattle.std.proofs.Common.{◌≡◌, ◌<◌, ◌≤◌, ℕ, zero, suc, ◌+◌, List, [], ◌∷◌, length, map, get_or, refl, sym, ap, ◌∙◌, arith, add-one, slice_set}
-use Rattle.command_tables.specs.Handles.{list_at, put}
+use Rattle.command_tables.specs.Handles.{Handles, HasRoom, list_at, put}
 use Rattle.command_tables.specs.declared.types.ObjectType.{ObjectType}
 use Rattle.command_tables.specs.Table.{ParamSpec, seen_param}
 use Rattle.command_tables.specs.declared.types.Param.{Param}
@@ -8,6 +8,10 @@ use Rattle.std.proofs.lemmas.List.{get_or-set_same, length-map, set-get_or, set-
 use Rattle.layer_model.specs.Ids.{IdMap}
 use Rattle.layer_model.specs.Parts.{below_handles, below_params}
 use Rattle.unique_layer.specs.Shown.{mapped, entered}
+
+-- no room is lost in two steps
+pub room_on : (a b c : Handles) → HasRoom b a.slots a.room → HasRoom c b.slots b.room → HasRoom c a.slots a.room
+room_on a b c first then = record { slots = omega (arith, first.slots, then.slots); room = omega (arith, first.room, then.room) }
 
 -- writing what stands there changes nothing
 pub ruleset own = set-get_or

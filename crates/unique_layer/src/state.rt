@@ -1,6 +1,6 @@
 //! A unique part: its ids with the handles below them.
-ghost use Rattle.std.specs.Prelude.{◌≡◌, ◌<◌, ◌≤◌, ◌+◌, map, length, unwrap_or, slice_set, IfOk, IfSome, IsOk, OnErr, OnOk};
-ghost use Rattle.command_tables.specs.Handles.{list_at};
+ghost use Rattle.std.specs.Prelude.{◌≡◌, ◌<◌, ◌≤◌, ◌+◌, map, length, unwrap_or, slice_set, IfOk, IfSome, vec_capacity, IsOk, OnErr, OnOk};
+ghost use Rattle.command_tables.specs.Handles.{HasRoom, list_at};
 ghost use Rattle.command_tables.specs.Table.{seen_param};
 ghost use Rattle.command_tables.specs.Calls.{call_content};
 ghost use Rattle.layer_model.specs.Ids.{issue, issue_all, kept_for, known, new_id, no_ids};
@@ -102,6 +102,7 @@ impl UniqueState {
         requires { p < length args.old.lists }
         ensures lists { args.new.lists ≡ slice_set args.old.lists p (map (λ h. unwrap_or (values_of self.now.ids.entries ty h) 0) (list_at args.old.lists p)) }
         ensures marks { args.new.marks ≡ args.old.marks }
+        ensures room { HasRoom args.new args.old.slots args.old.room }
     {
         for k in 0..args.param(p).len() {
             let handle = args.param(p)[k];
@@ -114,6 +115,7 @@ impl UniqueState {
     fn enter_param(&self, ty: ObjectType, args: &mut HandleArgs<6>, p: usize)
         ensures lists { args.new.lists ≡ slice_set args.old.lists p (below_handles self.now.ids ty (list_at args.old.lists p)) }
         ensures marks { args.new.marks ≡ args.old.marks }
+        ensures room { HasRoom args.new args.old.slots args.old.room }
     {
         if p < args.len() && wraps(ty) {
             self.replace(ty, args, p);
@@ -124,6 +126,7 @@ impl UniqueState {
     fn enter_params(&self, params: &[Param], args: &mut HandleArgs<6>)
         ensures lists { args.new.lists ≡ below_params self.now.ids (map seen_param params.now) args.old.lists }
         ensures marks { args.new.marks ≡ args.old.marks }
+        ensures room { HasRoom args.new args.old.slots args.old.room }
     {
         for p in 0..params.len() {
             self.enter_param(params[p].ty, args, p);
@@ -131,9 +134,11 @@ impl UniqueState {
     }
 
     /// The call as it goes on: each handle of a type for which the part issues ids is replaced by the one below it, and by 0
-    /// where the id is unknown.
+    /// where the id is unknown. No room is lost.
     pub fn enter(&self, call: &mut LayerCall)
-        ensures { call_content call.new ≡ unique_enter self.now.ids (call_content call.old) }
+        ensures call { call_content call.new ≡ unique_enter self.now.ids (call_content call.old) }
+        ensures room { HasRoom call.new.args call.old.args.slots call.old.args.room }
+        ensures bytes { vec_capacity call.old.payload ≤ vec_capacity call.new.payload }
     {
         self.enter_params(row(call.cmd).params, &mut call.args);
     }

@@ -3,9 +3,10 @@ use Rattle.std.specs.Prelude.{vec_capacity}
 use Rattle.std.proofs.lemmas.List.{drop_more}
 use Rattle.command_tables.specs.Calls.{call_content}
 use Rattle.dispatch_chain.specs.Entries.{down_of, enter_entries}
+use Rattle.dispatch_chain.specs.Forms.{form_room}
 use Rattle.dispatch_chain.specs.Room.{room_of}
 use Rattle.dispatch_chain.specs.Seats.{state_of}
-use Rattle.dispatch_chain.proofs.Buffers.{keeps_on}
+use Rattle.dispatch_chain.proofs.Buffers.{form_on, keeps_on}
 use Rattle.dispatch_chain.proofs.Reserved.{rooms_on}
 use Rattle.dispatch_chain.proofs.Roomy.{can_now, can_then, holds_there, large_on, one_held, step_fits, within_next}
 use Rattle.dispatch_chain.proofs.Seats.{seats_stay}
@@ -40,6 +41,9 @@ returns-in_err-enter_at-clause-succeeds g c = λ can fits hold.
     (can_now c.args.thread c.args.number (map room_of c.args.parts.now) (map room_of c.loop-entry.parts) (drop c.loop-entry.entry-index c.args.entries.now) (drop (c.loop-entry.entry-index + 1) c.args.entries.now) _ (down_of (map state_of c.loop-entry.parts) c.loop-entry.call c.loop-entry.verdict) (drop_more c.args.entries.now c.loop-entry.entry-index _ (omega (arith, c.loop-entry-test.true))) c.if-verdict.false c.loop-entry.invariant.rooms (c.loop-entry.invariant.can can))
     (step_fits c.args.thread c.args.number (drop c.loop-entry.entry-index c.args.entries.now) (drop (c.loop-entry.entry-index + 1) c.args.entries.now) _ (down_of (map state_of c.loop-entry.parts) c.loop-entry.call c.loop-entry.verdict) c.loop-entry.held.forms c.args.held.now.forms (enter_entries c.args.thread c.args.number c.args.entries.now (down_of (map state_of c.args.parts.now) c.args.call.now c.args.verdict.now)) (vec_capacity c.args.verdict.now.findings) (vec_capacity c.loop-entry.verdict.findings) (drop_more c.args.entries.now c.loop-entry.entry-index _ (omega (arith, c.loop-entry-test.true))) c.if-verdict.false c.loop-entry.invariant.told fits c.loop-entry.invariant.findings_room) in cc wrong
 
+pub returns-in_err-enter_at-clause-form_room : goal.returns-in_err-enter_at-clause-form_room
+returns-in_err-enter_at-clause-form_room g c = form_on (form_room c.args.call.now) (form_room c.loop-entry.call) (form_room c.enter_at.new.call) c.loop-entry.invariant.form_room c.enter_at.ensures.form_room
+
 pub loop-entry-preserved : goal.loop-entry-preserved
 loop-entry-preserved g c = record {
   told = told_more c.args.thread c.args.number (drop c.loop-entry.entry-index c.args.entries.now) (drop (c.loop-entry.entry-index + 1) c.args.entries.now) _ (down_of (map state_of c.loop-entry.parts) c.loop-entry.call c.loop-entry.verdict) (down_of (map state_of c.enter_at.new.parts) c.enter_at.new.call c.enter_at.new.verdict) c.loop-entry.held.forms c.hold.new.self.forms (drop_more c.args.entries.now c.loop-entry.entry-index _ (omega (arith, c.loop-entry-test.true))) c.if-verdict.false c.in_ok-enter_at.ensures.down c.in_ok-hold.ensures.forms
@@ -52,6 +56,7 @@ loop-entry-preserved g c = record {
   cmd = c.in_ok-enter_at.ensures.cmd ∙ (c.loop-entry.invariant.cmd ∙ sym c.in_ok-hold.ensures.cmd);
   held = c.in_ok-hold.ensures.cmd ∙ c.loop-entry.invariant.held;
   size = large_on (call_content c.args.call.now) (call_content c.loop-entry.call) (call_content c.enter_at.new.call) c.loop-entry.invariant.size c.in_ok-enter_at.ensures.size;
+  form_room = form_on (form_room c.args.call.now) (form_room c.loop-entry.call) (form_room c.enter_at.new.call) c.loop-entry.invariant.form_room c.in_ok-enter_at.ensures.form_room;
   rooms = rooms_on (map room_of c.args.parts.now) (map room_of c.loop-entry.parts) (map room_of c.enter_at.new.parts) c.loop-entry.invariant.rooms c.in_ok-enter_at.ensures.rooms;
   findings_room = omega (arith, c.loop-entry.invariant.findings_room, c.in_ok-enter_at.ensures.findings_room);
   held_rooms = keeps_on c.args.held.now.rooms c.loop-entry.held.rooms c.hold.new.self.rooms c.loop-entry.invariant.held_rooms c.in_ok-hold.ensures.rooms;

@@ -4,7 +4,7 @@ use Rattle.command_tables.specs.Calls.{call_content}
 use Rattle.object_records.specs.Shape.{HasParams}
 use Rattle.lifetime_layer.specs.Shape.{HasFewPlaces}
 use Rattle.dispatch_chain.specs.Entries.{AllWithin, enter_entries, with_front, down_of}
-use Rattle.dispatch_chain.specs.Forms.{IsAsLarge, KeepsForms}
+use Rattle.dispatch_chain.specs.Forms.{IsAsLarge, KeepsForm, KeepsForms, form_room}
 use Rattle.dispatch_chain.specs.Kept.{AllKept}
 use Rattle.dispatch_chain.specs.Room.{AllCanEnter, KeepRooms, room_of}
 use Rattle.dispatch_chain.specs.Seats.{seat_of, state_of}
@@ -22,6 +22,7 @@ invariant-loop-entry g l = record {
   cmd : l.call.cmd ≡ l.held.cmd;
   held : l.held.cmd ≡ l.fn.held.cmd;
   size : IsAsLarge (call_content l.call) (call_content l.fn.call);
+  form_room : KeepsForm (form_room l.fn.call) (form_room l.call);
   rooms : KeepRooms (map room_of l.fn.parts) (map room_of l.parts);
   findings_room : vec_capacity l.fn.verdict.findings ≤ vec_capacity l.verdict.findings;
   held_rooms : KeepsForms l.fn.held.rooms l.held.rooms;

@@ -4,7 +4,7 @@ use Rattle.dispatch_chain.specs.Entries.{MayLeaveAt}
 use Rattle.dispatch_chain.proofs.Kept.{kept_set}
 use Rattle.dispatch_chain.proofs.Seats.{seat_set}
 use Rattle.dispatch_chain.proofs.Stepping.{on_both, on_ok, left_at, state_there}
-use Rattle.dispatch_chain.proofs.Taken.{births_here, births_left, others_stay}
+use Rattle.dispatch_chain.proofs.Taken.{births_here, births_left, others_stay, uses_left}
 use Rattle.dispatch_chain.proofs.walks.leave_at.Goals as goal
 
 pub leave_part-requires-clause-once : goal.leave_part-requires-clause-once
@@ -29,3 +29,6 @@ returns-clause-births g c = on_ok c.leave_part.result (births_left c.args.parts.
 
 pub returns-clause-succeeds : goal.returns-clause-succeeds
 returns-clause-succeeds g c = λ has. c.leave_part.ensures.succeeds (births_here c.args.parts.now (c.args.entry.place - 1) c.index-parts-index.result (length c.args.results.now) c.requires.to has)
+
+pub returns-clause-uses : goal.returns-clause-uses
+returns-clause-uses g c = uses_left c.args.parts.now (c.args.entry.place - 1) c.leave_part.new.part c.index-parts-index.result c.leave_part.ensures.uses

@@ -46,7 +46,7 @@ loop-i-preserved g c = record {
   kept = c.in_ok-leave_at.ensures.kept;
   count = c.in_ok-leave_at.ensures.count ∙ c.loop-i.invariant.count;
   taken = taken_more c.args.entries.now c.loop-i.i (length c.args.results.now) (length c.loop-i.results) _ (map room_of c.args.parts.now) (map room_of c.loop-i.parts) (map room_of c.leave_at.new.parts) c.requires.rising c.loop-i-test.true c.loop-i.invariant.entries c.loop-i.invariant.count c.loop-i.invariant.taken
-      c.in_ok-leave_at.ensures.rooms c.in_ok-leave_at.ensures.others c.in_ok-leave_at.ensures.births;
+      c.in_ok-leave_at.ensures.rooms c.in_ok-leave_at.ensures.others c.in_ok-leave_at.ensures.births c.in_ok-leave_at.ensures.uses;
 }
 
 pub returns-in_err-leave_at-clause-succeeds : goal.returns-in_err-leave_at-clause-succeeds
@@ -55,3 +55,6 @@ returns-in_err-leave_at-clause-succeeds g c = λ all.
 
 pub returns-clause-births : goal.returns-clause-births
 returns-clause-births g c = λ n all. births_after c.args.entries.now c.loop-i.i (length c.args.results.now) (map room_of c.args.parts.now) (map room_of c.loop-i.parts) c.loop-i.invariant.taken n all
+
+pub returns-clause-uses : goal.returns-clause-uses
+returns-clause-uses g c = c.loop-i.invariant.taken.uses

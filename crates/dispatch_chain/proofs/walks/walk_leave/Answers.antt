@@ -1,7 +1,7 @@
 use Rattle.std.proofs.Common.{◌+◌, List, map, length, ◌∙◌, ap, refl, sym, subst}
 use Rattle.dispatch_chain.specs.Holding.{AllShaped}
 use Rattle.dispatch_chain.specs.Kept.{AllKept, AreInOrder}
-use Rattle.dispatch_chain.specs.Room.{AllHaveBirths, ChainState, PartRoom, room_of}
+use Rattle.dispatch_chain.specs.Room.{AllHaveBirths, ChainState, KeepUses, PartRoom, room_of}
 use Rattle.dispatch_chain.specs.Rows.{entries_of}
 use Rattle.dispatch_chain.specs.Seats.{kinds_of, seat_of, state_of}
 use Rattle.dispatch_chain.specs.declared.part.Part.{Part}
@@ -52,3 +52,8 @@ returns-clause-births g c = on_ok c.up.result (λ h n all.
 pub returns-clause-succeeds : goal.returns-clause-succeeds
 returns-clause-succeeds g c = λ all.
     c.up.ensures.succeeds (subst (λ (rs : List PartRoom). AllHaveBirths (length c.args.results.now) rs) (sym (ap (map room_of) c.deref_mut.ensures.value ∙ ap (λ (v : ChainState). v.rooms) c.states.view_is)) all)
+
+pub returns-clause-uses : goal.returns-clause-uses
+returns-clause-uses g c = on_ok c.up.result (λ h.
+    subst (λ (xs : List Part). KeepUses c.args.states.now.rooms (map room_of xs)) (sym (all_of_it c.states.inside.parts.len c.up.new.parts c.states.inside.parts.items (c.up.auto.parts ∙ ap length c.deref_mut.ensures.value) c.states.inside.parts.ok.0))
+    (subst (λ (rs : List PartRoom). KeepUses rs (map room_of c.up.new.parts)) (ap (map room_of) c.deref_mut.ensures.value ∙ ap (λ (v : ChainState). v.rooms) c.states.view_is) h)) c.up.ensures.uses
