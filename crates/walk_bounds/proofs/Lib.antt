@@ -1,0 +1,5 @@
+mod Weighing
+mod Finding
+mod Light
+mod Bearing
+mod Fitting
