@@ -16,17 +16,20 @@ use Rattle.trace_format.specs.Content.{TraceEvent, Begin, Return}
 use Rattle.object_model.specs.declared.Object.{Object}
 use Rattle.object_model.specs.declared.Argument.{Argument}
 use Rattle.object_model.specs.Objects.{first_in}
-use Rattle.object_model.specs.History.{Birth, births, births_given, born_in, line_of, owners_given, owners_in}
+use Rattle.object_model.specs.History.{Birth, History, alive, births, births_given, born_in, line_of, owners_given, owners_in}
 use Rattle.replay_model.specs.Setup.{Setup}
 use Rattle.replay_model.specs.Past.{Opened, history, is_of, objects_of, open_calls}
 use Rattle.replay_model.specs.Judged.{judged, made_of, returned_by}
 use Rattle.layer_model.proofs.Same.{and_true}
 use Rattle.chain_model.specs.Gaps.{IsGapped, may_all_come, may_come}
 use Rattle.chain_model.proofs.Accepted.{IsAccepted, accepted_judged}
+use Rattle.chain_model.proofs.Eventing.{all_found}
 use Rattle.chain_model.proofs.Grammar.{shaped}
 use Rattle.chain_model.proofs.Owners.{type_at}
 use Rattle.chain_model.proofs.Passing.{AreTyped, owners_by}
 use Rattle.chain_model.proofs.Shapes.{AreShaped}
+use Rattle.session_tables.specs.Lined.{owners_made}
+use Rattle.session_model.specs.Living.{AreOfLiving}
 use Rattle.session_model.proofs.Lines.{first_typed, given_as, given_made, owners_fresh, owners_old, unborn_owners}
 use Rattle.session_model.proofs.Owning.{AreOfType, MakesWell, makes_well}
 
@@ -132,3 +135,33 @@ three_owners s events trace x =
     let few : length (owners_in (births (history (judged s events))) x) ≤ limit_of x.ty = short_judged s events trace.each (shaped events trace.grammar) x in
     let low : limit_of x.ty ≤ 3 = leb-true (limit_of x.ty) 3 (limit_three x.ty) in
     omega (arith, few, low)
+
+-- the births of what lives say so too
+short_living : (h : History) (ls : List Birth) → AreOfLiving ls h → AreShort (births h) → AreShort ls
+short_living h ls living short x = go (alive h x) refl
+  where
+    go : (t : Bool) → alive h x ≡ t → length (owners_in ls x) ≤ limit_of x.ty
+    go true lives = subst (λ (os : List Object). length os ≤ limit_of x.ty) (sym (living.owners x lives)) (short x)
+    go false dead = subst (λ (os : List Object). length os ≤ limit_of x.ty) (sym (unborn_owners ls x (living.lives x ∙ dead))) (omega arith)
+
+made_short : (bs : List Birth) → AreShort bs → (ps : List ParamSpec) (args : List (List Argument)) → AreTyped ps args → (e : Effect) → are_below ps e ≡ true → length (owners_made bs args e) ≤ 3
+made_short bs short ps args typed (eff.Create t owner many) fits =
+    let few = owners_short bs short ps args typed owner (limit_of t) fits in
+    let low : limit_of t ≤ 3 = leb-true (limit_of t) 3 (limit_three t) in
+    omega (arith, few, low)
+made_short bs short ps args typed (eff.Retrieve t owner many) fits =
+    let few = owners_short bs short ps args typed owner (limit_of t) fits in
+    let low : limit_of t ≤ 3 = leb-true (limit_of t) 3 (limit_three t) in
+    omega (arith, few, low)
+made_short bs short ps args typed eff.None fits = omega arith
+made_short bs short ps args typed (eff.Destroy p) fits = omega arith
+made_short bs short ps args typed (eff.Free p) fits = omega arith
+made_short bs short ps args typed (eff.Reset p) fits = omega arith
+
+-- what an open call makes has three owners at most
+pub three_made : (s : Setup) (events : List TraceEvent) (thread : ℕ) (o : Opened) (ls : List Birth) → IsGapped events → find (is_of thread) (open_calls (judged s events)) ≡ Some o → AreOfLiving ls (history (judged s events))
+    → length (owners_made ls o.args (row_of o.cmd).effect) ≤ 3
+three_made s events thread o ls trace is living =
+    let a = accepted_judged s events trace.each (shaped events trace.grammar) in
+    let typed : AreTyped (row_of o.cmd).params o.args = all_found (λ x. AreTyped (row_of x.cmd).params x.args) (is_of thread) (open_calls (judged s events)) o a.args is in
+    made_short ls (short_living (history (judged s events)) ls living (short_judged s events trace.each (shaped events trace.grammar))) (row_of o.cmd).params o.args typed (row_of o.cmd).effect (are_below_all o.cmd)

@@ -8,6 +8,7 @@ mod samples;
 
 ghost use Rattle.std.specs.Prelude.{◌≡◌, ◌≤◌, ℕ, true, Some, List, [], ◌∷◌, length, reverse};
 ghost use Rattle.command_tables.specs.Calls.{ReplyContent};
+ghost use Rattle.command_tables.specs.Table.{row_of};
 ghost use Rattle.trace_format.specs.Content.{BeginEvent, TraceEvent, Begin, Return};
 ghost use Rattle.object_model.specs.declared.Object.{Object};
 ghost use Rattle.object_model.specs.History.{Birth, alive, births, owners_in};
@@ -24,7 +25,7 @@ ghost use Rattle.chain_model.specs.Traces.{GivesGuarded};
 ghost use Rattle.session_model.specs.Running.{AreAnsweredInRun, RanWell, session_of, session_started};
 ghost use Rattle.session_model.specs.Session.{SessionKept, nothing_kept};
 ghost use Rattle.session_model.specs.Enough.{IsOpenOf, SaysOfCalls, SaysOfReturns, history_of, living_retrievals};
-ghost use Rattle.session_tables.specs.Lined.{AreAdded};
+ghost use Rattle.session_tables.specs.Lined.{AreAdded, owners_made};
 ghost use Rattle.session_model.specs.Living.{AreOfLiving, ArePast, births_past, births_since};
 ghost use Rattle.session_model.specs.Returning.{held_of_thread, sent_of_thread};
 ghost use Rattle.session_model.specs.Stands.{BeginsWell, HasCall, HasNoCall, ReturnsWell, Stands};
@@ -91,6 +92,12 @@ pub fn owners_of_what_lives_live()
     ensures live { (s : Setup) (events : List TraceEvent) (x y : Object) → IsGapped events → alive (history_of s events) x ≡ true →
         is_in (owners_in (births (history_of s events)) x) y ≡ true → alive (history_of s events) y ≡ true }
     ensures three { (s : Setup) (events : List TraceEvent) (x : Object) → IsGapped events → length (owners_in (births (history_of s events)) x) ≤ 3 }
+{}
+
+/// What an open call makes has three owners at most, also by the births of what lives.
+pub fn what_is_made_has_few_owners()
+    ensures { (s : Setup) (events : List TraceEvent) (thread : ℕ) (o : Opened) (ls : List Birth) → IsGapped events → IsOpenOf s events thread o → AreOfLiving ls (history_of s events) →
+        length (owners_made ls o.args (row_of o.cmd).effect) ≤ 3 }
 {}
 
 /// A session that kept the births of what lives alone would judge, end, make and retrieve the same, and the retrievals of what lives are
