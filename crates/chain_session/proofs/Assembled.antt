@@ -64,7 +64,7 @@ roomless t = record { ids = t.ids; routes = t.routes; drivers = t.drivers; spare
 
 -- what the program keeps of them
 abbrev pub read_of : Kept → Read
-read_of x = record { calls = x.calls; names = x.parts.names.names; births = x.parts.names.births; states = x.parts.states.kept; handed = x.parts.names.handed; terminator = roomless x.parts.terminator }
+read_of x = record { calls = x.calls; names = x.parts.names.kept.names; births = x.parts.names.kept.births; states = x.parts.states.kept; handed = x.parts.names.kept.handed; terminator = roomless x.parts.terminator }
 
 -- what the definitions keep of them
 abbrev pub read_in : Setup → SessionKept → Read
@@ -252,7 +252,7 @@ held_more s kinds (x ∷ calls) (g ∷ hs) c h all one = (all.0, held_more s kin
 pub record Stepped (s : Setup) (x : Kept) (e : BeginEvent) (number : ℕ) (refusal : Option Code) (judged sent : OpenCall) (verdict : Verdict) (mid : SessionParts) (new : Kept) (log0 log1 : Log) (lines0 lines1 : List ℕ) : Type 0 where
   pub counted : number ≡ x.calls + 1
   pub refused : refusal ≡ refusal_at s e.cmd e.payload
-  pub judges : IsJudged x.parts.names.births x.parts.names.handed x.parts.states.kept (opened_first number x.parts.names.names e refusal) judged verdict mid.states.kept
+  pub judges : IsJudged x.parts.names.kept.births x.parts.names.kept.handed x.parts.states.kept (opened_first number x.parts.names.kept.names e refusal) judged verdict mid.states.kept
   pub passes : Passes x.parts (opened_of judged) mid
   pub keeps : judged.refusal ≡ refusal
   pub kinds : kinds_of mid.states.kept ≡ kinds_of x.parts.states.kept
@@ -272,17 +272,17 @@ begins_so s x e number refusal judged sent verdict mid new log0 log1 lines0 line
     let found : reports_of verdict.findings.items ≡ (findings_kept s k e).reports = reports_is s k e number refusal judged verdict after p.refused st in
     let states : after ≡ (after_begin k.chain (loader_kept k e) (begun_kept s k e).opened).states = states_is s k e number refusal judged verdict after p.refused st in
     let rest = rest_is s k e number refusal judged verdict after p.refused st in
-    let passed : ArePast x.parts.names.births (opened_of sent) mid.names.births = subst (λ (o : Opened). ArePast x.parts.names.births o mid.names.births) (sym p.sends.opened) (past_sent x.parts.names.births mid.names.births (opened_of judged) (drivers_due x.parts.terminator judged) p.passes.past) in
-    let past : ArePast k.births (begun_kept s k e).opened new.parts.names.births =
-    subst (λ (y : SessionParts). ArePast k.births (begun_kept s k e).opened y.names.births) (sym p.begun.parts)
-    (subst (λ (o : Opened). ArePast k.births o mid.names.births) opened (subst (λ (bs : List Birth). ArePast bs (opened_of sent) mid.names.births) sh.parts.births passed)) in
-    let named : new.parts.names ≡ record x.parts.names { births = mid.names.births } = ap (λ (y : SessionParts). y.names) p.begun.parts ∙ p.passes.names in
+    let passed : ArePast x.parts.names.kept.births (opened_of sent) mid.names.kept.births = subst (λ (o : Opened). ArePast x.parts.names.kept.births o mid.names.kept.births) (sym p.sends.opened) (past_sent x.parts.names.kept.births mid.names.kept.births (opened_of judged) (drivers_due x.parts.terminator judged) p.passes.past) in
+    let past : ArePast k.births (begun_kept s k e).opened new.parts.names.kept.births =
+    subst (λ (y : SessionParts). ArePast k.births (begun_kept s k e).opened y.names.kept.births) (sym p.begun.parts)
+    (subst (λ (o : Opened). ArePast k.births o mid.names.kept.births) opened (subst (λ (bs : List Birth). ArePast bs (opened_of sent) mid.names.kept.births) sh.parts.births passed)) in
+    let named : new.parts.names.kept ≡ record x.parts.names.kept { births = mid.names.kept.births } = ap (λ (y : SessionParts). y.names.kept) p.begun.parts ∙ p.passes.names in
     let stays : new.parts.states.kept ≡ after = ap (λ (y : SessionParts). y.states.kept) p.begun.parts in
     let ended : new.parts.terminator ≡ x.parts.terminator = ap (λ (y : SessionParts). y.terminator) p.begun.parts ∙ p.passes.terminator in
     let own : List ReplyContent = map reply_shown sent.replies.items in
     let kinds : kinds_of new.parts.states.kept ≡ kinds_of k.chain.states = ap kinds_of stays ∙ (p.kinds ∙ ap kinds_of sh.parts.states) in
     record {
-      births = new.parts.names.births;
+      births = new.parts.names.kept.births;
       answers = answers_is s k e number refusal judged verdict after p.refused st sent log0 log1 went;
       past = past;
       shows = record {

@@ -45,7 +45,7 @@ chained_from false o creation chain made f is not = cc
 
 module _ (s : Setup) (x : Kept) (e : BeginEvent) (number : ℕ) (refusal : Option Code) (judged : OpenCall) (verdict : Verdict) (mid : SessionParts)
     (counted : number ≡ x.calls + 1) (refused : refusal ≡ refusal_at s e.cmd e.payload)
-    (judges : IsJudged x.parts.names.births x.parts.names.handed x.parts.states.kept (opened_first number x.parts.names.names e refusal) judged verdict mid.states.kept) where
+    (judges : IsJudged x.parts.names.kept.births x.parts.names.kept.handed x.parts.states.kept (opened_first number x.parts.names.kept.names e refusal) judged verdict mid.states.kept) where
   steps_in : (k : SessionKept) → Shows s x k → Steps (read_in s k) e number refusal judged verdict mid.states.kept
   steps_in k sh = subst (λ v. Steps v e number refusal judged verdict mid.states.kept) (read_same s x k sh) (record { counted = counted; judges = judges })
 

@@ -14,50 +14,50 @@ use Rattle.session_tables.specs.Lined.{AreAdded}
 use Rattle.session_tables.specs.Shown.{args_shown}
 use Rattle.chain_session.specs.declared.call.OpenCall.{OpenCall}
 use Rattle.chain_session.specs.declared.parts.SessionParts.{SessionParts}
-use Rattle.chain_session.specs.Names.{NamesKept}
+use Rattle.chain_session.specs.Names.{NameTableState, NamesKept}
 use Rattle.chain_session.specs.Opened.{opened_of}
 use Rattle.chain_session.specs.Raising.{ComesBack, chain_at, chain_raised, made_at}
 
 -- what is born, by what the tables show
-pub made_so : (x : SessionParts) (p : OpenCall) (drivers : ℕ) (births : List Birth) (retrieved : List Retrieval) (born : List Born) → drivers ≡ x.terminator.drivers → births ≡ x.names.births → retrieved ≡ x.names.retrieved
+pub made_so : (x : SessionParts) (p : OpenCall) (drivers : ℕ) (births : List Birth) (retrieved : List Retrieval) (born : List Born) → drivers ≡ x.terminator.drivers → births ≡ x.names.kept.births → retrieved ≡ x.names.kept.retrieved
     → born ≡ made_by drivers births (born_in births) retrieved (opened_of p) → born ≡ made_at x p
 made_so x p drivers births retrieved born is_drivers is_births is_retrieved is =
     is
     ∙ (ap (λ n. made_by n births (born_in births) retrieved (opened_of p)) is_drivers
     ∙ (ap (λ (bs : List Birth). made_by x.terminator.drivers bs (born_in bs) retrieved (opened_of p)) is_births
-    ∙ ap (λ rs. made_by x.terminator.drivers x.names.births (born_in x.names.births) rs (opened_of p)) is_retrieved))
+    ∙ ap (λ rs. made_by x.terminator.drivers x.names.kept.births (born_in x.names.kept.births) rs (opened_of p)) is_retrieved))
 
-module _ (x : SessionParts) (p : OpenCall) (states : ChainState) (t : TerminatorState) (raised settled : NamesKept) (count : ℕ) where
+module _ (x : SessionParts) (p : OpenCall) (states : ChainState) (t : TerminatorState) (raised : NamesKept) (settled : NameTableState) (count : ℕ) where
   -- by what was made
-  came_back_with : count ≡ length (made_at x p) → raised ≡ record x.names { handed = raised.handed }
-      → ((forms : List CallContent) → IsHeldOf p.held (kinds_of x.states.kept) forms → chain_at states.kept t raised.handed ≡ chain_raised (chain_at x.states.kept x.terminator x.names.handed) p forms (made_at x p))
-      → t.drivers ≡ x.terminator.drivers → settled.names ≡ raised.names ++ map named_of (made_at x p)
-      → AreAdded raised.births (births_given raised.births (args_shown p.args.items) (row_of p.cmd).effect (objects_of (made_at x p))) settled.births
-      → settled.retrieved ≡ raised.retrieved ++ retrieved_by raised.births (opened_of p) (made_at x p) → settled.handed ≡ raised.handed
+  came_back_with : count ≡ length (made_at x p) → raised ≡ record x.names.kept { handed = raised.handed }
+      → ((forms : List CallContent) → IsHeldOf p.held (kinds_of x.states.kept) forms → chain_at states.kept t raised.handed ≡ chain_raised (chain_at x.states.kept x.terminator x.names.kept.handed) p forms (made_at x p))
+      → t.drivers ≡ x.terminator.drivers → settled.kept.names ≡ raised.names ++ map named_of (made_at x p)
+      → AreAdded raised.births (births_given raised.births (args_shown p.args.items) (row_of p.cmd).effect (objects_of (made_at x p))) settled.kept.births
+      → settled.kept.retrieved ≡ raised.retrieved ++ retrieved_by raised.births (opened_of p) (made_at x p) → settled.kept.handed ≡ raised.handed
       → ComesBack x p (record { states = states; terminator = t; names = settled }) count
   came_back_with counted rest chain drivers names births retrieved handed = record {
     counted = counted;
     names = names ∙ ap (λ (n : NamesKept). n.names ++ map named_of (made_at x p)) rest;
-    births = subst (λ (n : NamesKept). AreAdded n.births (births_given n.births (args_shown p.args.items) (row_of p.cmd).effect (objects_of (made_at x p))) settled.births) rest births;
+    births = subst (λ (n : NamesKept). AreAdded n.births (births_given n.births (args_shown p.args.items) (row_of p.cmd).effect (objects_of (made_at x p))) settled.kept.births) rest births;
     retrieved = retrieved ∙ ap (λ (n : NamesKept). n.retrieved ++ retrieved_by n.births (opened_of p) (made_at x p)) rest;
     chain = λ forms h. ap (chain_at states.kept t) handed ∙ chain forms h;
     drivers = drivers;
   }
 
   -- by what was handed on
-  pub came_back : (born first second : List Born) → born ≡ made_at x p → first ≡ born → second ≡ born → count ≡ length born → raised ≡ record x.names { handed = raised.handed }
-      → ((forms : List CallContent) → IsHeldOf p.held (kinds_of x.states.kept) forms → chain_at states.kept t raised.handed ≡ chain_raised (chain_at x.states.kept x.terminator x.names.handed) p forms first)
-      → t.drivers ≡ x.terminator.drivers → settled.names ≡ raised.names ++ map named_of second
-      → AreAdded raised.births (births_given raised.births (args_shown p.args.items) (row_of p.cmd).effect (objects_of second)) settled.births
-      → settled.retrieved ≡ raised.retrieved ++ retrieved_by raised.births (opened_of p) second → settled.handed ≡ raised.handed
+  pub came_back : (born first second : List Born) → born ≡ made_at x p → first ≡ born → second ≡ born → count ≡ length born → raised ≡ record x.names.kept { handed = raised.handed }
+      → ((forms : List CallContent) → IsHeldOf p.held (kinds_of x.states.kept) forms → chain_at states.kept t raised.handed ≡ chain_raised (chain_at x.states.kept x.terminator x.names.kept.handed) p forms first)
+      → t.drivers ≡ x.terminator.drivers → settled.kept.names ≡ raised.names ++ map named_of second
+      → AreAdded raised.births (births_given raised.births (args_shown p.args.items) (row_of p.cmd).effect (objects_of second)) settled.kept.births
+      → settled.kept.retrieved ≡ raised.retrieved ++ retrieved_by raised.births (opened_of p) second → settled.kept.handed ≡ raised.handed
       → ComesBack x p (record { states = states; terminator = t; names = settled }) count
   came_back born first second is one two counted rest chain drivers names births retrieved handed =
       came_back_with
       (counted ∙ ap (λ (ms : List Born). length ms) is)
       rest
-      (λ forms h. chain forms h ∙ ap (chain_raised (chain_at x.states.kept x.terminator x.names.handed) p forms) (one ∙ is))
+      (λ forms h. chain forms h ∙ ap (chain_raised (chain_at x.states.kept x.terminator x.names.kept.handed) p forms) (one ∙ is))
       drivers
       (names ∙ ap (λ ms. raised.names ++ map named_of ms) (two ∙ is))
-      (subst (λ (ms : List Born). AreAdded raised.births (births_given raised.births (args_shown p.args.items) (row_of p.cmd).effect (objects_of ms)) settled.births) (two ∙ is) births)
+      (subst (λ (ms : List Born). AreAdded raised.births (births_given raised.births (args_shown p.args.items) (row_of p.cmd).effect (objects_of ms)) settled.kept.births) (two ∙ is) births)
       (retrieved ∙ ap (λ ms. raised.retrieved ++ retrieved_by raised.births (opened_of p) ms) (two ∙ is))
       handed

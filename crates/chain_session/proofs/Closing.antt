@@ -168,10 +168,10 @@ module _ (s : Setup) (x : Kept) (k : SessionKept) (thread : ℕ) (p : OpenCall) 
   own : (h.thread == p.thread) ≡ true
   own = eq-eqb h.thread p.thread is.thread
 
-  pub made_so : made_by x.parts.terminator.drivers x.parts.names.births (born_in x.parts.names.births) x.parts.names.retrieved o ≡ made
+  pub made_so : made_by x.parts.terminator.drivers x.parts.names.kept.births (born_in x.parts.names.kept.births) x.parts.names.kept.retrieved o ≡ made
   made_so =
-      ap (λ n. made_by n x.parts.names.births (born_in x.parts.names.births) x.parts.names.retrieved o) shows.parts.drivers
-      ∙ (ap (λ (bs : List Birth). made_by s.drivers bs (born_in bs) x.parts.names.retrieved o) shows.parts.births ∙ ap (λ rs. made_by s.drivers k.births (born_in k.births) rs o) shows.parts.retrieved)
+      ap (λ n. made_by n x.parts.names.kept.births (born_in x.parts.names.kept.births) x.parts.names.kept.retrieved o) shows.parts.drivers
+      ∙ (ap (λ (bs : List Birth). made_by s.drivers bs (born_in bs) x.parts.names.kept.retrieved o) shows.parts.births ∙ ap (λ rs. made_by s.drivers k.births (born_in k.births) rs o) shows.parts.retrieved)
 
   -- the chain in force then
   states_then : is_skipped o ≡ false → states_due x.parts.states.kept p ≡ (in_force s k.chain o).states
@@ -253,7 +253,7 @@ module _ (s : Setup) (x : Kept) (k : SessionKept) (thread : ℕ) (p : OpenCall) 
   refusal_is = is.refusal
 
   -- what is kept of the chain, beside the open calls
-  raised_then : chain_raised (chain_at x.parts.states.kept x.parts.terminator x.parts.names.handed) p h.forms made ≡ record (chain_after_return s k (sent_of p) h) { held = [] }
+  raised_then : chain_raised (chain_at x.parts.states.kept x.parts.terminator x.parts.names.kept.handed) p h.forms made ≡ record (chain_after_return s k (sent_of p) h) { held = [] }
   raised_then = go (is_skipped o) refl
     where
       skipped_chain : List PartState → Terminator → List Routed → List Handed → ChainKept
@@ -269,17 +269,17 @@ module _ (s : Setup) (x : Kept) (k : SessionKept) (thread : ℕ) (p : OpenCall) 
       }
 
       go : (u : Bool) → is_skipped o ≡ u
-          → cond u (after_skipped (chain_at x.parts.states.kept x.parts.terminator x.parts.names.handed) o (held_at p h.forms) (lost_of p made)) (chain_sent (chain_at (states_due x.parts.states.kept p) x.parts.terminator x.parts.names.handed) p (forms_due p h.forms) made)
+          → cond u (after_skipped (chain_at x.parts.states.kept x.parts.terminator x.parts.names.kept.handed) o (held_at p h.forms) (lost_of p made)) (chain_sent (chain_at (states_due x.parts.states.kept p) x.parts.terminator x.parts.names.kept.handed) p (forms_due p h.forms) made)
           ≡ record (cond u (after_skipped k.chain o h (lost_kept s k o)) (after_reply (in_force s k.chain o) o (held_in_force s o h) (sent_of p).answers made (lost_kept s k o))) { held = [] }
       go true e =
-          ap (λ ss. skipped_chain ss x.parts.terminator.ids x.parts.terminator.routes x.parts.names.handed) shows.parts.states
-          ∙ (ap (λ m. skipped_chain k.chain.states m x.parts.terminator.routes x.parts.names.handed) shows.parts.ids
-          ∙ (ap (λ rs. skipped_chain k.chain.states k.chain.terminator rs x.parts.names.handed) shows.parts.routes ∙ ap (λ hs. skipped_chain k.chain.states k.chain.terminator k.chain.routes hs) shows.parts.handed))
+          ap (λ ss. skipped_chain ss x.parts.terminator.ids x.parts.terminator.routes x.parts.names.kept.handed) shows.parts.states
+          ∙ (ap (λ m. skipped_chain k.chain.states m x.parts.terminator.routes x.parts.names.kept.handed) shows.parts.ids
+          ∙ (ap (λ rs. skipped_chain k.chain.states k.chain.terminator rs x.parts.names.kept.handed) shows.parts.routes ∙ ap (λ hs. skipped_chain k.chain.states k.chain.terminator k.chain.routes hs) shows.parts.handed))
       go false e =
           let all : IssuedAll (List Value) = terminator_leave (in_force s k.chain o).terminator (held_in_force s o h).bottom (sent_of p).answers flags in
-          ap (λ ss. sent_chain ss (left_at x.parts.terminator p made) x.parts.terminator.routes x.parts.names.handed (forms_due p h.forms)) (states_then e)
-          ∙ (ap (λ all. sent_chain (in_force s k.chain o).states all x.parts.terminator.routes x.parts.names.handed (forms_due p h.forms)) (results_then e)
-          ∙ (ap (λ rs. sent_chain (in_force s k.chain o).states all rs x.parts.names.handed (forms_due p h.forms)) (shows.parts.routes ∙ sym routes_then_are)
+          ap (λ ss. sent_chain ss (left_at x.parts.terminator p made) x.parts.terminator.routes x.parts.names.kept.handed (forms_due p h.forms)) (states_then e)
+          ∙ (ap (λ all. sent_chain (in_force s k.chain o).states all x.parts.terminator.routes x.parts.names.kept.handed (forms_due p h.forms)) (results_then e)
+          ∙ (ap (λ rs. sent_chain (in_force s k.chain o).states all rs x.parts.names.kept.handed (forms_due p h.forms)) (shows.parts.routes ∙ sym routes_then_are)
           ∙ (ap (λ hs. sent_chain (in_force s k.chain o).states all (in_force s k.chain o).routes hs (forms_due p h.forms)) (shows.parts.handed ∙ sym handed_then)
           ∙ ap (λ fs. sent_chain (in_force s k.chain o).states all (in_force s k.chain o).routes (in_force s k.chain o).handed fs) (forms_then e))))
 
@@ -311,20 +311,20 @@ module _ (s : Setup) (x : Kept) (k : SessionKept) (thread : ℕ) (p : OpenCall) 
           e (left_kinds p.thread (in_force s k.chain o).states (held_in_force s o h).forms (terminator_leave (in_force s k.chain o).terminator (held_in_force s o h).bottom (sent_of p).answers flags).results)
 
   -- what the program keeps then
-  module _ (y : Kept) (calls : y.calls ≡ x.calls) (skipped : y.skipped ≡ x.skipped) (reports : y.reports ≡ x.reports) (names : y.parts.names.names ≡ x.parts.names.names ++ map named_of made)
-      (births : AreAdded x.parts.names.births (births_given x.parts.names.births (args_shown p.args.items) (row_of p.cmd).effect (objects_of made)) y.parts.names.births)
-      (retrieved : y.parts.names.retrieved ≡ x.parts.names.retrieved ++ retrieved_by x.parts.names.births o made) (closed : y.open_calls ≡ filter (λ (c : OpenCall). not (is_of thread (opened_of c))) x.open_calls)
-      (chain : chain_at y.parts.states.kept y.parts.terminator y.parts.names.handed ≡ chain_raised (chain_at x.parts.states.kept x.parts.terminator x.parts.names.handed) p h.forms made) (drivers : y.parts.terminator.drivers ≡ x.parts.terminator.drivers) where
-    chain_is : chain_at y.parts.states.kept y.parts.terminator y.parts.names.handed ≡ record (chain_after_return s k (sent_of p) h) { held = [] }
+  module _ (y : Kept) (calls : y.calls ≡ x.calls) (skipped : y.skipped ≡ x.skipped) (reports : y.reports ≡ x.reports) (names : y.parts.names.kept.names ≡ x.parts.names.kept.names ++ map named_of made)
+      (births : AreAdded x.parts.names.kept.births (births_given x.parts.names.kept.births (args_shown p.args.items) (row_of p.cmd).effect (objects_of made)) y.parts.names.kept.births)
+      (retrieved : y.parts.names.kept.retrieved ≡ x.parts.names.kept.retrieved ++ retrieved_by x.parts.names.kept.births o made) (closed : y.open_calls ≡ filter (λ (c : OpenCall). not (is_of thread (opened_of c))) x.open_calls)
+      (chain : chain_at y.parts.states.kept y.parts.terminator y.parts.names.kept.handed ≡ chain_raised (chain_at x.parts.states.kept x.parts.terminator x.parts.names.kept.handed) p h.forms made) (drivers : y.parts.terminator.drivers ≡ x.parts.terminator.drivers) where
+    chain_is : chain_at y.parts.states.kept y.parts.terminator y.parts.names.kept.handed ≡ record (chain_after_return s k (sent_of p) h) { held = [] }
     chain_is = chain ∙ raised_then
 
     thread_is : p.thread ≡ thread
     thread_is = open_thread thread x.open_calls p opens
 
-    pub since_then : AreAdded k.births (given_kept s k o) y.parts.names.births
-    since_then = subst (λ (bs : List Birth). AreAdded bs (births_given bs o.args (row_of o.cmd).effect (objects_of made)) y.parts.names.births) shows.parts.births births
+    pub since_then : AreAdded k.births (given_kept s k o) y.parts.names.kept.births
+    since_then = subst (λ (bs : List Birth). AreAdded bs (births_given bs o.args (row_of o.cmd).effect (objects_of made)) y.parts.names.kept.births) shows.parts.births births
 
-    pub shows_then : Shows s y (kept_after_return s k (sent_of p) h y.parts.names.births)
+    pub shows_then : Shows s y (kept_after_return s k (sent_of p) h y.parts.names.kept.births)
     shows_then = record {
       calls = calls ∙ shows.calls;
       skipped = skipped ∙ shows.skipped;
@@ -332,7 +332,7 @@ module _ (s : Setup) (x : Kept) (k : SessionKept) (thread : ℕ) (p : OpenCall) 
       parts = record {
         names = names ∙ ap (λ ns. ns ++ map named_of made) shows.parts.names;
         births = refl;
-        retrieved = retrieved ∙ (ap (λ rs. rs ++ retrieved_by x.parts.names.births o made) shows.parts.retrieved ∙ ap (λ (bs : List Birth). k.retrieved ++ retrieved_by bs o made) shows.parts.births);
+        retrieved = retrieved ∙ (ap (λ rs. rs ++ retrieved_by x.parts.names.kept.births o made) shows.parts.retrieved ∙ ap (λ (bs : List Birth). k.retrieved ++ retrieved_by bs o made) shows.parts.births);
         states = ap (λ (c : ChainKept). c.states) chain_is;
         ids = ap (λ (c : ChainKept). c.terminator) chain_is;
         routes = ap (λ (c : ChainKept). c.routes) chain_is;
@@ -354,13 +354,13 @@ same_call s x k thread p call shows opens found =
 
 -- what is born at it
 born_so : (s : Setup) (x : Kept) (k : SessionKept) (thread : ℕ) (p : OpenCall) (call : Sent) (held : Held) (born : List Born) → Shows s x k → Some p ≡ find (λ (c : OpenCall). is_of thread (opened_of c)) x.open_calls → sent_of_thread k thread ≡ Some call
-    → held_of_thread k thread ≡ Some held → Returns s k call held → born ≡ made_by x.parts.terminator.drivers x.parts.names.births (born_in x.parts.names.births) x.parts.names.retrieved (opened_of p) → born ≡ made_kept s k (opened_of p)
+    → held_of_thread k thread ≡ Some held → Returns s k call held → born ≡ made_by x.parts.terminator.drivers x.parts.names.kept.births (born_in x.parts.names.kept.births) x.parts.names.kept.retrieved (opened_of p) → born ≡ made_kept s k (opened_of p)
 born_so s x k thread p call held born shows opens found holds returns is =
     is ∙ made_so s x k thread p held shows opens holds (subst (λ (c : Sent). Returns s k c held) (same_call s x k thread p call shows opens found) returns)
 
 -- its results may come up
 pub can_raise : (x : Kept) (thread : ℕ) (p : OpenCall) (born : List Born) → CanFinish x thread → Some p ≡ find (λ (c : OpenCall). is_of thread (opened_of c)) x.open_calls
-    → born ≡ made_by x.parts.terminator.drivers x.parts.names.births (born_in x.parts.names.births) x.parts.names.retrieved (opened_of p) → MayRaise x.parts.states.kept x.parts.terminator p born
+    → born ≡ made_by x.parts.terminator.drivers x.parts.names.kept.births (born_in x.parts.names.kept.births) x.parts.names.kept.retrieved (opened_of p) → MayRaise x.parts.states.kept x.parts.terminator p born
 can_raise x thread p born can opens is =
     subst (λ ms. MayRaise x.parts.states.kept x.parts.terminator p ms) (sym (born_so can.setup x can.kept thread p can.call can.held born can.shows opens can.found can.holds can.returns is))
     (may_raise can.setup x can.kept thread p can.held can.shows opens can.holds (subst (λ (c : Sent). Returns can.setup can.kept c can.held) (same_call can.setup x can.kept thread p can.call can.shows opens can.found) can.returns))
@@ -372,24 +372,24 @@ none_finishes x y thread old_lines lines none = λ s k call held shows found hol
     cc e
 
 pub finishes_so : (x y : Kept) (thread : ℕ) (p : OpenCall) (born : List Born) (old_lines lines : List ℕ) → Some p ≡ find (λ (c : OpenCall). is_of thread (opened_of c)) x.open_calls
-    → born ≡ made_by x.parts.terminator.drivers x.parts.names.births (born_in x.parts.names.births) x.parts.names.retrieved (opened_of p) → y.calls ≡ x.calls → y.skipped ≡ x.skipped → y.reports ≡ x.reports → y.parts.names.names ≡ x.parts.names.names ++ map named_of born
-    → AreAdded x.parts.names.births (births_given x.parts.names.births (args_shown p.args.items) (row_of p.cmd).effect (objects_of born)) y.parts.names.births
-    → y.parts.names.retrieved ≡ x.parts.names.retrieved ++ retrieved_by x.parts.names.births (opened_of p) born → y.open_calls ≡ filter (λ (c : OpenCall). not (is_of thread (opened_of c))) x.open_calls
-    → ((forms : List CallContent) → IsHeldOf p.held (kinds_of x.parts.states.kept) forms → chain_at y.parts.states.kept y.parts.terminator y.parts.names.handed ≡ chain_raised (chain_at x.parts.states.kept x.parts.terminator x.parts.names.handed) p forms born) → y.parts.terminator.drivers ≡ x.parts.terminator.drivers
+    → born ≡ made_by x.parts.terminator.drivers x.parts.names.kept.births (born_in x.parts.names.kept.births) x.parts.names.kept.retrieved (opened_of p) → y.calls ≡ x.calls → y.skipped ≡ x.skipped → y.reports ≡ x.reports → y.parts.names.kept.names ≡ x.parts.names.kept.names ++ map named_of born
+    → AreAdded x.parts.names.kept.births (births_given x.parts.names.kept.births (args_shown p.args.items) (row_of p.cmd).effect (objects_of born)) y.parts.names.kept.births
+    → y.parts.names.kept.retrieved ≡ x.parts.names.kept.retrieved ++ retrieved_by x.parts.names.kept.births (opened_of p) born → y.open_calls ≡ filter (λ (c : OpenCall). not (is_of thread (opened_of c))) x.open_calls
+    → ((forms : List CallContent) → IsHeldOf p.held (kinds_of x.parts.states.kept) forms → chain_at y.parts.states.kept y.parts.terminator y.parts.names.kept.handed ≡ chain_raised (chain_at x.parts.states.kept x.parts.terminator x.parts.names.kept.handed) p forms born) → y.parts.terminator.drivers ≡ x.parts.terminator.drivers
     → ((s : Setup) → p.refusal ≡ refusal_at s p.cmd p.payload.items → s.drivers ≡ x.parts.terminator.drivers → lines ≡ old_lines ++ return_text s (opened_of p) (length born)) → Finishes x y thread old_lines lines
 finishes_so x y thread p born old_lines lines opens is calls skipped reports names births retrieved closed chain drivers line = λ s k call held shows found holds returns.
     let same : call ≡ sent_of p = same_call s x k thread p call shows opens found in
     let mine : Returns s k (sent_of p) held = subst (λ (c : Sent). Returns s k c held) same returns in
     let made : born ≡ made_kept s k (opened_of p) = born_so s x k thread p call held born shows opens found holds returns is in
     let o : Opened = opened_of p in
-    let names2 : y.parts.names.names ≡ x.parts.names.names ++ map named_of (made_kept s k (opened_of p)) = names ∙ ap (λ (ms : List Born). x.parts.names.names ++ map named_of ms) made in
-    let births2 : AreAdded x.parts.names.births (births_given x.parts.names.births (args_shown p.args.items) (row_of p.cmd).effect (objects_of (made_kept s k (opened_of p)))) y.parts.names.births
-    = subst (λ (ms : List Born). AreAdded x.parts.names.births (births_given x.parts.names.births (args_shown p.args.items) (row_of p.cmd).effect (objects_of ms)) y.parts.names.births) made births in
-    let retrieved2 : y.parts.names.retrieved ≡ x.parts.names.retrieved ++ retrieved_by x.parts.names.births (opened_of p) (made_kept s k (opened_of p)) = retrieved ∙ ap (λ (ms : List Born). x.parts.names.retrieved ++ retrieved_by x.parts.names.births (opened_of p) ms) made in
-    let chain2 : chain_at y.parts.states.kept y.parts.terminator y.parts.names.handed ≡ chain_raised (chain_at x.parts.states.kept x.parts.terminator x.parts.names.handed) p held.forms (made_kept s k (opened_of p))
-    = chain held.forms (held_is s x k thread p held shows opens holds mine) ∙ ap (chain_raised (chain_at x.parts.states.kept x.parts.terminator x.parts.names.handed) p held.forms) made in
+    let names2 : y.parts.names.kept.names ≡ x.parts.names.kept.names ++ map named_of (made_kept s k (opened_of p)) = names ∙ ap (λ (ms : List Born). x.parts.names.kept.names ++ map named_of ms) made in
+    let births2 : AreAdded x.parts.names.kept.births (births_given x.parts.names.kept.births (args_shown p.args.items) (row_of p.cmd).effect (objects_of (made_kept s k (opened_of p)))) y.parts.names.kept.births
+    = subst (λ (ms : List Born). AreAdded x.parts.names.kept.births (births_given x.parts.names.kept.births (args_shown p.args.items) (row_of p.cmd).effect (objects_of ms)) y.parts.names.kept.births) made births in
+    let retrieved2 : y.parts.names.kept.retrieved ≡ x.parts.names.kept.retrieved ++ retrieved_by x.parts.names.kept.births (opened_of p) (made_kept s k (opened_of p)) = retrieved ∙ ap (λ (ms : List Born). x.parts.names.kept.retrieved ++ retrieved_by x.parts.names.kept.births (opened_of p) ms) made in
+    let chain2 : chain_at y.parts.states.kept y.parts.terminator y.parts.names.kept.handed ≡ chain_raised (chain_at x.parts.states.kept x.parts.terminator x.parts.names.kept.handed) p held.forms (made_kept s k (opened_of p))
+    = chain held.forms (held_is s x k thread p held shows opens holds mine) ∙ ap (chain_raised (chain_at x.parts.states.kept x.parts.terminator x.parts.names.kept.handed) p held.forms) made in
     subst (λ (c : Sent). Returned s k c held y old_lines lines) (sym same) (record {
-      births = y.parts.names.births;
+      births = y.parts.names.kept.births;
       since = since_then s x k thread p held shows opens holds mine y calls skipped reports names2 births2 retrieved2 closed chain2 drivers;
       shows = shows_then s x k thread p held shows opens holds mine y calls skipped reports names2 births2 retrieved2 closed chain2 drivers;
       wrote = line s (refusal_is s x k thread p held shows opens holds mine) (sym shows.parts.drivers) ∙ ap (λ (ms : List Born). old_lines ++ return_text s (opened_of p) (length ms)) made;

@@ -115,7 +115,7 @@ module _ (s : Setup) (x : SessionParts) (k : SessionKept) (e : BeginEvent) (call
     bottom_is : call ≡ h.bottom
     bottom_is = opens.left.bottom goes
 
-    args_are : recalled call.unborn (arguments_in x.names.names e.args) ≡ o.args
+    args_are : recalled call.unborn (arguments_in x.names.kept.names e.args) ≡ o.args
     args_are = (λ i. recalled (opens.left.marks goes i) (arguments_in (shows.names i) e.args)) ∙ marked_all k.names e.args o.args opens.left.args
 
     again_is : opened_again x e call ≡ plain o
@@ -196,9 +196,9 @@ module _ (s : Setup) (x : SessionParts) (k : SessionKept) (e : BeginEvent) (call
     departed_sent y count up =
         let chain : chain_of y ≡ record (chain_after_return s k c h) { held = [] } = up.chain h.forms holds_so ∙ chain_is in
         record {
-          births = y.names.births;
-          since = subst (λ (given : List Birth). AreAdded k.births given y.names.births) (λ i. births_given k.births (args_are i) (row_of (sym opens.left.cmd i)).effect (objects_of (made_is i)))
-              (subst (λ (bs : List Birth). AreAdded bs (births_given bs (opened_again x e call).args (row_of e.cmd).effect (objects_of (made_again x e call))) y.names.births) shows.births up.births);
+          births = y.names.kept.births;
+          since = subst (λ (given : List Birth). AreAdded k.births given y.names.kept.births) (λ i. births_given k.births (args_are i) (row_of (sym opens.left.cmd i)).effect (objects_of (made_is i)))
+              (subst (λ (bs : List Birth). AreAdded bs (births_given bs (opened_again x e call).args (row_of e.cmd).effect (objects_of (made_again x e call))) y.names.kept.births) shows.births up.births);
           shows = record {
             names = up.names ∙ (λ i. shows.names i ++ map named_of (made_is i));
             births = refl;

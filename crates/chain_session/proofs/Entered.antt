@@ -30,7 +30,7 @@ use Rattle.session_model.specs.Beginning.{begun_kept, calls_told, drivers_kept, 
 use Rattle.chain_session.specs.declared.parts.SessionParts.{SessionParts}
 use Rattle.chain_session.specs.Entering.{AllRecalled, AreRecalled, Entered, Enters, IsLeft, IsRecalled, held_begun}
 use Rattle.chain_session.specs.Judging.{ComesDown}
-use Rattle.chain_session.specs.Names.{NamesKept}
+use Rattle.chain_session.specs.Names.{NamesKept, NamesRoom}
 use Rattle.chain_session.specs.Opening.{opened_read}
 use Rattle.chain_session.specs.Parts.{PartsShow}
 use Rattle.chain_session.proofs.Ended.{past_sent}
@@ -77,25 +77,25 @@ none_failing false rs found h = refl
 
 -- ---- the parts as the definitions have them
 
--- the room of the parts and of the chain's end is any, since the definitions say nothing of it
-abbrev pub shown_parts : Setup → SessionKept → List PartRoom → TerminatorState → SessionParts
-shown_parts s k rooms t = record {
+-- the room of the parts, of the chain's end and of the names is any, since the definitions say nothing of it
+abbrev pub shown_parts : Setup → SessionKept → List PartRoom → TerminatorState → NamesRoom → SessionParts
+shown_parts s k rooms t r = record {
   states = record { kept = k.chain.states; rooms = rooms };
   terminator = record { ids = k.chain.terminator; routes = k.chain.routes; drivers = s.drivers; spare = t.spare; values = t.values; bytes = t.bytes };
-  names = record { names = k.names; births = k.births; retrieved = k.retrieved; handed = k.chain.handed };
+  names = record { kept = record { names = k.names; births = k.births; retrieved = k.retrieved; handed = k.chain.handed }; room = r };
 }
 
-parts_same : (s : Setup) (x : SessionParts) (k : SessionKept) → PartsShow s x k → x ≡ shown_parts s k x.states.rooms x.terminator
+parts_same : (s : Setup) (x : SessionParts) (k : SessionKept) → PartsShow s x k → x ≡ shown_parts s k x.states.rooms x.terminator x.names.room
 parts_same s x k sh = λ i. record {
   states = record { kept = sh.states i; rooms = x.states.rooms };
   terminator = record { ids = sh.ids i; routes = sh.routes i; drivers = sh.drivers i; spare = x.terminator.spare; values = x.terminator.values; bytes = x.terminator.bytes };
-  names = record { names = sh.names i; births = sh.births i; retrieved = sh.retrieved i; handed = sh.handed i };
+  names = record { kept = record { names = sh.names i; births = sh.births i; retrieved = sh.retrieved i; handed = sh.handed i }; room = x.names.room };
 }
 
 -- ---- an entered call
 
-module _ (s : Setup) (k : SessionKept) (rooms : List PartRoom) (t : TerminatorState) (e : BeginEvent) (form : CallContent) (held : HeldCalls) (verdict : Verdict) (y : SessionParts) (allowed : is_refused s e.cmd e.payload ≡ false)
-    (down : ComesDown (shown_parts s k rooms t) (opened_read (k.calls + 1) e (arguments_in k.names e.args)) form held verdict y) where
+module _ (s : Setup) (k : SessionKept) (rooms : List PartRoom) (t : TerminatorState) (r : NamesRoom) (e : BeginEvent) (form : CallContent) (held : HeldCalls) (verdict : Verdict) (y : SessionParts) (allowed : is_refused s e.cmd e.payload ≡ false)
+    (down : ComesDown (shown_parts s k rooms t r) (opened_read (k.calls + 1) e (arguments_in k.names e.args)) form held verdict y) where
   abbrev o : Opened
   o = opened_read (k.calls + 1) e (arguments_in k.names e.args)
 
@@ -114,11 +114,11 @@ module _ (s : Setup) (k : SessionKept) (rooms : List PartRoom) (t : TerminatorSt
   skip_is : verdict.skip ≡ is_skipped begun
   skip_is = down.found.skip ∙ (ap (λ (f : Findings). is_some f.stop) found_is ∙ ap (λ b. b || is_some (findings_kept s k e).stop) (sym allowed))
 
-  past_is : ArePast k.births begun y.names.births
+  past_is : ArePast k.births begun y.names.kept.births
   past_is =
-      past_sent k.births y.names.births (record o { stop = (findings_kept s k e).stop; refused = is_refused s e.cmd e.payload }) (drivers_kept s k e)
-      (subst (λ b. ArePast k.births (record o { stop = (findings_kept s k e).stop; refused = b }) y.names.births) (sym allowed)
-      (subst (λ (f : Findings). ArePast k.births (record o { stop = f.stop }) y.names.births) found_is down.passes.past))
+      past_sent k.births y.names.kept.births (record o { stop = (findings_kept s k e).stop; refused = is_refused s e.cmd e.payload }) (drivers_kept s k e)
+      (subst (λ b. ArePast k.births (record o { stop = (findings_kept s k e).stop; refused = b }) y.names.kept.births) (sym allowed)
+      (subst (λ (f : Findings). ArePast k.births (record o { stop = f.stop }) y.names.kept.births) found_is down.passes.past))
 
   -- the chain then
   states_in_turn : (b : Bool) → cond (not b) (walk_kept k e).states k.chain.states ≡ (cond b (after_none k.chain begun) (after_walk k.chain begun (walk_kept k e))).states
@@ -144,7 +144,7 @@ module _ (s : Setup) (k : SessionKept) (rooms : List PartRoom) (t : TerminatorSt
   told_is h =
       let goes : is_skipped begun ≡ false = sym skip_is ∙ h in
       ap (λ (u : TerminatorState). targets_of u form) down.passes.terminator
-      ∙ (ap (targets_of (shown_parts s k rooms t).terminator) (form_is goes)
+      ∙ (ap (targets_of (shown_parts s k rooms t r).terminator) (form_is goes)
       ∙ ap (λ b. map (told_call k.chain.terminator (walk_kept k e).bottom) (cond b [] (drivers_at s.drivers k.chain.routes (walk_kept k e).bottom))) (sym goes))
 
   -- what is left of it
@@ -178,7 +178,7 @@ module _ (s : Setup) (k : SessionKept) (rooms : List PartRoom) (t : TerminatorSt
 
   pub entered : Entered s k e form held verdict y
   entered = record {
-    births = y.names.births;
+    births = y.names.kept.births;
     past = past_is;
     shows = λ own. record {
       names = ap (λ (n : NamesKept). n.names) down.passes.names;
@@ -197,10 +197,10 @@ module _ (s : Setup) (k : SessionKept) (rooms : List PartRoom) (t : TerminatorSt
   }
 
 -- whatever the parts keep
-pub entered_so : (x y : SessionParts) (number : ℕ) (e : BeginEvent) (args : List (List Argument)) (form : CallContent) (held : HeldCalls) (verdict : Verdict) → args ≡ arguments_in x.names.names e.args
+pub entered_so : (x y : SessionParts) (number : ℕ) (e : BeginEvent) (args : List (List Argument)) (form : CallContent) (held : HeldCalls) (verdict : Verdict) → args ≡ arguments_in x.names.kept.names e.args
     → ComesDown x (opened_read number e args) form held verdict y → Enters x number e form held verdict y
 entered_so x y number e args form held verdict is down = λ s k shows counted allowed.
     let named : args ≡ arguments_in k.names e.args = is ∙ ap (λ ns. arguments_in ns e.args) shows.names in
     let counted_so : ComesDown x (opened_read (k.calls + 1) e args) form held verdict y = subst (λ n. ComesDown x (opened_read n e args) form held verdict y) counted down in
     let named_so : ComesDown x (opened_read (k.calls + 1) e (arguments_in k.names e.args)) form held verdict y = subst (λ read. ComesDown x (opened_read (k.calls + 1) e read) form held verdict y) named counted_so in
-    entered s k x.states.rooms x.terminator e form held verdict y allowed (subst (λ z. ComesDown z (opened_read (k.calls + 1) e (arguments_in k.names e.args)) form held verdict y) (parts_same s x k shows) named_so)
+    entered s k x.states.rooms x.terminator x.names.room e form held verdict y allowed (subst (λ z. ComesDown z (opened_read (k.calls + 1) e (arguments_in k.names e.args)) form held verdict y) (parts_same s x k shows) named_so)

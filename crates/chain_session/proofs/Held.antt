@@ -8,10 +8,10 @@ use Rattle.chain_session.specs.Opened.{sent_of}
 use Rattle.chain_session.specs.Standing.{Holds}
 
 -- what the program counts is what the definitions keep
-pub holds_so : (x : Kept) (held : ℕ) → held ≡ length x.parts.names.names + length x.parts.names.births + length x.open_calls → AreApart x.parts.names.births → Holds (Some x) held
+pub holds_so : (x : Kept) (held : ℕ) → held ≡ length x.parts.names.kept.names + length x.parts.names.kept.births + length x.open_calls → AreApart x.parts.names.kept.births → Holds (Some x) held
 holds_so x held is apart = λ s k shows. (
   is
-      ∙ (ap (λ n. n + length x.parts.names.births + length x.open_calls) (ap length shows.parts.names)
+      ∙ (ap (λ n. n + length x.parts.names.kept.births + length x.open_calls) (ap length shows.parts.names)
       ∙ (ap (λ n. length k.names + n + length x.open_calls) (ap length shows.parts.births)
       ∙ ap (λ n. length k.names + length k.births + n) (sym (length-map x.open_calls sent_of) ∙ ap length shows.sent))),
   subst AreApart shows.parts.births apart,

@@ -26,7 +26,7 @@ use Rattle.session_model.specs.Living.{ArePast}
 use Rattle.session_tables.specs.Shown.{args_shown}
 use Rattle.chain_session.specs.declared.call.OpenCall.{OpenCall}
 use Rattle.chain_session.specs.declared.parts.SessionParts.{SessionParts}
-use Rattle.chain_session.specs.Names.{NamesKept}
+use Rattle.chain_session.specs.Names.{NameTableState}
 use Rattle.chain_session.specs.Opened.{opened_of}
 use Rattle.chain_session.specs.Opening.{opened_first, opened_read}
 use Rattle.chain_session.specs.Judging.{ComesDown, comes_down, IsFound, IsJudged, Passes, found_at, loader_report, stopped_by, walk_at}
@@ -103,33 +103,33 @@ refused_so births handed states call verdict refused going none unheld = record 
 }
 
 pub refused_passes : (x : SessionParts) (call : OpenCall) → is_some call.refusal ≡ true → Passes x (opened_of call) x
-refused_passes x call refused = record { past = past_skipped x.names.births (opened_of call) (ap (λ b. b || is_some call.stop) refused); names = refl; terminator = refl }
+refused_passes x call refused = record { past = past_skipped x.names.kept.births (opened_of call) (ap (λ b. b || is_some call.stop) refused); names = refl; terminator = refl }
 
 -- it came down, and stops where what was found says
 module _ (x y : SessionParts) (number : ℕ) (e : BeginEvent) (shown : List (List Argument)) (call new : OpenCall) (form : CallContent) (held : HeldCalls) (verdict : Verdict)
-    (allowed : is_some call.refusal ≡ false) (opened : opened_of call ≡ opened_first number x.names.names e call.refusal) (read : shown ≡ args_shown call.args.items)
+    (allowed : is_some call.refusal ≡ false) (opened : opened_of call ≡ opened_first number x.names.kept.names e call.refusal) (read : shown ≡ args_shown call.args.items)
     (down : ComesDown x (opened_read number e shown) form held verdict y) (stopped : opened_of new ≡ record (opened_of call) { stop = stopped_by verdict.skip (reports_of verdict.findings.items) }) where
   abbrev o : Opened
-  o = opened_first number x.names.names e call.refusal
+  o = opened_first number x.names.kept.names e call.refusal
 
   same_call : opened_read number e shown ≡ o
   same_call =
       ap (λ args. opened_read number e args) (read ∙ ap (λ (p : Opened). p.args) opened)
-      ∙ ap (λ b. record (opened_read number e (arguments_in x.names.names e.args)) { refused = b }) (sym allowed)
+      ∙ ap (λ b. record (opened_read number e (arguments_in x.names.kept.names e.args)) { refused = b }) (sym allowed)
 
   came : ComesDown x o form held verdict y
   came = subst (λ (p : Opened). ComesDown x p form held verdict y) same_call down
 
-  stops : opened_of new ≡ record o { stop = (found_at x.names.births x.states.kept x.names.handed o).stop }
+  stops : opened_of new ≡ record o { stop = (found_at x.names.kept.births x.states.kept x.names.kept.handed o).stop }
   stops = stopped ∙ (ap (λ (p : Opened). record p { stop = stopped_by verdict.skip (reports_of verdict.findings.items) }) opened ∙ ap (λ (t : Option ℕ). record o { stop = t }) came.found.stop)
 
-  pub came_judged : call_content new.bottom ≡ form → new.held ≡ held → IsJudged x.names.births x.names.handed x.states.kept o new verdict y.states.kept
+  pub came_judged : call_content new.bottom ≡ form → new.held ≡ held → IsJudged x.names.kept.births x.names.kept.handed x.states.kept o new verdict y.states.kept
   came_judged bottom holds = record {
     opened = stops;
     reports = came.found.reports;
     states = came.found.states;
     bottom = λ h. bottom ∙ came.found.bottom h;
-    held = subst (λ (h : HeldCalls). IsHeldOf h (kinds_of x.states.kept) (cond (comes_down x.names.births o) (walk_at x.states.kept x.names.handed o).forms [])) (sym holds) came.found.forms;
+    held = subst (λ (h : HeldCalls). IsHeldOf h (kinds_of x.states.kept) (cond (comes_down x.names.kept.births o) (walk_at x.states.kept x.names.kept.handed o).forms [])) (sym holds) came.found.forms;
   }
 
   pub came_passes : Passes x (opened_of new) y
@@ -137,14 +137,14 @@ module _ (x y : SessionParts) (number : ℕ) (e : BeginEvent) (shown : List (Lis
 
 -- ---- the steps of a call that comes down
 
-pub came_down : (x : SessionParts) (births : List Birth) (handed : List Handed) (o : Opened) (form : CallContent) (held : HeldCalls) (verdict : Verdict) (states : ChainState) (names : NamesKept)
-    → births ≡ x.names.births → handed ≡ x.names.handed → o.refused ≡ false → IsFound births handed x.states.kept o form held verdict states.kept
-    → ((p : Opened) → p.cmd ≡ o.cmd → p.args ≡ o.args → is_skipped p ≡ verdict.skip → ArePast x.names.births p names.births) → names ≡ record x.names { births = names.births }
+pub came_down : (x : SessionParts) (births : List Birth) (handed : List Handed) (o : Opened) (form : CallContent) (held : HeldCalls) (verdict : Verdict) (states : ChainState) (names : NameTableState)
+    → births ≡ x.names.kept.births → handed ≡ x.names.kept.handed → o.refused ≡ false → IsFound births handed x.states.kept o form held verdict states.kept
+    → ((p : Opened) → p.cmd ≡ o.cmd → p.args ≡ o.args → is_skipped p ≡ verdict.skip → ArePast x.names.kept.births p names.kept.births) → names.kept ≡ record x.names.kept { births = names.kept.births }
     → ComesDown x o form held verdict (record { states = states; terminator = x.terminator; names = names })
 came_down x births handed o form held verdict states names is_births is_handed refused look ends rest =
-    let found : IsFound x.names.births x.names.handed x.states.kept o form held verdict states.kept =
-    subst (λ hs. IsFound x.names.births hs x.states.kept o form held verdict states.kept) is_handed (subst (λ bs. IsFound bs handed x.states.kept o form held verdict states.kept) is_births look) in
-    let stop : Option ℕ = (found_at x.names.births x.states.kept x.names.handed o).stop in
+    let found : IsFound x.names.kept.births x.names.kept.handed x.states.kept o form held verdict states.kept =
+    subst (λ hs. IsFound x.names.kept.births hs x.states.kept o form held verdict states.kept) is_handed (subst (λ bs. IsFound bs handed x.states.kept o form held verdict states.kept) is_births look) in
+    let stop : Option ℕ = (found_at x.names.kept.births x.states.kept x.names.kept.handed o).stop in
     record {
       found = found;
       passes = record {

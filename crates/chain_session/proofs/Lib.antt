@@ -33,3 +33,7 @@ pub mod PartsStood
 pub mod CameBack
 pub mod Held
 pub mod Passing
+pub mod Capacities
+pub mod Fewer
+pub mod Counted
+pub mod Lent

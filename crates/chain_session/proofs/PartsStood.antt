@@ -336,7 +336,7 @@ module _ (s : Setup) (x : SessionParts) (events : List TraceEvent) (replies : Li
 
 -- ---- new parts
 
-pub new_stand : (s : Setup) (x : SessionParts) → x.states.kept ≡ [] → x.terminator.ids ≡ no_ids → x.terminator.routes ≡ [] → x.terminator.drivers ≡ s.drivers → x.names ≡ no_names → PartsStand s x [] [] []
+pub new_stand : (s : Setup) (x : SessionParts) → x.states.kept ≡ [] → x.terminator.ids ≡ no_ids → x.terminator.routes ≡ [] → x.terminator.drivers ≡ s.drivers → x.names.kept ≡ no_names → PartsStand s x [] [] []
 new_stand s x states ids routes drivers names = record {
   kept = nothing_kept;
   shows = record {

@@ -99,6 +99,14 @@ params_all (ms ∷ marks) [] (suc p) beyond = refl
 params_all (ms ∷ marks) (at ∷ args) zero beyond = absurd (omega (arith, beyond))
 params_all (ms ∷ marks) (at ∷ args) (suc p) beyond = ap (λ (xs : List (List Argument)). recalled_places ms at ∷ xs) (params_all marks args p (omega (arith, beyond)))
 
+-- so many parameters, by the marks of as many
+pub params_cut : (marks : List (List Bool)) (args : List (List Argument)) (n : ℕ) → take n (recalled (take n marks) args) ≡ recalled marks (take n args)
+params_cut [] args zero = refl
+params_cut [] args (suc n) = refl
+params_cut (ms ∷ marks) args zero = refl
+params_cut (ms ∷ marks) [] (suc n) = refl
+params_cut (ms ∷ marks) (at ∷ args) (suc n) = ap (λ (xs : List (List Argument)). recalled_places ms at ∷ xs) (params_cut marks args n)
+
 pub params_long : (marks : List (List Bool)) (args : List (List Argument)) → length (recalled marks args) ≡ length args
 params_long [] args = refl
 params_long (ms ∷ marks) [] = refl

@@ -85,11 +85,11 @@ pub record IsFound (births : List Birth) (handed : List Handed) (before : List P
 
 -- of names and objects only what lives is changed, by what the call ends unless it is skipped, and the end of the chain keeps what it kept
 pub record Passes (old : SessionParts) (o : Opened) (new : SessionParts) : Type 0 where
-  pub past : ArePast old.names.births o new.names.births
-  pub names : new.names ≡ record old.names { births = new.names.births }
+  pub past : ArePast old.names.kept.births o new.names.kept.births
+  pub names : new.names.kept ≡ record old.names.kept { births = new.names.kept.births }
   pub terminator : new.terminator ≡ old.terminator
 
 -- a call came down: it was looked at, and what it ends has ended
 pub record ComesDown (old : SessionParts) (o : Opened) (call : CallContent) (held : HeldCalls) (verdict : Verdict) (new : SessionParts) : Type 0 where
-  pub found : IsFound old.names.births old.names.handed old.states.kept o call held verdict new.states.kept
-  pub passes : Passes old (record o { stop = (found_at old.names.births old.states.kept old.names.handed o).stop }) new
+  pub found : IsFound old.names.kept.births old.names.kept.handed old.states.kept o call held verdict new.states.kept
+  pub passes : Passes old (record o { stop = (found_at old.names.kept.births old.states.kept old.names.kept.handed o).stop }) new

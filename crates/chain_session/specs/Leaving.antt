@@ -48,11 +48,11 @@ recalled (ms ∷ marks) (at ∷ args) = recalled_places ms at ∷ recalled marks
 
 -- the open call of an event, which was sent, by the names now and the marks of its form below the last part; what a return doesn't ask for is any
 abbrev pub opened_again : SessionParts → BeginEvent → CallContent → Opened
-opened_again x e call = opened_read 0 e (recalled call.unborn (arguments_in x.names.names e.args))
+opened_again x e call = opened_read 0 e (recalled call.unborn (arguments_in x.names.kept.names e.args))
 
 -- what is born of a call that was sent
 abbrev pub made_of : SessionParts → Opened → List Born
-made_of x o = made_by x.terminator.drivers x.names.births (born_in x.names.births) x.names.retrieved o
+made_of x o = made_by x.terminator.drivers x.names.kept.births (born_in x.names.kept.births) x.names.kept.retrieved o
 
 -- what is born of the call of an event
 abbrev pub made_again : SessionParts → BeginEvent → CallContent → List Born
@@ -89,14 +89,14 @@ left_of t r = terminator_leave t.ids r.call (answered (drivers_for t r.call) r.r
 
 -- what the parts of a session keep of the chain
 abbrev pub chain_of : SessionParts → ChainKept
-chain_of x = chain_at x.states.kept x.terminator x.names.handed
+chain_of x = chain_at x.states.kept x.terminator x.names.kept.handed
 
 -- and what they keep when results have come up through the parts, above which the call stood in these forms
 abbrev pub chain_up : SessionParts → Rising → List CallContent → ChainKept
 chain_up x r forms =
     let all = left_of x.terminator r in
     let up = leave_parts r.thread x.states.kept forms all.results in
-    record { states = up.states; terminator = all.ids; routes = routes_left x.terminator r.call all.results; handed = hand_all x.names.handed r.made up.results; held = [] }
+    record { states = up.states; terminator = all.ids; routes = routes_left x.terminator r.call all.results; handed = hand_all x.names.kept.handed r.made up.results; held = [] }
 
 -- results may come up: each checking part has a unique one below it, each driver of the call replied, and the call came to all parts, at each checking one
 -- of which the results are new once
@@ -109,9 +109,9 @@ pub record MayComeUp (x : SessionParts) (r : Rising) (held : HeldCalls) : Type 0
 -- they have come up.
 pub record HasComeUp (old : SessionParts) (o : Opened) (call : CallContent) (held : HeldCalls) (replies : List ReplyContent) (new : SessionParts) (count : ℕ) : Type 0 where
   pub counted : count ≡ length (made_of old o)
-  pub names : new.names.names ≡ old.names.names ++ map named_of (made_of old o)
-  pub births : AreAdded old.names.births (births_given old.names.births o.args (row_of o.cmd).effect (objects_of (made_of old o))) new.names.births
-  pub retrieved : new.names.retrieved ≡ old.names.retrieved ++ retrieved_by old.names.births o (made_of old o)
+  pub names : new.names.kept.names ≡ old.names.kept.names ++ map named_of (made_of old o)
+  pub births : AreAdded old.names.kept.births (births_given old.names.kept.births o.args (row_of o.cmd).effect (objects_of (made_of old o))) new.names.kept.births
+  pub retrieved : new.names.kept.retrieved ≡ old.names.kept.retrieved ++ retrieved_by old.names.kept.births o (made_of old o)
   pub chain : (forms : List CallContent) → IsHeldOf held (kinds_of old.states.kept) forms → chain_of new ≡ chain_up old (rising_of old o call replies) forms
   pub drivers : new.terminator.drivers ≡ old.terminator.drivers
 

@@ -19,3 +19,5 @@ pub mod Creation
 pub mod Reporting
 pub mod Standing
 pub mod PartsStanding
+pub mod Room
+pub mod Scratch

@@ -6,11 +6,11 @@ use Rattle.chain_session.specs.declared.parts.SessionParts.{SessionParts}
 
 -- what the parts keep is what is kept here beside the open calls and the counts, under a setup
 pub record PartsShow (s : Setup) (x : SessionParts) (k : SessionKept) : Type 0 where
-  pub names : x.names.names ≡ k.names
-  pub births : x.names.births ≡ k.births
-  pub retrieved : x.names.retrieved ≡ k.retrieved
+  pub names : x.names.kept.names ≡ k.names
+  pub births : x.names.kept.births ≡ k.births
+  pub retrieved : x.names.kept.retrieved ≡ k.retrieved
   pub states : x.states.kept ≡ k.chain.states
   pub ids : x.terminator.ids ≡ k.chain.terminator
   pub routes : x.terminator.routes ≡ k.chain.routes
-  pub handed : x.names.handed ≡ k.chain.handed
+  pub handed : x.names.kept.handed ≡ k.chain.handed
   pub drivers : x.terminator.drivers ≡ s.drivers

@@ -60,7 +60,7 @@ pub record PartsStand (s : Setup) (x : SessionParts) (events : List TraceEvent) 
 -- parts that keep nothing, above as many drivers as the setup has, stand for no events
 abbrev pub NewStand : Type 0
 NewStand =
-    (s : Setup) (x : SessionParts) → x.states.kept ≡ [] → x.terminator.ids ≡ no_ids → x.terminator.routes ≡ [] → x.terminator.drivers ≡ s.drivers → x.names ≡ no_names → PartsStand s x [] [] []
+    (s : Setup) (x : SessionParts) → x.states.kept ≡ [] → x.terminator.ids ≡ no_ids → x.terminator.routes ≡ [] → x.terminator.drivers ≡ s.drivers → x.names.kept ≡ no_names → PartsStand s x [] [] []
 
 -- parts that are split from a session which has begun stand for the events and replies for which it stands; they have no call that could leave
 abbrev pub SplitStand : Type 0

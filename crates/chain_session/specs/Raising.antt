@@ -108,15 +108,15 @@ pub record MayRaise (states : List PartState) (t : TerminatorState) (c : OpenCal
 
 -- the results of an open call that are born, by what the parts of the session keep
 abbrev pub made_at : SessionParts → OpenCall → List Born
-made_at x p = made_by x.terminator.drivers x.names.births (born_in x.names.births) x.names.retrieved (opened_of p)
+made_at x p = made_by x.terminator.drivers x.names.kept.births (born_in x.names.kept.births) x.names.kept.retrieved (opened_of p)
 
 -- An open call has come back: so many of its results are born, they are kept with what they stand for, and what the chain keeps is what it keeps after any
 -- call.
 pub record ComesBack (old : SessionParts) (p : OpenCall) (new : SessionParts) (count : ℕ) : Type 0 where
   pub counted : count ≡ length (made_at old p)
-  pub names : new.names.names ≡ old.names.names ++ map named_of (made_at old p)
-  pub births : AreAdded old.names.births (births_given old.names.births (args_shown p.args.items) (row_of p.cmd).effect (objects_of (made_at old p))) new.names.births
-  pub retrieved : new.names.retrieved ≡ old.names.retrieved ++ retrieved_by old.names.births (opened_of p) (made_at old p)
+  pub names : new.names.kept.names ≡ old.names.kept.names ++ map named_of (made_at old p)
+  pub births : AreAdded old.names.kept.births (births_given old.names.kept.births (args_shown p.args.items) (row_of p.cmd).effect (objects_of (made_at old p))) new.names.kept.births
+  pub retrieved : new.names.kept.retrieved ≡ old.names.kept.retrieved ++ retrieved_by old.names.kept.births (opened_of p) (made_at old p)
   pub chain : (forms : List CallContent) → IsHeldOf p.held (kinds_of old.states.kept) forms
-      → chain_at new.states.kept new.terminator new.names.handed ≡ chain_raised (chain_at old.states.kept old.terminator old.names.handed) p forms (made_at old p)
+      → chain_at new.states.kept new.terminator new.names.kept.handed ≡ chain_raised (chain_at old.states.kept old.terminator old.names.kept.handed) p forms (made_at old p)
   pub drivers : new.terminator.drivers ≡ old.terminator.drivers

@@ -13,7 +13,7 @@ pub record KeepAlike (x y : SessionParts) : Type 0 where
   pub ids : x.terminator.ids ≡ y.terminator.ids
   pub routes : x.terminator.routes ≡ y.terminator.routes
   pub drivers : x.terminator.drivers ≡ y.terminator.drivers
-  pub names : x.names ≡ y.names
+  pub names : x.names.kept ≡ y.names.kept
 
 -- they keep nothing, and there is no driver
 pub record KeepNothing (x : SessionParts) : Type 0 where
@@ -21,7 +21,7 @@ pub record KeepNothing (x : SessionParts) : Type 0 where
   pub ids : x.terminator.ids ≡ no_ids
   pub routes : x.terminator.routes ≡ []
   pub drivers : x.terminator.drivers ≡ 0
-  pub names : x.names ≡ no_names
+  pub names : x.names.kept ≡ no_names
 
 -- they keep what the session's own keep: nothing before the first begin, which brings the setup with its drivers
 abbrev pub AreSplit : Option Kept → SessionParts → Type 0

@@ -78,11 +78,11 @@ fn open_judged(
     verdict: &mut Verdict,
 ) -> Result<Box<OpenCall>, NoMemory>
     requires table { table.now.rows ≡ kinds_of kept.old.parts.states.kept }
-    requires fits { FitsCall (opened_first number kept.old.parts.names.names (begin_content begin) None) }
-    requires lined { AreLined kept.old.parts.names.births }
+    requires fits { FitsCall (opened_first number kept.old.parts.names.kept.names (begin_content begin) None) }
+    requires lined { AreLined kept.old.parts.names.kept.births }
     requires goes { verdict.old.skip ≡ false }
     requires empty { verdict.old.findings.items ≡ [] }
-    ensures judged { IfOk result (λ b. IsJudged kept.old.parts.names.births kept.old.parts.names.handed kept.old.parts.states.kept (opened_first number kept.old.parts.names.names (begin_content begin.entry) start.refusal) (box_value b) verdict.new kept.new.parts.states.kept) }
+    ensures judged { IfOk result (λ b. IsJudged kept.old.parts.names.kept.births kept.old.parts.names.kept.handed kept.old.parts.states.kept (opened_first number kept.old.parts.names.kept.names (begin_content begin.entry) start.refusal) (box_value b) verdict.new kept.new.parts.states.kept) }
     ensures passes { IfOk result (λ b. Passes kept.old.parts (opened_of (box_value b)) kept.new.parts) }
     ensures refusal { IfOk result (λ b. (box_value b).refusal ≡ start.refusal) }
     ensures chain { IfOk result (λ b. (box_value b).chain ≡ start.chain) }

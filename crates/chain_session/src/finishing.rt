@@ -21,7 +21,7 @@ use crate::kept::Kept;
 use crate::parts::SessionParts;
 use crate::raising::raise;
 use crate::reporting::{Returning, put_return};
-use crate::results::made;
+use crate::results::put_made;
 use crate::returning_call::returning;
 use crate::room::Room;
 use crate::sending::is_skipped;
@@ -66,12 +66,13 @@ fn come_back(
     ensures table { table.new.rows ≡ kinds_of parts.new.states.kept }
 {
     let returned = returning(call);
-    let born = made(
-        room,
+    let mut born = room.born.take();
+    put_made(
         parts.names.objects(),
         parts.names.retrieved(),
         drivers,
         returned,
+        &mut born,
     )?;
     raise(
         table,
@@ -82,7 +83,7 @@ fn come_back(
         &born,
         room,
     )?;
-    parts.names.settle(room.alloc, returned, &born)?;
+    parts.names.settle(returned, &born)?;
     let count = born.len();
     room.born.keep(born);
     Ok(count)

@@ -1,11 +1,13 @@
 // A call in the handles above the first part of a chain.
-ghost use Rattle.std.specs.Prelude.{◌≡◌, ◌≤◌, ◌<◌, ◌++◌, ◌∷◌, [], length, map, replicate, slice_set, false, OnOk};
-ghost use Rattle.command_tables.specs.Calls.{call_content};
-ghost use Rattle.command_tables.specs.Handles.{list_at};
+ghost use Rattle.std.specs.Prelude.{◌≡◌, ◌≤◌, ◌<◌, ◌+◌, ◌++◌, ◌∷◌, [], length, map, replicate, slice_set, sum_by, false, vec_capacity, IsOk, OnOk};
+ghost use Rattle.command_tables.specs.Calls.{HasRoomFor, call_content};
+ghost use Rattle.command_tables.specs.Handles.{HasRoom, count_in, list_at};
 ghost use Rattle.session_tables.specs.Shown.{args_shown};
 ghost use Rattle.chain_model.specs.Chained.{form_by, handle_by, is_unborn};
 ghost use Rattle.chain_model.specs.Handed.{handle_in};
+ghost use Rattle.dispatch_chain.specs.Forms.{KeepsForm, form_room};
 ghost use Rattle.chain_session.specs.Passed.{base_passed};
+ghost use Rattle.chain_session.specs.Scratch.{AreWithin};
 
 use crate::handed::HandedTable;
 use command_tables::{Code, CommandId, HandleArgs, LayerCall, NoMemory};
@@ -35,7 +37,9 @@ fn put_handles(
     at: &[Argument],
     handles: &mut Vec<u64>,
 ) -> Result<(), AllocError>
-    ensures { OnOk result (handles.new.items ≡ map (handle_by (handle_in handed.now.handed)) at.now) }
+    ensures handles { OnOk result (handles.new.items ≡ map (handle_by (handle_in handed.now.handed)) at.now) }
+    ensures room { vec_capacity handles.old ≤ vec_capacity handles.new }
+    ensures succeeds { length at.now ≤ vec_capacity handles.old → IsOk result }
 {
     handles.clear();
     for argument in at {
@@ -62,6 +66,7 @@ fn mark_places(all: &mut HandleArgs<6>, p: usize, at: &[Argument])
     requires none { list_at all.old.marks p ≡ replicate (length at.now) false }
     ensures lists { all.new.lists ≡ all.old.lists }
     ensures marks { all.new.marks ≡ slice_set all.old.marks p (map is_unborn at.now) }
+    ensures room { HasRoom all.new all.old.slots all.old.room }
 {
     for (k, argument) in at.iter().enumerate() {
         if has_mark(*argument) {
@@ -80,6 +85,9 @@ fn push_arguments(
     requires { length all.old.lists < 6 }
     ensures lists { OnOk result (all.new.lists ≡ all.old.lists ++ map (handle_by (handle_in handed.now.handed)) at.now ∷ []) }
     ensures marks { OnOk result (all.new.marks ≡ all.old.marks ++ map is_unborn at.now ∷ []) }
+    ensures handles_room { vec_capacity room.old ≤ vec_capacity room.new }
+    ensures args_room { HasRoom all.new all.old.slots all.old.room }
+    ensures succeeds { length at.now ≤ vec_capacity room.old → HasRoom all.old (length all.old.lists + 1) (count_in all.old.lists + length at.now) → IsOk result }
 {
     put_handles(handed, at, room)?;
     let p = all.len();
@@ -102,6 +110,9 @@ pub fn put_form(
     ensures asked { form.new.asked ≡ form.old.asked }
     ensures code { form.new.code ≡ form.old.code }
     ensures payload { form.new.payload ≡ form.old.payload }
+    ensures handles_room { vec_capacity room.old ≤ vec_capacity room.new }
+    ensures args_room { HasRoom form.new.args form.old.args.slots form.old.args.room }
+    ensures succeeds { AreWithin (vec_capacity room.old) (args_shown args.now) → HasRoom form.old.args (length args.now) (sum_by (λ at. length at) (args_shown args.now)) → IsOk result }
 {
     form.args.clear();
     for arg in args {
@@ -119,11 +130,15 @@ pub fn put_call(
     form: &mut LayerCall,
 ) -> Result<(), NoMemory>
     requires { length args.now ≤ 6 }
-    ensures { OnOk result (call_content form.new ≡ form_by (handle_in handed.now.handed) (base_passed passed.entry) (args_shown args.now)) }
+    ensures call { OnOk result (call_content form.new ≡ form_by (handle_in handed.now.handed) (base_passed passed.entry) (args_shown args.now)) }
+    ensures handles_room { vec_capacity room.old ≤ vec_capacity room.new }
+    ensures form_room { KeepsForm (form_room form.old) (form_room form.new) }
+    ensures succeeds { AreWithin (vec_capacity room.old) (args_shown args.now) → HasRoomFor form.old (form_by (handle_in handed.now.handed) (base_passed passed.entry) (args_shown args.now)) → IsOk result }
 {
     put_form(handed, args, room, form)?;
     form.payload.clear();
-    form.payload.extend_from_slice(passed.payload)?;
+    form.payload.reserve(passed.payload.len())?;
+    form.payload.extend_from_slice(passed.payload).unwrap();
     form.cmd = passed.cmd;
     form.asked = passed.asked;
     form.code = passed.code;

@@ -1,18 +1,25 @@
 // How a call is judged at its begin.
-ghost use Rattle.std.specs.Prelude.{◌≡◌, ◌++◌, ◌∷◌, [], false, true, is_some, map, not, None, OnOk};
-ghost use Rattle.command_tables.specs.Calls.{call_content};
+ghost use Rattle.std.specs.Prelude.{◌≡◌, ◌≤◌, ◌<◌, ◌+◌, ◌++◌, ◌∷◌, [], false, true, is_some, length, map, not, vec_capacity, IsOk, None, OnOk};
+ghost use Rattle.command_tables.specs.Calls.{HasRoomFor, call_content};
 ghost use Rattle.command_tables.specs.Table.{row_of, seen, seen_param};
 ghost use Rattle.object_model.specs.Findings.{at_place, is_failing};
 ghost use Rattle.object_model.specs.History.{born_in};
 ghost use Rattle.object_model.specs.Rules.{loader_failures, parameter_holds};
 ghost use Rattle.lifetime_layer.specs.Reports.{report_of, reports_of};
+ghost use Rattle.chain_model.specs.Chained.{form_by};
+ghost use Rattle.chain_model.specs.Handed.{handle_in};
+ghost use Rattle.chain_model.specs.Simulated.{base_of};
+ghost use Rattle.dispatch_chain.specs.Forms.{CanHold, KeepsForm, KeepsForms, form_room};
 ghost use Rattle.dispatch_chain.specs.Holding.{IsHeldOf};
+ghost use Rattle.dispatch_chain.specs.Room.{AreRoomy, KeepRooms};
+ghost use Rattle.dispatch_chain.specs.Rows.{entries_of};
 ghost use Rattle.dispatch_chain.specs.Seats.{kinds_of};
 ghost use Rattle.session_tables.specs.Shown.{args_shown};
 ghost use Rattle.chain_session.specs.Judging as spec;
 ghost use Rattle.session_tables.specs.Lined.{AreLined};
 ghost use Rattle.chain_session.specs.Judging.{FitsCall, IsFound, IsJudged, Passes, loader_report, stopped_by, walk_at};
 ghost use Rattle.chain_session.specs.Opened.{opened_of};
+ghost use Rattle.chain_session.specs.Scratch.{AreWithin};
 ghost use Rattle.chain_session.specs.Opening.{begin_content, opened_first, opened_read};
 
 use crate::call::OpenCall;
@@ -97,6 +104,8 @@ fn stop_of(verdict: &Verdict) -> Option<u32>
 fn report_first(verdict: &mut Verdict) -> Result<(), NoMemory>
     ensures skip { OnOk result (verdict.new.skip ≡ true) }
     ensures reports { OnOk result (reports_of verdict.new.findings.items ≡ reports_of verdict.old.findings.items ++ loader_report ∷ []) }
+    ensures findings_room { vec_capacity verdict.old.findings ≤ vec_capacity verdict.new.findings }
+    ensures succeeds { length verdict.old.findings.items < vec_capacity verdict.old.findings → IsOk result }
 {
     verdict.findings.push(loader_finding())?;
     verdict.skip = true;
@@ -125,6 +134,14 @@ fn walk_down(
     ensures states { OnOk result (states.new.kept ≡ (walk_at states.old.kept handed.now.handed (opened_read number (begin_content begin.entry) (args_shown args.now))).states) }
     ensures bottom { OnOk result (call_content form.new ≡ (walk_at states.old.kept handed.now.handed (opened_read number (begin_content begin.entry) (args_shown args.now))).bottom) }
     ensures held { OnOk result (IsHeldOf held.new (kinds_of states.old.kept) (walk_at states.old.kept handed.now.handed (opened_read number (begin_content begin.entry) (args_shown args.now))).forms) }
+    ensures rooms { KeepRooms states.old.rooms states.new.rooms }
+    ensures handles_room { vec_capacity room.old ≤ vec_capacity room.new }
+    ensures form_room { KeepsForm (form_room form.old) (form_room form.new) }
+    ensures held_rooms { KeepsForms held.old.rooms held.new.rooms }
+    ensures findings_room { vec_capacity verdict.old.findings ≤ vec_capacity verdict.new.findings }
+    ensures succeeds { AreWithin (vec_capacity room.old) (args_shown args.now) → HasRoomFor form.old (form_by (handle_in handed.now.handed) (base_of (opened_read number (begin_content begin.entry) (args_shown args.now))) (args_shown args.now)) →
+        AreRoomy (walk_at states.old.kept handed.now.handed (opened_read number (begin_content begin.entry) (args_shown args.now))).states states.old.rooms → length verdict.old.findings.items + length (walk_at states.old.kept handed.now.handed (opened_read number (begin_content begin.entry) (args_shown args.now))).found.reports ≤ vec_capacity verdict.old.findings →
+        CanHold held.old.rooms (length (entries_of begin.entry.cmd (kinds_of states.old.kept))) (form_by (handle_in handed.now.handed) (base_of (opened_read number (begin_content begin.entry) (args_shown args.now))) (args_shown args.now)) → IsOk result }
     ensures kinds { kinds_of states.new.kept ≡ kinds_of states.old.kept }
 {
     let passed = Passed {
@@ -158,6 +175,14 @@ pub(crate) fn look(
     requires unheld { held.old.forms ≡ [] }
     ensures found { OnOk result (IsFound objects.now.births handed.now.handed states.old.kept (opened_read number (begin_content begin.entry) (args_shown args.now)) (call_content form.new) held.new verdict.new states.new.kept) }
     ensures kinds { kinds_of states.new.kept ≡ kinds_of states.old.kept }
+    ensures rooms { KeepRooms states.old.rooms states.new.rooms }
+    ensures handles_room { vec_capacity room.old ≤ vec_capacity room.new }
+    ensures form_room { KeepsForm (form_room form.old) (form_room form.new) }
+    ensures held_rooms { KeepsForms held.old.rooms held.new.rooms }
+    ensures findings_room { vec_capacity verdict.old.findings ≤ vec_capacity verdict.new.findings }
+    ensures succeeds { AreWithin (vec_capacity room.old) (args_shown args.now) → HasRoomFor form.old (form_by (handle_in handed.now.handed) (base_of (opened_read number (begin_content begin.entry) (args_shown args.now))) (args_shown args.now)) →
+        AreRoomy (walk_at states.old.kept handed.now.handed (opened_read number (begin_content begin.entry) (args_shown args.now))).states states.old.rooms → 1 ≤ vec_capacity verdict.old.findings → length (walk_at states.old.kept handed.now.handed (opened_read number (begin_content begin.entry) (args_shown args.now))).found.reports ≤ vec_capacity verdict.old.findings →
+        CanHold held.old.rooms (length (entries_of begin.entry.cmd (kinds_of states.old.kept))) (form_by (handle_in handed.now.handed) (base_of (opened_read number (begin_content begin.entry) (args_shown args.now))) (args_shown args.now)) → IsOk result }
 {
     if is_reported(objects, begin.cmd, args) {
         report_first(verdict)?;
@@ -182,13 +207,13 @@ fn judge_passed(
 ) -> Result<(), NoMemory>
     requires table { table.now.rows ≡ kinds_of parts.old.states.kept }
     requires allowed { is_some call.old.refusal ≡ false }
-    requires opened { opened_of call.old ≡ opened_first number parts.old.names.names (begin_content begin) call.old.refusal }
-    requires fits { FitsCall (opened_first number parts.old.names.names (begin_content begin) None) }
-    requires lined { AreLined parts.old.names.births }
+    requires opened { opened_of call.old ≡ opened_first number parts.old.names.kept.names (begin_content begin) call.old.refusal }
+    requires fits { FitsCall (opened_first number parts.old.names.kept.names (begin_content begin) None) }
+    requires lined { AreLined parts.old.names.kept.births }
     requires goes { verdict.old.skip ≡ false }
     requires empty { verdict.old.findings.items ≡ [] }
     requires unheld { call.old.held.forms ≡ [] }
-    ensures judged { OnOk result (IsJudged parts.old.names.births parts.old.names.handed parts.old.states.kept (opened_first number parts.old.names.names (begin_content begin.entry) call.old.refusal) call.new verdict.new parts.new.states.kept) }
+    ensures judged { OnOk result (IsJudged parts.old.names.kept.births parts.old.names.kept.handed parts.old.states.kept (opened_first number parts.old.names.kept.names (begin_content begin.entry) call.old.refusal) call.new verdict.new parts.new.states.kept) }
     ensures passes { OnOk result (Passes parts.old (opened_of call.new) parts.new) }
     ensures refusal { call.new.refusal ≡ call.old.refusal }
     ensures chain { call.new.chain ≡ call.old.chain }
@@ -220,13 +245,13 @@ pub(crate) fn judge(
     verdict: &mut Verdict,
 ) -> Result<(), NoMemory>
     requires table { table.now.rows ≡ kinds_of parts.old.states.kept }
-    requires opened { opened_of call.old ≡ opened_first number parts.old.names.names (begin_content begin) call.old.refusal }
-    requires fits { FitsCall (opened_first number parts.old.names.names (begin_content begin) None) }
-    requires lined { AreLined parts.old.names.births }
+    requires opened { opened_of call.old ≡ opened_first number parts.old.names.kept.names (begin_content begin) call.old.refusal }
+    requires fits { FitsCall (opened_first number parts.old.names.kept.names (begin_content begin) None) }
+    requires lined { AreLined parts.old.names.kept.births }
     requires goes { verdict.old.skip ≡ false }
     requires empty { verdict.old.findings.items ≡ [] }
     requires unheld { call.old.held.forms ≡ [] }
-    ensures judged { OnOk result (IsJudged parts.old.names.births parts.old.names.handed parts.old.states.kept (opened_first number parts.old.names.names (begin_content begin.entry) call.old.refusal) call.new verdict.new parts.new.states.kept) }
+    ensures judged { OnOk result (IsJudged parts.old.names.kept.births parts.old.names.kept.handed parts.old.states.kept (opened_first number parts.old.names.kept.names (begin_content begin.entry) call.old.refusal) call.new verdict.new parts.new.states.kept) }
     ensures passes { OnOk result (Passes parts.old (opened_of call.new) parts.new) }
     ensures refusal { call.new.refusal ≡ call.old.refusal }
     ensures chain { call.new.chain ≡ call.old.chain }

@@ -29,8 +29,8 @@ fn living_count(objects: &ObjectTable) -> usize
 impl Kept {
     /// How many names, living objects and open calls have an entry.
     pub(crate) fn held(&self) -> usize
-        ensures count { result ≡ length self.now.parts.names.names + length self.now.parts.names.births + length self.now.open_calls }
-        ensures apart { AreApart self.now.parts.names.births }
+        ensures count { result ≡ length self.now.parts.names.kept.names + length self.now.parts.names.kept.births + length self.now.open_calls }
+        ensures apart { AreApart self.now.parts.names.kept.births }
     {
         self.parts.names.named().len()
             + living_count(self.parts.names.objects())

@@ -1,20 +1,24 @@
 // A call that had entered leaves.
-ghost use Rattle.std.specs.Prelude.{◌≡◌, List, IfOk, OnOk, length, map};
+ghost use Rattle.std.specs.Prelude.{◌≡◌, ◌≤◌, ◌+◌, ◌*◌, ℕ, List, IfOk, IsOk, OnOk, length, map, vec_capacity};
 ghost use Rattle.command_tables.specs.Calls.{CallContent, call_content};
 ghost use Rattle.model_driver.specs.Driver.{reply_shown};
 ghost use Rattle.chain_model.specs.Simulated.{born_flags};
-ghost use Rattle.terminator.specs.Calls.{born_where};
+ghost use Rattle.terminator.specs.Calls.{born_where, drivers_for};
 ghost use Rattle.dispatch_chain.specs.Holding.{IsHeldOf};
 ghost use Rattle.dispatch_chain.specs.Seats.{kinds_of};
-ghost use Rattle.chain_session.specs.Leaving.{ComesUp, HasComeUp, MayComeUp, chain_of, chain_up, rising_again, rising_of};
+ghost use Rattle.dispatch_chain.specs.Room.{AllHaveBirths, KeepUses};
+ghost use Rattle.terminator.specs.Room.{HasRoomForResults, bytes_with};
+ghost use Rattle.chain_session.specs.Leaving.{ComesUp, HasComeUp, MayComeUp, chain_of, chain_up, opened_again, rising_again, rising_of};
 ghost use Rattle.chain_session.specs.Opened.{returning_shown};
 ghost use Rattle.chain_session.specs.Opening.{begin_content};
+ghost use Rattle.chain_session.specs.Room.{HasRoomToComeUp, TakesResults};
+ghost use Rattle.chain_session.specs.Scratch.{FitLists};
 
 use crate::opening::Beginning;
 use crate::parts::SessionParts;
 use crate::raising::{lost_results, put_flags};
-use crate::recalling::read_again;
-use crate::results::made;
+use crate::recalling::put_again;
+use crate::results::put_made;
 use crate::returning_call::ReturningCall;
 use command_tables::{LayerCall, NoMemory};
 use dispatch_chain::{DispatchTable, Held, walk_leave};
@@ -39,8 +43,16 @@ fn rise_flagged(
     requires may { MayComeUp parts.old (record { thread = thread; call = call_content call.now; replies = map reply_shown replies.now; made = made.now; lost = lost.now }) held.now }
     ensures chain { OnOk result ((forms : List CallContent) → IsHeldOf held.now (kinds_of parts.old.states.kept) forms → chain_of parts.new ≡ chain_up parts.old (record { thread = thread; call = call_content call.now; replies = map reply_shown replies.now; made = made.now; lost = lost.now }) forms) }
     ensures drivers { parts.new.terminator.drivers ≡ parts.old.terminator.drivers }
-    ensures rest { parts.new.names ≡ record parts.old.names { handed = parts.new.names.handed } }
+    ensures rest { parts.new.names.kept ≡ record parts.old.names.kept { handed = parts.new.names.kept.handed } }
     ensures kinds { kinds_of parts.new.states.kept ≡ kinds_of parts.old.states.kept }
+    ensures succeeds { HasRoomForResults parts.old.terminator (call_content call.now) results.old → AllHaveBirths (length results.old) parts.old.states.rooms → length made.now ≤ parts.old.names.room.handed → IsOk result }
+    ensures births { OnOk result ((n : ℕ) → AllHaveBirths (n + length results.old) parts.old.states.rooms → AllHaveBirths n parts.new.states.rooms) }
+    ensures uses { OnOk result (KeepUses parts.old.states.rooms parts.new.states.rooms) }
+    ensures spare { parts.old.terminator.spare ≤ parts.new.terminator.spare + length results.old }
+    ensures values { parts.old.terminator.values ≤ parts.new.terminator.values + length results.old * length (drivers_for parts.old.terminator (call_content call.now)) }
+    ensures bytes { parts.old.terminator.bytes ≤ parts.new.terminator.bytes + length results.old * bytes_with (call_content call.now) }
+    ensures names_room { parts.new.names.room ≡ record parts.old.names.room { handed = parts.new.names.room.handed } }
+    ensures handed_room { parts.old.names.room.handed ≤ parts.new.names.room.handed + length made.now }
 {
     parts.terminator.leave(call, replies, results)?;
     walk_leave(table, &mut parts.states, thread, held, results)?;
@@ -64,8 +76,18 @@ fn rise(
     requires may { MayComeUp parts.old (record { thread = thread; call = call_content call.now; replies = map reply_shown replies.now; made = made.now; lost = lost.now }) held.now }
     ensures chain { OnOk result ((forms : List CallContent) → IsHeldOf held.now (kinds_of parts.old.states.kept) forms → chain_of parts.new ≡ chain_up parts.old (record { thread = thread; call = call_content call.now; replies = map reply_shown replies.now; made = made.now; lost = lost.now }) forms) }
     ensures drivers { parts.new.terminator.drivers ≡ parts.old.terminator.drivers }
-    ensures rest { parts.new.names ≡ record parts.old.names { handed = parts.new.names.handed } }
+    ensures rest { parts.new.names.kept ≡ record parts.old.names.kept { handed = parts.new.names.kept.handed } }
     ensures kinds { kinds_of parts.new.states.kept ≡ kinds_of parts.old.states.kept }
+    ensures succeeds { length made.now + length lost.now ≤ vec_capacity results.old → ((hs : List ℕ) → length hs ≡ length made.now + length lost.now → HasRoomForResults parts.old.terminator (call_content call.now) hs) →
+        AllHaveBirths (length made.now + length lost.now) parts.old.states.rooms → length made.now ≤ parts.old.names.room.handed → IsOk result }
+    ensures births { OnOk result ((n : ℕ) → AllHaveBirths (n + (length made.now + length lost.now)) parts.old.states.rooms → AllHaveBirths n parts.new.states.rooms) }
+    ensures uses { OnOk result (KeepUses parts.old.states.rooms parts.new.states.rooms) }
+    ensures spare { parts.old.terminator.spare ≤ parts.new.terminator.spare + (length made.now + length lost.now) }
+    ensures values { parts.old.terminator.values ≤ parts.new.terminator.values + (length made.now + length lost.now) * length (drivers_for parts.old.terminator (call_content call.now)) }
+    ensures bytes { parts.old.terminator.bytes ≤ parts.new.terminator.bytes + (length made.now + length lost.now) * bytes_with (call_content call.now) }
+    ensures names_room { parts.new.names.room ≡ record parts.old.names.room { handed = parts.new.names.room.handed } }
+    ensures handed_room { parts.old.names.room.handed ≤ parts.new.names.room.handed + length made.now }
+    ensures results_room { vec_capacity results.old ≤ vec_capacity results.new }
 {
     put_flags(made, lost, results)?;
     rise_flagged(
@@ -81,22 +103,26 @@ fn come_up(
     call: &LayerCall,
     held: &Held,
     replies: &[DriverReply],
+    born: &mut Vec<Born>,
     results: &mut Vec<u64>,
 ) -> Result<usize, NoMemory>
     requires table { table.now.rows ≡ kinds_of parts.old.states.kept }
     requires may { MayComeUp parts.old (rising_of parts.old (returning_shown returning) (call_content call.now) (map reply_shown replies.now)) held.now }
     ensures ok { IfOk result (HasComeUp parts.old (returning_shown returning.entry) (call_content call.now) held.now (map reply_shown replies.now) parts.new) }
+    ensures succeeds { length returning.entry.results.now ≤ vec_capacity born.old → HasRoomToComeUp parts.old (returning_shown returning.entry) (call_content call.now) (vec_capacity results.old) → IsOk result }
+    ensures room { OnOk result (TakesResults parts.old (returning_shown returning.entry) (call_content call.now) parts.new) }
+    ensures born_room { vec_capacity born.old ≤ vec_capacity born.new }
+    ensures results_room { vec_capacity results.old ≤ vec_capacity results.new }
     ensures kinds { kinds_of parts.new.states.kept ≡ kinds_of parts.old.states.kept }
 {
-    let mut room = parts.names.take_room();
-    let born = made(
-        &mut room,
+    put_made(
         parts.names.objects(),
         parts.names.retrieved(),
         parts.terminator.drivers(),
         returning,
+        born,
     )?;
-    let lost = lost_results(returning.results, &born);
+    let lost = lost_results(returning.results, born);
     rise(
         table,
         parts,
@@ -104,15 +130,12 @@ fn come_up(
         call,
         held,
         replies,
-        &born,
+        born,
         lost,
         results,
     )?;
-    parts.names.settle(room.alloc, returning, &born)?;
-    let count = born.len();
-    room.born.keep(born);
-    parts.names.keep_room(room);
-    Ok(count)
+    parts.names.settle(returning, born)?;
+    Ok(born.len())
 }
 
 /// A call that was sent leaves with these replies of its drivers, and what is born of it is kept. Answers how many are born. `results` is any
@@ -129,14 +152,18 @@ pub(crate) fn leave_sent(
     requires table { table.now.rows ≡ kinds_of parts.old.states.kept }
     requires may { MayComeUp parts.old (rising_again parts.old (begin_content begin) (call_content call.now) (map reply_shown replies.now)) held.now }
     ensures ok { IfOk result (ComesUp parts.old (begin_content begin.entry) (call_content call.now) held.now (map reply_shown replies.now) parts.new) }
+    ensures succeeds { FitLists parts.old.names.room.scratch.lists (map (λ a. a.names) (begin_content begin.entry).args) → length begin.entry.results.now ≤ parts.old.names.room.scratch.results → HasRoomToComeUp parts.old (opened_again parts.old (begin_content begin.entry) (call_content call.now)) (call_content call.now) (vec_capacity results.old) → IsOk result }
+    ensures room { OnOk result (TakesResults parts.old (opened_again parts.old (begin_content begin.entry) (call_content call.now)) (call_content call.now) parts.new) }
+    ensures results_room { vec_capacity results.old ≤ vec_capacity results.new }
     ensures kinds { kinds_of parts.new.states.kept ≡ kinds_of parts.old.states.kept }
 {
-    let args = read_again(&mut parts.names, begin.args, call)?;
+    let mut scratch = parts.names.take_scratch();
+    put_again(parts.names.named(), begin.args, call, &mut scratch.args)?;
     let returning = ReturningCall {
         number: 0,
         thread: begin.thread,
         cmd: begin.cmd,
-        args: &args,
+        args: &scratch.args[..begin.args.len()],
         results: begin.results,
         code: begin.code,
         payload: begin.payload,
@@ -144,7 +171,16 @@ pub(crate) fn leave_sent(
         refused: false,
         drivers: &[],
     };
-    let count = come_up(table, parts, returning, call, held, replies, results)?;
-    parts.names.keep_args(args);
+    let count = come_up(
+        table,
+        parts,
+        returning,
+        call,
+        held,
+        replies,
+        &mut scratch.born,
+        results,
+    )?;
+    parts.names.keep_scratch(scratch);
     Ok(count)
 }

@@ -28,6 +28,7 @@ mod reporting;
 mod results;
 mod returning_call;
 mod room;
+mod scratch;
 mod sending;
 mod session;
 mod standing;

@@ -1,20 +1,20 @@
 // What a session keeps of names and objects.
-ghost use Rattle.std.specs.Prelude.{◌≡◌, ◌++◌, map, IfOk, OnOk};
+ghost use Rattle.std.specs.Prelude.{◌≡◌, ◌≤◌, ◌+◌, ◌*◌, ◌++◌, length, map, IfOk, IsOk, OnOk};
+ghost use Rattle.object_model.specs.Keys.{key_payload};
 ghost use Rattle.command_tables.specs.Table.{row_of};
 ghost use Rattle.object_model.specs.History.{births_given, ends_by};
-ghost use Rattle.trace_format.specs.Content.{arg_content};
-ghost use Rattle.replay_model.specs.Past.{arguments_in, named_of, objects_of, retrieved_by};
-ghost use Rattle.session_tables.specs.Lined.{AreAdded, AreLeft, AreLined};
+ghost use Rattle.replay_model.specs.Past.{named_of, objects_of, retrieved_by};
+ghost use Rattle.session_tables.specs.Lined.{AreAdded, AreLeft, AreLined, owners_made};
 ghost use Rattle.session_tables.specs.Shown.{args_shown};
 ghost use Rattle.chain_model.specs.Handed.{hand_all};
-ghost use Rattle.chain_session.specs.Names.{no_names};
+ghost use Rattle.chain_session.specs.Names.{CanKeep, CanSettle, TakesRoom, no_names};
+ghost use Rattle.chain_session.specs.Scratch.{HoldsCalls, scratch_room};
 ghost use Rattle.chain_session.specs.Opened.{returning_shown};
 
 use crate::handed::HandedTable;
 use crate::keeping::settle;
-use crate::names::put_arguments;
 use crate::returning_call::ReturningCall;
-use crate::room::Room;
+use crate::scratch::Scratch;
 use command_tables::{Effect, NoMemory};
 use object_model::Argument;
 use replay_model::Born;
@@ -22,165 +22,156 @@ use session_tables::{ObjectTable, RetrievedTable};
 use std::alloc::{AllocError, Global};
 use std::marker::Model;
 use std::mem;
-use trace_format::TraceArg;
 
 /// The names that stand for objects; the births of what lives; the retrieved objects with their owners and keys; and the handle of each object
-/// that was born, as it stands above the first part of the chain.
+/// that was born, as it stands above the first part of the chain. Contracts see besides for how much more there is room.
 #[derive(Drop)]
 pub struct NameTable {
+    alloc: Global,
     named: session_tables::NamedTable,
     objects: ObjectTable,
     retrieved: RetrievedTable,
     handed: HandedTable,
-    // Room for what the arguments of a call that enters stand for, and for what its steps and those of its return need.
-    args: Vec<Vec<Argument>>,
-    room: Room,
+    // What the steps of a call that enters and of its return fill.
+    scratch: Scratch,
 }
 
 impl Model for NameTable {
-    ghost use Rattle.chain_session.specs.Names.{NamesKept};
+    ghost use Rattle.chain_session.specs.Names.{NameTableState};
+    ghost use Rattle.chain_session.specs.Scratch.{scratch_room};
 
-    ghost Value = { NamesKept };
+    ghost Value = { NameTableState };
 
-    ghost view = { λ t. record { names = t.named.names; births = t.objects.births; retrieved = t.retrieved.kept; handed = t.handed.handed } };
+    ghost view = { λ t. record { kept = record { names = t.named.names; births = t.objects.births; retrieved = t.retrieved.kept; handed = t.handed.handed }; room = record { names = t.named.spare; births = t.objects.spare; links = t.objects.links; owners = t.objects.owners; handed = t.handed.spare; retrieved = t.retrieved.spare; bytes = t.retrieved.bytes; scratch = scratch_room t.scratch } } };
 }
 
 impl NameTable {
     /// No names and no objects. Takes no memory.
     pub fn new(alloc: Global) -> NameTable
-        ensures { result ≡ no_names }
+        ensures { result.kept ≡ no_names }
     {
         NameTable {
+            alloc,
             named: session_tables::NamedTable::new(alloc),
             objects: ObjectTable::new(alloc),
             retrieved: RetrievedTable::new(alloc),
             handed: HandedTable::new(alloc),
-            args: Vec::new(alloc),
-            room: Room::new(alloc),
+            scratch: Scratch::new(alloc),
         }
     }
 
-    /// A table of its own that keeps the same.
+    /// A table of its own that keeps the same. Of room nothing is said.
     pub fn copy(&self) -> Result<NameTable, NoMemory>
-        ensures { IfOk result (λ copy. copy ≡ self.now) }
+        ensures { IfOk result (λ copy. copy.kept ≡ self.now.kept) }
     {
-        let alloc = self.room.alloc;
         Ok(NameTable {
+            alloc: self.alloc,
             named: self.named.copy()?,
             objects: self.objects.copy()?,
             retrieved: self.retrieved.copy()?,
             handed: self.handed.copy()?,
-            args: Vec::new(alloc),
-            room: Room::new(alloc),
+            scratch: Scratch::new(self.alloc),
         })
+    }
+
+    /// Makes room for so many further results with so many bytes of payloads, and for calls with so many arguments at each parameter and
+    /// as many results each. After `NoMemory` what is kept is as before, and no room is lost.
+    pub fn reserve(&mut self, results: usize, bytes: usize, args: usize) -> Result<(), NoMemory>
+        ensures kept { self.new.kept ≡ self.old.kept }
+        ensures ok { OnOk result (CanKeep results bytes self.new.room) }
+        ensures scratch { OnOk result (HoldsCalls args results self.new.room.scratch) }
+        ensures room { TakesRoom 0 0 self.old.room self.new.room }
+    {
+        self.named.reserve(results)?;
+        self.objects.reserve(results)?;
+        self.retrieved.reserve(results, bytes)?;
+        self.handed.reserve(results)?;
+        self.scratch.reserve(args, results)?;
+        Ok(())
     }
 
     /// The names with their objects.
     pub(crate) fn named(&self) -> &session_tables::NamedTable
-        ensures { result.now.names ≡ self.now.names }
+        ensures { result.now.names ≡ self.now.kept.names }
     {
         &self.named
     }
 
     /// What lives.
     pub(crate) fn objects(&self) -> &ObjectTable
-        ensures { result.now.births ≡ self.now.births }
+        ensures { result.now.births ≡ self.now.kept.births }
     {
         &self.objects
     }
 
     /// The retrieved objects.
     pub(crate) fn retrieved(&self) -> &RetrievedTable
-        ensures { result.now.kept ≡ self.now.retrieved }
+        ensures { result.now.kept ≡ self.now.kept.retrieved }
     {
         &self.retrieved
     }
 
     /// The handles above the first part.
     pub(crate) fn handed(&self) -> &HandedTable
-        ensures { result.now.handed ≡ self.now.handed }
+        ensures { result.now.handed ≡ self.now.kept.handed }
     {
         &self.handed
     }
 
-    /// What the arguments of a call stand for, in room that is kept.
-    pub(crate) fn read(&mut self, args: &[TraceArg]) -> Result<Vec<Vec<Argument>>, AllocError>
-        ensures args { IfOk result (λ v. args_shown v.items ≡ arguments_in self.old.names (map arg_content args.now)) }
-        ensures same { self.new ≡ self.old }
+    /// Takes what the steps of a call fill.
+    pub(crate) fn take_scratch(&mut self) -> Scratch
+        ensures kept { self.new.kept ≡ self.old.kept }
+        ensures room { self.new.room ≡ record self.old.room { scratch = self.new.room.scratch } }
+        ensures scratch { scratch_room result ≡ self.old.room.scratch }
     {
-        let mut all = mem::replace(&mut self.args, Vec::new(self.room.alloc));
-        put_arguments(&mut self.room.places, &self.named, args, &mut all)?;
-        Ok(all)
+        mem::replace(&mut self.scratch, Scratch::new(self.alloc))
     }
 
-    /// Takes the room for the handles of one parameter.
-    pub(crate) fn take_handles(&mut self) -> Vec<u64>
-        ensures { self.new ≡ self.old }
+    /// Keeps it for the next call.
+    pub(crate) fn keep_scratch(&mut self, scratch: Scratch)
+        ensures kept { self.new.kept ≡ self.old.kept }
+        ensures room { self.new.room ≡ record self.old.room { scratch = scratch_room scratch } }
     {
-        mem::replace(&mut self.room.handles, Vec::new(self.room.alloc))
-    }
-
-    /// Keeps what was read, and the handles, for their room.
-    pub(crate) fn keep_read(&mut self, args: Vec<Vec<Argument>>, handles: Vec<u64>)
-        ensures { self.new ≡ self.old }
-    {
-        self.args = args;
-        self.room.handles = handles;
-    }
-
-    /// Keeps what was read, for its room.
-    pub(crate) fn keep_args(&mut self, args: Vec<Vec<Argument>>)
-        ensures { self.new ≡ self.old }
-    {
-        self.args = args;
-    }
-
-    /// Takes the room for the steps of a return.
-    pub(crate) fn take_room(&mut self) -> Room
-        ensures { self.new ≡ self.old }
-    {
-        let alloc = self.room.alloc;
-        mem::replace(&mut self.room, Room::new(alloc))
-    }
-
-    /// Keeps that room.
-    pub(crate) fn keep_room(&mut self, room: Room)
-        ensures { self.new ≡ self.old }
-    {
-        self.room = room;
+        self.scratch = scratch;
     }
 
     /// Ends what a call ends. Takes no memory.
     pub(crate) fn end_some(&mut self, args: &[Vec<Argument>], effect: Effect)
-        requires { AreLined self.old.births }
-        ensures left { AreLeft self.old.births (ends_by self.old.births (args_shown args.now) effect) self.new.births }
-        ensures rest { self.new ≡ record self.old { births = self.new.births } }
+        requires { AreLined self.old.kept.births }
+        ensures left { AreLeft self.old.kept.births (ends_by self.old.kept.births (args_shown args.now) effect) self.new.kept.births }
+        ensures rest { self.new.kept ≡ record self.old.kept { births = self.new.kept.births } }
+        ensures room { TakesRoom 0 0 self.old.room self.new.room }
     {
         self.objects.end_some(args, effect);
     }
 
     /// Gives each object that a call made its handle: the results that aren't lost, in turn.
     pub(crate) fn hand_each(&mut self, made: &[Born], handles: &[u64]) -> Result<(), AllocError>
-        ensures handed { OnOk result (self.new.handed ≡ hand_all self.old.handed made.now handles.now) }
-        ensures rest { self.new ≡ record self.old { handed = self.new.handed } }
+        ensures handed { OnOk result (self.new.kept.handed ≡ hand_all self.old.kept.handed made.now handles.now) }
+        ensures rest { self.new.kept ≡ record self.old.kept { handed = self.new.kept.handed } }
+        ensures succeeds { length made.now ≤ self.old.room.handed → IsOk result }
+        ensures room { self.new.room ≡ record self.old.room { handed = self.new.room.handed } }
+        ensures handed_room { self.old.room.handed ≤ self.new.room.handed + length made.now }
     {
         self.handed.hand_each(made, handles)
     }
 
-    /// Adds what a call made: its names, its births and what it retrieved first.
+    /// Adds what a call made: its names, its births and what it retrieved first. Where there is room for so many, this takes no memory.
     pub(crate) fn settle(
         &mut self,
-        alloc: Global,
         call: ReturningCall<'_>,
         born: &[Born],
     ) -> Result<(), AllocError>
-        ensures names { OnOk result (self.new.names ≡ self.old.names ++ map named_of born.now) }
-        ensures births { OnOk result (AreAdded self.old.births (births_given self.old.births (args_shown call.entry.args.now) (row_of call.entry.cmd).effect (objects_of born.now)) self.new.births) }
-        ensures retrieved { OnOk result (self.new.retrieved ≡ self.old.retrieved ++ retrieved_by self.old.births (returning_shown call.entry) born.now) }
-        ensures handed { self.new.handed ≡ self.old.handed }
+        ensures names { OnOk result (self.new.kept.names ≡ self.old.kept.names ++ map named_of born.now) }
+        ensures births { OnOk result (AreAdded self.old.kept.births (births_given self.old.kept.births (args_shown call.entry.args.now) (row_of call.entry.cmd).effect (objects_of born.now)) self.new.kept.births) }
+        ensures retrieved { OnOk result (self.new.kept.retrieved ≡ self.old.kept.retrieved ++ retrieved_by self.old.kept.births (returning_shown call.entry) born.now) }
+        ensures handed { self.new.kept.handed ≡ self.old.kept.handed }
+        ensures succeeds { length (owners_made self.old.kept.births (args_shown call.entry.args.now) (row_of call.entry.cmd).effect) ≤ 3 → CanSettle (length born.now) (length born.now * length (key_payload call.entry.cmd call.entry.payload.now)) self.old.room → IsOk result }
+        ensures handed_room { self.new.room.handed ≡ self.old.room.handed }
+        ensures room { length (owners_made self.old.kept.births (args_shown call.entry.args.now) (row_of call.entry.cmd).effect) ≤ 3 → TakesRoom (length born.now) (length born.now * length (key_payload call.entry.cmd call.entry.payload.now)) self.old.room self.new.room }
     {
         settle(
-            alloc,
+            self.alloc,
             call,
             born,
             &mut self.named,

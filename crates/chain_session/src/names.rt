@@ -1,10 +1,12 @@
 // What the arguments of a call stand for.
-ghost use Rattle.std.specs.Prelude.{◌≡◌, ◌≤◌, length, map, OnOk};
+ghost use Rattle.std.specs.Prelude.{◌≡◌, ◌≤◌, length, map, take, vec_capacity, IsOk, OnOk};
 ghost use Rattle.trace_format.specs.Content.{arg_content};
 ghost use Rattle.replay_model.specs.Past.{argument_in, arguments_in};
 ghost use Rattle.session_tables.specs.Shown.{args_shown};
+ghost use Rattle.chain_session.specs.Scratch.{FitLists, KeepLists};
 
 use crate::room::Spares;
+use crate::scratch::add_lists;
 use object_model::Argument;
 use session_tables::NamedTable;
 use std::alloc::AllocError;
@@ -28,7 +30,9 @@ fn put_places(
     at: &[Option<Name>],
     places: &mut Vec<Argument>,
 ) -> Result<(), AllocError>
-    ensures { OnOk result (places.new.items ≡ map (argument_in names.now.names) at.now) }
+    ensures places { OnOk result (places.new.items ≡ map (argument_in names.now.names) at.now) }
+    ensures room { vec_capacity places.old ≤ vec_capacity places.new }
+    ensures succeeds { length at.now ≤ vec_capacity places.old → IsOk result }
 {
     places.clear();
     for name in at {
@@ -74,6 +78,25 @@ pub fn put_arguments(
 {
     leave_at_most(args.len(), room, all);
     add_up_to(args.len(), room, all)?;
+    for (k, arg) in args.iter().enumerate() {
+        put_places(names, &arg.names, &mut all[k])?;
+    }
+    Ok(())
+}
+
+/// Puts what the arguments of a call stand for in the first lists, in place of what stood there. Where there are lists enough, and each has
+/// room, this takes no memory.
+pub(crate) fn put_first(
+    names: &NamedTable,
+    args: &[TraceArg],
+    all: &mut Vec<Vec<Argument>>,
+) -> Result<(), AllocError>
+    ensures count { OnOk result (length args.now ≤ length all.new.items) }
+    ensures args { OnOk result (args_shown (take (length args.now) all.new.items) ≡ arguments_in names.now.names (map arg_content args.now)) }
+    ensures room { KeepLists (map (λ v. vec_capacity v) all.old.items) (map (λ v. vec_capacity v) all.new.items) }
+    ensures succeeds { FitLists (map (λ v. vec_capacity v) all.old.items) (map (λ a. a.names) (map arg_content args.now)) → IsOk result }
+{
+    add_lists(args.len(), all)?;
     for (k, arg) in args.iter().enumerate() {
         put_places(names, &arg.names, &mut all[k])?;
     }

@@ -1,5 +1,5 @@
 // What a begin and a return change of a session, beside its open calls and counts.
-ghost use Rattle.std.specs.Prelude.{◌≡◌, [], false, map, IfOk, OnOk};
+ghost use Rattle.std.specs.Prelude.{◌≡◌, ◌≤◌, [], false, map, vec_capacity, IfOk, IsOk, OnOk};
 ghost use Rattle.command_tables.specs.Calls.{call_content};
 ghost use Rattle.replay_model.specs.Past.{Opened, is_skipped};
 ghost use Rattle.session_model.specs.Living.{ArePast};
@@ -12,13 +12,15 @@ ghost use Rattle.chain_session.specs.Entering.{CanEnter, CanEnterAt, Enters, Ent
 ghost use Rattle.model_driver.specs.Driver.{reply_shown};
 ghost use Rattle.chain_session.specs.Judging.{ComesDown, FitsCall};
 ghost use Rattle.chain_session.specs.Leaving.{CanLeave, CanLeaveAt, Leaves, LeavesAt};
-ghost use Rattle.chain_session.specs.Names.{no_names};
+ghost use Rattle.chain_session.specs.Names.{TakesRoom, no_names};
 ghost use Rattle.chain_session.specs.Opening.{begin_content, opened_read};
+ghost use Rattle.chain_session.specs.Room.{HasRoomToComeDown, HasRoomToEnter, HasRoomToEnterAt, HasRoomToLeave, HasRoomToLeaveAt, LosesNoRoom, TakesResultsAt, TakesResultsWith};
 ghost use Rattle.chain_session.specs.Splitting.{KeepAlike};
 
 use crate::judging::look;
 use crate::leaving::leave_sent;
 use crate::name_table::NameTable;
+use crate::names::put_first;
 use crate::opening::Beginning;
 use crate::raising::raise_lost;
 use command_tables::{CommandId, LayerCall, NoMemory, row};
@@ -40,9 +42,10 @@ pub struct SessionParts {
 // What a call ends, unless it is skipped.
 #[tactic(auto, using(crate::proofs::Ended::ends_so, crate::proofs::Ended::stays_so))]
 fn end_some(names: &mut NameTable, cmd: CommandId, args: &[Vec<Argument>], skipped: bool)
-    requires { AreLined names.old.births }
-    ensures past { (o : Opened) → o.cmd ≡ cmd → o.args ≡ args_shown args.now → is_skipped o ≡ skipped → ArePast names.old.births o names.new.births }
-    ensures rest { names.new ≡ record names.old { births = names.new.births } }
+    requires { AreLined names.old.kept.births }
+    ensures past { (o : Opened) → o.cmd ≡ cmd → o.args ≡ args_shown args.now → is_skipped o ≡ skipped → ArePast names.old.kept.births o names.new.kept.births }
+    ensures rest { names.new.kept ≡ record names.old.kept { births = names.new.kept.births } }
+    ensures room { TakesRoom 0 0 names.old.room names.new.room }
 {
     if !skipped {
         let effect = row(cmd).effect;
@@ -57,7 +60,7 @@ impl SessionParts {
         ensures ids { result.terminator.ids ≡ no_ids }
         ensures routes { result.terminator.routes ≡ [] }
         ensures drivers { result.terminator.drivers ≡ drivers }
-        ensures names { result.names ≡ no_names }
+        ensures names { result.names.kept ≡ no_names }
     {
         SessionParts {
             states: LayerStates::none(alloc),
@@ -94,11 +97,14 @@ impl SessionParts {
     ) -> Result<(), NoMemory>
         requires table { table.now.rows ≡ kinds_of self.old.states.kept }
         requires fits { FitsCall (opened_read number (begin_content begin) (args_shown args.now)) }
-        requires lined { AreLined self.old.names.births }
+        requires lined { AreLined self.old.names.kept.births }
         requires goes { verdict.old.skip ≡ false }
         requires empty { verdict.old.findings.items ≡ [] }
         requires unheld { held.old.forms ≡ [] }
         ensures down { OnOk result (ComesDown self.old (opened_read number (begin_content begin.entry) (args_shown args.now)) (call_content form.new) held.new verdict.new self.new) }
+        ensures handles_room { vec_capacity room.old ≤ vec_capacity room.new }
+        ensures room { OnOk result (LosesNoRoom self.old form.old held.old verdict.old self.new form.new held.new verdict.new) }
+        ensures succeeds { HasRoomToComeDown self.old (opened_read number (begin_content begin.entry) (args_shown args.now)) (vec_capacity room.old) form.old held.old (vec_capacity verdict.old.findings) → IsOk result }
         ensures kinds { kinds_of self.new.states.kept ≡ kinds_of self.old.states.kept }
     {
         look(
@@ -134,28 +140,30 @@ impl SessionParts {
         requires empty { verdict.old.findings.items ≡ [] }
         requires unheld { held.old.forms ≡ [] }
         ensures ok { OnOk result (Enters self.old number (begin_content begin.entry) (call_content call.new) held.new verdict.new self.new) }
+        ensures room { OnOk result (LosesNoRoom self.old call.old held.old verdict.old self.new call.new held.new verdict.new) }
+        ensures succeeds { HasRoomToEnter self.old number (begin_content begin.entry) call.old held.old (vec_capacity verdict.old.findings) → IsOk result }
         ensures kinds { kinds_of self.new.states.kept ≡ kinds_of self.old.states.kept }
     {
-        let args = self.names.read(begin.args)?;
-        let mut handles = self.names.take_handles();
+        let mut scratch = self.names.take_scratch();
+        put_first(self.names.named(), begin.args, &mut scratch.args)?;
         self.come_down(
             table,
             number,
             begin,
-            &args,
-            &mut handles,
+            &scratch.args[..begin.args.len()],
+            &mut scratch.handles,
             call,
             held,
             verdict,
         )?;
-        self.names.keep_read(args, handles);
+        self.names.keep_scratch(scratch);
         Ok(())
     }
 
     /// The begin of a call enters, which isn't that of a `vkCreateInstance` whose chain is refused. In `verdict` stands what the loader or the
     /// parts of the chain in force, whose rows `table` has, find at it, and whether it is skipped for that. Where it isn't skipped, `call` is
-    /// then the call below the last part, of which the terminator makes what the drivers are told. `held` holds it for its return. After
-    /// `NoMemory` all is for dropping.
+    /// then the call below the last part, of which the terminator makes what the drivers are told. `held` holds it for its return. Takes no
+    /// memory, and so doesn't answer `NoMemory`, where there is room for the call, and loses no room. After `NoMemory` all is for dropping.
     pub fn enter(
         &mut self,
         table: &DispatchTable,
@@ -168,6 +176,8 @@ impl SessionParts {
         requires table { table.now.rows ≡ kinds_of self.old.states.kept }
         requires can { CanEnterAt self.old number (content event.now) }
         ensures ok { OnOk result (EntersAt self.old number (content event.now) (call_content call.new) held.new verdict.new self.new) }
+        ensures room { OnOk result (LosesNoRoom self.old call.old held.old verdict.old self.new call.new held.new verdict.new) }
+        ensures succeeds { HasRoomToEnterAt self.old number (content event.now) call.old held.old (vec_capacity verdict.old.findings) → IsOk result }
         ensures kinds { kinds_of self.new.states.kept ≡ kinds_of self.old.states.kept }
     {
         match event {
@@ -211,6 +221,9 @@ impl SessionParts {
         requires table { table.now.rows ≡ kinds_of self.old.states.kept }
         requires can { CanLeave self.old (begin_content begin) (call_content call.now) held.now skipped (map reply_shown replies.now) }
         ensures ok { IfOk result (Leaves self.old (begin_content begin.entry) (call_content call.now) held.now skipped (map reply_shown replies.now) self.new) }
+        ensures takes { IfOk result (TakesResultsWith self.old (begin_content begin.entry) (call_content call.now) skipped self.new) }
+        ensures succeeds { HasRoomToLeave self.old (begin_content begin.entry) (call_content call.now) skipped (vec_capacity results.old) → IsOk result }
+        ensures room { vec_capacity results.old ≤ vec_capacity results.new }
         ensures kinds { kinds_of self.new.states.kept ≡ kinds_of self.old.states.kept }
     {
         if skipped {
@@ -233,7 +246,8 @@ impl SessionParts {
     /// The call of a begin leaves, which isn't that of a `vkCreateInstance` that makes the instance. `call`, `held` and `verdict` are what
     /// `enter` left of it, and `replies` are its drivers', one for each call that they were told, in that order; a skipped one has none. What
     /// is born of it is kept, and the answer is how many of its results are born. `results` is any memory for them. A count that would pass
-    /// 32 bits is refused as want of memory. After `NoMemory` all is for dropping.
+    /// 32 bits is refused as want of memory. Takes no memory, and so doesn't answer `NoMemory`, where there is room for the results, and takes
+    /// no more room than theirs. After `NoMemory` all is for dropping.
     pub fn leave(
         &mut self,
         table: &DispatchTable,
@@ -247,6 +261,9 @@ impl SessionParts {
         requires table { table.now.rows ≡ kinds_of self.old.states.kept }
         requires can { CanLeaveAt self.old (content event.now) (call_content call.now) held.now verdict.now.skip (map reply_shown replies.now) }
         ensures ok { IfOk result (LeavesAt self.old (content event.now) (call_content call.now) held.now verdict.now.skip (map reply_shown replies.now) self.new) }
+        ensures takes { IfOk result (TakesResultsAt self.old (content event.now) (call_content call.now) verdict.now.skip self.new) }
+        ensures succeeds { HasRoomToLeaveAt self.old (content event.now) (call_content call.now) verdict.now.skip (vec_capacity results.old) → IsOk result }
+        ensures room { vec_capacity results.old ≤ vec_capacity results.new }
         ensures kinds { kinds_of self.new.states.kept ≡ kinds_of self.old.states.kept }
     {
         match event {

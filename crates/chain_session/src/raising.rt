@@ -1,10 +1,11 @@
 // The results of a call come up at its return.
-ghost use Rattle.std.specs.Prelude.{◌≡◌, ◌++◌, List, drop, length, map, true, OnOk};
+ghost use Rattle.std.specs.Prelude.{◌≡◌, ◌≤◌, ◌+◌, ◌++◌, ℕ, List, drop, length, map, true, vec_capacity, IsOk, OnOk};
 ghost use Rattle.command_tables.specs.Calls.{CallContent};
 ghost use Rattle.layer_model.specs.Walks.{is_guarded, leave_parts};
 ghost use Rattle.chain_model.specs.Simulated.{born_flags};
 ghost use Rattle.terminator.specs.Calls.{born_where};
 ghost use Rattle.dispatch_chain.specs.Holding.{IsHeldOf};
+ghost use Rattle.dispatch_chain.specs.Room.{AllHaveBirths, KeepUses};
 ghost use Rattle.dispatch_chain.specs.Seats.{kinds_of};
 ghost use Rattle.chain_session.specs.Raising.{HasAnswers, MayRaise, MayRise, chain_at, chain_raised, chain_sent, left_at, left_where, lost_of, routes_at};
 
@@ -21,7 +22,10 @@ use trace_format::Name;
 
 // Flags each result that is born.
 fn flag_born(made: &[Born], flags: &mut Vec<u64>) -> Result<(), AllocError>
-    ensures { OnOk result (flags.new.items ≡ flags.old.items ++ map (λ _. 1) made.now) }
+    ensures flags { OnOk result (flags.new.items ≡ flags.old.items ++ map (λ _. 1) made.now) }
+    ensures count { OnOk result (length flags.new.items ≡ length flags.old.items + length made.now) }
+    ensures room { vec_capacity flags.old ≤ vec_capacity flags.new }
+    ensures succeeds { length flags.old.items + length made.now ≤ vec_capacity flags.old → IsOk result }
 {
     for _ in made {
         flags.push(1)?;
@@ -31,7 +35,10 @@ fn flag_born(made: &[Born], flags: &mut Vec<u64>) -> Result<(), AllocError>
 
 // A lost result has no flag.
 fn flag_lost(lost: &[Name], flags: &mut Vec<u64>) -> Result<(), AllocError>
-    ensures { OnOk result (flags.new.items ≡ flags.old.items ++ map (λ _. 0) lost.now) }
+    ensures flags { OnOk result (flags.new.items ≡ flags.old.items ++ map (λ _. 0) lost.now) }
+    ensures count { OnOk result (length flags.new.items ≡ length flags.old.items + length lost.now) }
+    ensures room { vec_capacity flags.old ≤ vec_capacity flags.new }
+    ensures succeeds { length flags.old.items + length lost.now ≤ vec_capacity flags.old → IsOk result }
 {
     for _ in lost {
         flags.push(0)?;
@@ -65,7 +72,10 @@ pub(crate) fn put_flags(
     lost: &[Name],
     flags: &mut Vec<u64>,
 ) -> Result<(), AllocError>
-    ensures { OnOk result (born_where flags.new.items ≡ born_flags made.now lost.now) }
+    ensures born { OnOk result (born_where flags.new.items ≡ born_flags made.now lost.now) }
+    ensures count { OnOk result (length flags.new.items ≡ length made.now + length lost.now) }
+    ensures room { vec_capacity flags.old ≤ vec_capacity flags.new }
+    ensures succeeds { length made.now + length lost.now ≤ vec_capacity flags.old → IsOk result }
 {
     flags.clear();
     flag_born(made, flags)?;
@@ -100,9 +110,9 @@ fn raise_flagged(
     requires answers { HasAnswers terminator.old call.now }
     requires rise { MayRise call.now.thread states.old.kept held.now (left_at terminator.old call.now made.now).results }
     requires flags { born_where results.old ≡ born_flags made.now (lost_of call.now made.now) }
-    ensures chain { OnOk result ((forms : List CallContent) → IsHeldOf held.now (kinds_of states.old.kept) forms → chain_at states.new.kept terminator.new names.new.handed ≡ chain_sent (chain_at states.old.kept terminator.old names.old.handed) call.now forms made.now) }
+    ensures chain { OnOk result ((forms : List CallContent) → IsHeldOf held.now (kinds_of states.old.kept) forms → chain_at states.new.kept terminator.new names.new.kept.handed ≡ chain_sent (chain_at states.old.kept terminator.old names.old.kept.handed) call.now forms made.now) }
     ensures drivers { terminator.new.drivers ≡ terminator.old.drivers }
-    ensures rest { names.new ≡ record names.old { handed = names.new.handed } }
+    ensures rest { names.new.kept ≡ record names.old.kept { handed = names.new.kept.handed } }
     ensures kinds { kinds_of states.new.kept ≡ kinds_of states.old.kept }
 {
     answer(terminator, call, results)?;
@@ -126,9 +136,9 @@ fn raise_sent(
     requires guarded { is_guarded states.old.kept ≡ true }
     requires answers { HasAnswers terminator.old call.now }
     requires rise { MayRise call.now.thread states.old.kept held.now (left_at terminator.old call.now made.now).results }
-    ensures chain { OnOk result ((forms : List CallContent) → IsHeldOf held.now (kinds_of states.old.kept) forms → chain_at states.new.kept terminator.new names.new.handed ≡ chain_sent (chain_at states.old.kept terminator.old names.old.handed) call.now forms made.now) }
+    ensures chain { OnOk result ((forms : List CallContent) → IsHeldOf held.now (kinds_of states.old.kept) forms → chain_at states.new.kept terminator.new names.new.kept.handed ≡ chain_sent (chain_at states.old.kept terminator.old names.old.kept.handed) call.now forms made.now) }
     ensures drivers { terminator.new.drivers ≡ terminator.old.drivers }
-    ensures rest { names.new ≡ record names.old { handed = names.new.handed } }
+    ensures rest { names.new.kept ≡ record names.old.kept { handed = names.new.kept.handed } }
     ensures kinds { kinds_of states.new.kept ≡ kinds_of states.old.kept }
 {
     put_flags(made, lost_by(call, made), flags)?;
@@ -148,6 +158,10 @@ pub(crate) fn raise_lost(
     requires table { table.now.rows ≡ kinds_of states.old.kept }
     requires guarded { is_guarded states.old.kept ≡ true }
     ensures states { OnOk result ((forms : List CallContent) → IsHeldOf held.now (kinds_of states.old.kept) forms → states.new.kept ≡ (leave_parts thread states.old.kept forms (map (λ _. 0) lost.now)).states) }
+    ensures succeeds { length lost.now ≤ vec_capacity results.old → AllHaveBirths (length lost.now) states.old.rooms → IsOk result }
+    ensures births { OnOk result ((n : ℕ) → AllHaveBirths (n + length lost.now) states.old.rooms → AllHaveBirths n states.new.rooms) }
+    ensures uses { OnOk result (KeepUses states.old.rooms states.new.rooms) }
+    ensures room { vec_capacity results.old ≤ vec_capacity results.new }
     ensures kinds { kinds_of states.new.kept ≡ kinds_of states.old.kept }
 {
     results.clear();
@@ -187,9 +201,9 @@ pub(crate) fn raise(
 ) -> Result<(), NoMemory>
     requires table { table.old.rows ≡ kinds_of states.old.kept }
     requires may { MayRaise states.old.kept terminator.old call.now made.now }
-    ensures chain { OnOk result ((forms : List CallContent) → IsHeldOf call.now.held (kinds_of states.old.kept) forms → chain_at states.new.kept terminator.new names.new.handed ≡ chain_raised (chain_at states.old.kept terminator.old names.old.handed) call.now forms made.now) }
+    ensures chain { OnOk result ((forms : List CallContent) → IsHeldOf call.now.held (kinds_of states.old.kept) forms → chain_at states.new.kept terminator.new names.new.kept.handed ≡ chain_raised (chain_at states.old.kept terminator.old names.old.kept.handed) call.now forms made.now) }
     ensures drivers { terminator.new.drivers ≡ terminator.old.drivers }
-    ensures rest { names.new ≡ record names.old { handed = names.new.handed } }
+    ensures rest { names.new.kept ≡ record names.old.kept { handed = names.new.kept.handed } }
     ensures table { table.new.rows ≡ kinds_of states.new.kept }
 {
     if is_skipped(call) {

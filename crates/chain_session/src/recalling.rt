@@ -1,14 +1,17 @@
 // What the arguments of a call stand for that had entered, again.
-ghost use Rattle.std.specs.Prelude.{◌≡◌, false, map, slice_index_or, IfOk};
+ghost use Rattle.std.specs.Prelude.{◌≡◌, ◌≤◌, false, length, map, slice_index_or, take, vec_capacity, IsOk, OnOk};
 ghost use Rattle.command_tables.specs.Handles.{list_at};
 ghost use Rattle.replay_model.specs.Past.{arguments_in};
 ghost use Rattle.session_tables.specs.Shown.{args_shown};
 ghost use Rattle.chain_session.specs.Leaving.{recalled, recalled_places};
+ghost use Rattle.chain_session.specs.Scratch.{FitLists, KeepLists};
 ghost use Rattle.trace_format.specs.Content.{arg_content};
 
-use crate::name_table::NameTable;
-use command_tables::{HandleArgs, LayerCall, NoMemory};
+use crate::names::put_first;
+use command_tables::{HandleArgs, LayerCall};
 use object_model::Argument;
+use session_tables::NamedTable;
+use std::alloc::AllocError;
 use trace_format::TraceArg;
 
 // Whether a place is marked. One that isn't there isn't.
@@ -27,7 +30,8 @@ fn is_marked(all: &HandleArgs<6>, p: usize, k: usize) -> bool
 
 // Of the arguments of a parameter those that are marked weren't born when the call began.
 fn recall_places(marks: &HandleArgs<6>, p: usize, at: &mut Vec<Argument>)
-    ensures { at.new.items ≡ recalled_places (list_at marks.now.marks p) at.old.items }
+    ensures places { at.new.items ≡ recalled_places (list_at marks.now.marks p) at.old.items }
+    ensures room { vec_capacity at.new ≡ vec_capacity at.old }
 {
     for k in 0..at.len() {
         if is_marked(marks, p, k) {
@@ -36,26 +40,32 @@ fn recall_places(marks: &HandleArgs<6>, p: usize, at: &mut Vec<Argument>)
     }
 }
 
-// So it is at each parameter.
-fn recall(marks: &HandleArgs<6>, args: &mut Vec<Vec<Argument>>)
-    ensures { args_shown args.new.items ≡ recalled marks.now.marks (args_shown args.old.items) }
+// So it is at each of so many parameters.
+fn recall(marks: &HandleArgs<6>, count: usize, args: &mut Vec<Vec<Argument>>)
+    requires { count ≤ length args.old.items }
+    ensures args { args_shown (take count args.new.items) ≡ recalled marks.now.marks (args_shown (take count args.old.items)) }
+    ensures count { length args.new.items ≡ length args.old.items }
+    ensures room { map (λ v. vec_capacity v) args.new.items ≡ map (λ v. vec_capacity v) args.old.items }
 {
-    for p in 0..args.len() {
+    for p in 0..count {
         recall_places(marks, p, &mut args[p]);
     }
 }
 
-/// What the arguments of a begin that had entered stand for, in room that is kept: by the names now, but for those that weren't born when it
-/// began, as its form below the last part marks them.
-pub(crate) fn read_again(
-    names: &mut NameTable,
+/// Puts what the arguments of a begin that had entered stand for in the first lists: by the names now, but for those that weren't born when it
+/// began, as its form below the last part marks them. Where there are lists enough, and each has room, this takes no memory.
+pub(crate) fn put_again(
+    names: &NamedTable,
     args: &[TraceArg],
     form: &LayerCall,
-) -> Result<Vec<Vec<Argument>>, NoMemory>
-    ensures args { IfOk result (λ v. args_shown v.items ≡ recalled form.now.args.marks (arguments_in names.old.names (map arg_content args.now))) }
-    ensures same { names.new ≡ names.old }
+    all: &mut Vec<Vec<Argument>>,
+) -> Result<(), AllocError>
+    ensures count { OnOk result (length args.now ≤ length all.new.items) }
+    ensures args { OnOk result (args_shown (take (length args.now) all.new.items) ≡ recalled form.now.args.marks (arguments_in names.now.names (map arg_content args.now))) }
+    ensures room { KeepLists (map (λ v. vec_capacity v) all.old.items) (map (λ v. vec_capacity v) all.new.items) }
+    ensures succeeds { FitLists (map (λ v. vec_capacity v) all.old.items) (map (λ a. a.names) (map arg_content args.now)) → IsOk result }
 {
-    let mut all = names.read(args)?;
-    recall(&form.args, &mut all);
-    Ok(all)
+    put_first(names, args, all)?;
+    recall(&form.args, args.len(), all);
+    Ok(())
 }

@@ -1,5 +1,5 @@
 // For which objects the results of a call stand.
-ghost use Rattle.std.specs.Prelude.{◌≡◌, Some, map, IfOk, ℕ};
+ghost use Rattle.std.specs.Prelude.{◌≡◌, ◌≤◌, Some, [], length, map, vec_capacity, IsOk, OnOk, ℕ};
 ghost use Rattle.std.specs.List.{enumerate_from};
 ghost use Rattle.object_model.specs.Keys.{key_payload};
 ghost use Rattle.object_model.specs.History.{born_in};
@@ -8,7 +8,6 @@ ghost use Rattle.chain_session.specs.Opened.{returning_shown};
 
 use crate::bearing::{bearable_results, effect_of, is_bearing};
 use crate::returning_call::ReturningCall;
-use crate::room::Room;
 use command_tables::{CommandId, Effect, ObjectType};
 use object_model::Object;
 use replay_model::Born;
@@ -73,10 +72,12 @@ fn retrieved(
     }
 }
 
-fn created_results(room: &mut Room, ty: ObjectType, names: &[Name]) -> Result<Vec<Born>, AllocError>
-    ensures { IfOk result (λ v. v.items ≡ map (λ (x : ℕ × Name). record { place = x.0; name = x.1; object = own_object ty x.1 }) (enumerate_from 0 names.now)) }
+fn put_created(ty: ObjectType, names: &[Name], all: &mut Vec<Born>) -> Result<(), AllocError>
+    requires { all.old.items ≡ [] }
+    ensures made { OnOk result (all.new.items ≡ map (λ (x : ℕ × Name). record { place = x.0; name = x.1; object = own_object ty x.1 }) (enumerate_from 0 names.now)) }
+    ensures room { vec_capacity all.old ≤ vec_capacity all.new }
+    ensures succeeds { length names.now ≤ vec_capacity all.old → IsOk result }
 {
-    let mut all = room.born.take();
     for (k, name) in names.iter().enumerate() {
         all.push(Born {
             place: k,
@@ -84,20 +85,22 @@ fn created_results(room: &mut Room, ty: ObjectType, names: &[Name]) -> Result<Ve
             object: own(ty, *name),
         })?;
     }
-    Ok(all)
+    Ok(())
 }
 
-fn retrieved_results(
-    room: &mut Room,
+fn put_retrieved(
     table: &RetrievedTable,
     call: ReturningCall<'_>,
     owner: Option<Object>,
     ty: ObjectType,
     names: &[Name],
-) -> Result<Vec<Born>, AllocError>
-    ensures { IfOk result (λ v. v.items ≡ map (λ (x : ℕ × Name). record { place = x.0; name = x.1; object = retrieved_object table.now.kept (returning_shown call.entry) owner ty x.0 x.1 }) (enumerate_from 0 names.now)) }
+    all: &mut Vec<Born>,
+) -> Result<(), AllocError>
+    requires { all.old.items ≡ [] }
+    ensures made { OnOk result (all.new.items ≡ map (λ (x : ℕ × Name). record { place = x.0; name = x.1; object = retrieved_object table.now.kept (returning_shown call.entry) owner ty x.0 x.1 }) (enumerate_from 0 names.now)) }
+    ensures room { vec_capacity all.old ≤ vec_capacity all.new }
+    ensures succeeds { length names.now ≤ vec_capacity all.old → IsOk result }
 {
-    let mut all = room.born.take();
     for (k, name) in names.iter().enumerate() {
         all.push(Born {
             place: k,
@@ -105,52 +108,50 @@ fn retrieved_results(
             object: retrieved(table, call, owner, ty, k, *name),
         })?;
     }
-    Ok(all)
+    Ok(())
 }
 
 // What a call that bears its results makes.
-fn results(
-    room: &mut Room,
+fn put_results(
     births: &BirthTable,
     table: &RetrievedTable,
     drivers: u32,
     call: ReturningCall<'_>,
-) -> Result<Vec<Born>, AllocError>
-    ensures { IfOk result (λ v. v.items ≡ born_with births.now.births table.now.kept (returning_shown call.entry) (bearable drivers (returning_shown call.entry))) }
+    all: &mut Vec<Born>,
+) -> Result<(), AllocError>
+    requires { all.old.items ≡ [] }
+    ensures made { OnOk result (all.new.items ≡ born_with births.now.births table.now.kept (returning_shown call.entry) (bearable drivers (returning_shown call.entry))) }
+    ensures room { vec_capacity all.old ≤ vec_capacity all.new }
+    ensures succeeds { length call.entry.results.now ≤ vec_capacity all.old → IsOk result }
 {
+    let names = bearable_results(drivers, call);
     let effect = effect_of(call.cmd);
     match effect {
-        Effect::Create { ty, .. } => created_results(room, ty, bearable_results(drivers, call)),
+        Effect::Create { ty, .. } => put_created(ty, names, all),
         Effect::Retrieve { ty, .. } => {
             let owner = owner(births, call.args, effect);
-            retrieved_results(
-                room,
-                table,
-                call,
-                owner,
-                ty,
-                bearable_results(drivers, call),
-            )
+            put_retrieved(table, call, owner, ty, names, all)
         }
-        Effect::None | Effect::Destroy(_) | Effect::Free(_) | Effect::Reset(_) => {
-            Ok(room.born.take())
-        }
+        Effect::None | Effect::Destroy(_) | Effect::Free(_) | Effect::Reset(_) => Ok(()),
     }
 }
 
-/// The results of an open call that are born at its return.
-pub(crate) fn made(
-    room: &mut Room,
+/// Puts the results of a call that are born at its return in place of what stood there. Takes no memory where there is room for all results.
+pub(crate) fn put_made(
     objects: &ObjectTable,
     table: &RetrievedTable,
     drivers: u32,
     call: ReturningCall<'_>,
-) -> Result<Vec<Born>, AllocError>
-    ensures { IfOk result (λ v. v.items ≡ made_by drivers objects.now.births (born_in objects.now.births) table.now.kept (returning_shown call.entry)) }
+    all: &mut Vec<Born>,
+) -> Result<(), AllocError>
+    ensures made { OnOk result (all.new.items ≡ made_by drivers objects.now.births (born_in objects.now.births) table.now.kept (returning_shown call.entry)) }
+    ensures room { vec_capacity all.old ≤ vec_capacity all.new }
+    ensures succeeds { length call.entry.results.now ≤ vec_capacity all.old → IsOk result }
 {
+    all.clear();
     if is_bearing(objects, call) {
-        results(room, objects.births(), table, drivers, call)
+        put_results(objects.births(), table, drivers, call, all)
     } else {
-        Ok(room.born.take())
+        Ok(())
     }
 }

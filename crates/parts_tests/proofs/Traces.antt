@@ -19,16 +19,18 @@ use Rattle.object_model.specs.Objects.{first_in}
 use Rattle.replay_model.specs.Setup.{Setup, refusal_of}
 use Rattle.replay_model.proofs.Accepted.{calls-judged}
 use Rattle.lifetime_layer.specs.declared.verdict.Verdict.{Verdict}
-use Rattle.terminator.specs.Calls.{targets_of}
+use Rattle.terminator.specs.Calls.{TerminatorState, targets_of}
 use Rattle.chain_model.specs.Traces.{GivesGuarded, IsTrace}
 use Rattle.chain_model.proofs.Gapped.{gapped}
 use Rattle.dispatch_chain.specs.Holding.{HeldCalls}
+use Rattle.dispatch_chain.specs.Room.{ChainState}
 use Rattle.session_model.specs.Session.{SessionKept, nothing_kept}
 use Rattle.session_model.specs.Stands.{AreRepliesTo}
 use Rattle.session_model.proofs.Running.{new_stands}
 use Rattle.chain_session.specs.declared.kept.Kept.{Kept}
 use Rattle.chain_session.specs.declared.parts.SessionParts.{SessionParts}
 use Rattle.chain_session.specs.Entering.{CanEnterAt, Enters, EntersAt, CanEnter}
+use Rattle.chain_session.specs.Names.{NamesKept}
 use Rattle.chain_session.specs.Leaving.{CanLeaveAt, Leaves, LeavesAt}
 use Rattle.chain_session.specs.PartsStanding.{EntersAsTraced, LeavesAsTraced, LeftCall, MayEnterTrace, MayLeaveTrace, PartsStand, SplitStand, is_left_by}
 use Rattle.chain_session.specs.Splitting.{AreSplit}
@@ -208,4 +210,32 @@ has_gone law old state e back call held skip own x y count n out returns accepte
       state_stands = fits.stands;
       parts_stand = subst (λ (ls : List LeftCall). PartsStand out.setup y (Return b.thread ∷ events) out.replies ls) none gone.stands;
       trace = trace_next events (Return b.thread) out.trace out.trace.grammar.0.thread fits.fault;
+    }
+
+-- parts that keep the same, whatever room there is for their names
+pub roomy_step : (state : TraceSeen) (x y : SessionParts) → PartsInStep state x → y.states ≡ x.states → y.terminator ≡ x.terminator → y.names.kept ≡ x.names.kept → PartsInStep state y
+roomy_step state x y step states terminator names =
+    let shows = step.parts_stand.shows in
+    record {
+      setup = step.setup;
+      guarded = step.guarded;
+      events = step.events;
+      replies = step.replies;
+      state_stands = step.state_stands;
+      parts_stand = record {
+        kept = step.parts_stand.kept;
+        shows = record {
+          names = ap (λ (k : NamesKept). k.names) names ∙ shows.names;
+          births = ap (λ (k : NamesKept). k.births) names ∙ shows.births;
+          retrieved = ap (λ (k : NamesKept). k.retrieved) names ∙ shows.retrieved;
+          states = ap (λ (c : ChainState). c.kept) states ∙ shows.states;
+          ids = ap (λ (t : TerminatorState). t.ids) terminator ∙ shows.ids;
+          routes = ap (λ (t : TerminatorState). t.routes) terminator ∙ shows.routes;
+          handed = ap (λ (k : NamesKept). k.handed) names ∙ shows.handed;
+          drivers = ap (λ (t : TerminatorState). t.drivers) terminator ∙ shows.drivers;
+        };
+        stands = step.parts_stand.stands;
+        opens = step.parts_stand.opens;
+      };
+      trace = step.trace;
     }

@@ -49,6 +49,22 @@ pub(crate) fn split(
     Ok(Box::new(alloc, Bench { parts, state })?)
 }
 
+/// Makes room for the names of so many results more, and for calls with so many arguments at a parameter.
+#[tactic(auto, using(crate::proofs::Traces::roomy_step))]
+pub(crate) fn make_room(
+    bench: &mut Bench,
+    results: usize,
+    bytes: usize,
+    args: usize,
+) -> Result<(), Fail>
+    requires step { PartsInStep bench.old.state bench.old.parts }
+    ensures step { OnOk result (PartsInStep bench.new.state bench.new.parts) }
+    ensures kinds { kinds_of bench.new.parts.states.kept ≡ kinds_of bench.old.parts.states.kept }
+{
+    bench.parts.names.reserve(results, bytes, args)?;
+    Ok(())
+}
+
 /// A call that has come down.
 #[derive(Drop)]
 pub(crate) struct Entered {

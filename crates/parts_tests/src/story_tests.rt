@@ -4,7 +4,7 @@ ghost use Rattle.std.specs.Prelude.{◌≡◌};
 ghost use Rattle.dispatch_chain.specs.Seats.{kinds_of};
 ghost use Rattle.parts_tests.specs.Traced.{PartsInStep};
 
-use crate::passing::{Bench, Passed, pass, split};
+use crate::passing::{Bench, Passed, make_room, pass, split};
 use crate::playing::{Played, play};
 use crate::setups::{kit, setup};
 use crate::story_tests::Comes::{Sent, Skipped};
@@ -93,6 +93,12 @@ fn tell_story<D: Driver>(
     Ok(())
 }
 
+// For how much more room is made among the names before a story: results, bytes of their payloads, and arguments of a parameter.
+type Room = (usize, usize, usize);
+
+// None, a little, and the most.
+static ROOMS: [Room; 3] = [(0, 0, 0), (3, 16, 2), (100_000, 65_536, 1_024)];
+
 static WITH_LAYER: [&str; 6] = [
     "b 1 vkCreateInstance = %1.1 VK_SUCCESS : VK_LAYER_KHRONOS_validation",
     "r 1",
@@ -179,6 +185,7 @@ fn run(
     alloc: Global,
     lines: &[&str],
     story: &[(&str, Comes)],
+    room: Room,
 ) -> Result<(), Fail> {
     let setup = setup(alloc)?;
     let kit = kit();
@@ -187,6 +194,7 @@ fn run(
     let Played { session, state } = play(alloc, lines, &setup, &kit, &mut driver)?;
     let held = session.held();
     let mut bench = split(alloc, &session, state, &setup)?;
+    make_room(&mut bench, room.0, room.1, room.2)?;
     tell_story(rt, alloc, &mut bench, session.table(), &mut driver, story)?;
     assert_eq!(rt; session.held(), held);
     assert_eq!(rt; driver.log().len(), count_sent(story).saturating_add(3));
@@ -195,12 +203,18 @@ fn run(
 
 #[test]
 fn parts_of_a_checked_session(rt: HostRuntime) -> Result<(), Fail> {
-    run(&rt, rt.alloc(), &WITH_LAYER, &CHECKED)
+    for room in ROOMS {
+        run(&rt, rt.alloc(), &WITH_LAYER, &CHECKED, room)?;
+    }
+    Ok(())
 }
 
 #[test]
 fn parts_of_a_session_without_layers(rt: HostRuntime) -> Result<(), Fail> {
-    run(&rt, rt.alloc(), &WITHOUT_LAYER, &UNCHECKED)
+    for room in ROOMS {
+        run(&rt, rt.alloc(), &WITHOUT_LAYER, &UNCHECKED, room)?;
+    }
+    Ok(())
 }
 
 // Before the first begin no part intercepts a command, and the parts have no driver.

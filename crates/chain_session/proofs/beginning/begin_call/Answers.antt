@@ -23,7 +23,7 @@ returns-in_err-creation-clause-err g c =
     (cut_first (trace_setup (setup_content c.args.setup.now)) c.args.kept.now (begin_content c.args.begin) (g.D.Driver.log c.args.driver.now) (g.D.Driver.log c.args.driver.now) refl)
 
 pub open_judged-requires-clause-fits : goal.open_judged-requires-clause-fits
-open_judged-requires-clause-fits g c = fits_first c.args.number c.args.kept.now.parts.names.names (begin_content c.args.begin) None c.requires.can.begins
+open_judged-requires-clause-fits g c = fits_first c.args.number c.args.kept.now.parts.names.kept.names (begin_content c.args.begin) None c.requires.can.begins
 
 pub returns-in_err-call-clause-err : goal.returns-in_err-call-clause-err
 returns-in_err-call-clause-err g c =

@@ -14,25 +14,25 @@ pub raise-requires-clause-may : goal.raise-requires-clause-may
 raise-requires-clause-may g c =
     let x = c.args.parts.now in
     let p = c.args.call.now in
-    let born : c.in_ok-born.born.items ≡ made_by c.args.drivers c.objects.result.now.births (born_in c.objects.result.now.births) c.retrieved.result.now.kept (opened_of p)
-    = c.in_ok-born.ensures ∙ ap (made_by c.args.drivers c.objects.result.now.births (born_in c.objects.result.now.births) c.retrieved.result.now.kept) c.returning-returned.ensures in
-    let is : c.in_ok-born.born.items ≡ made_at x p
-    = made_so x p c.args.drivers c.objects.result.now.births c.retrieved.result.now.kept c.in_ok-born.born.items c.requires.drivers c.objects.ensures c.retrieved.ensures born in
+    let born : c.put_made.new.all.items ≡ made_by c.args.drivers c.objects.result.now.births (born_in c.objects.result.now.births) c.retrieved.result.now.kept (opened_of p)
+    = c.in_ok-put_made.ensures.made ∙ ap (made_by c.args.drivers c.objects.result.now.births (born_in c.objects.result.now.births) c.retrieved.result.now.kept) c.returning-returned.ensures in
+    let is : c.put_made.new.all.items ≡ made_at x p
+    = made_so x p c.args.drivers c.objects.result.now.births c.retrieved.result.now.kept c.put_made.new.all.items c.requires.drivers c.objects.ensures c.retrieved.ensures born in
     subst (λ (ms : List Born). MayRaise x.states.kept x.terminator p ms) (sym (c.deref.ensures.value ∙ is)) c.requires.may
 
 pub returns-clause-ok : goal.returns-clause-ok
 returns-clause-ok g c =
     let x = c.args.parts.now in
     let p = c.args.call.now in
-    let raised = c.raise.new.names in
+    let raised = c.raise.new.names.kept in
     let settled = c.settle.new.self in
     let same = c.returning-returned.ensures in
-    let born : c.in_ok-born.born.items ≡ made_by c.args.drivers c.objects.result.now.births (born_in c.objects.result.now.births) c.retrieved.result.now.kept (opened_of p)
-    = c.in_ok-born.ensures ∙ ap (made_by c.args.drivers c.objects.result.now.births (born_in c.objects.result.now.births) c.retrieved.result.now.kept) same in
-    let is : c.in_ok-born.born.items ≡ made_at x p
-    = made_so x p c.args.drivers c.objects.result.now.births c.retrieved.result.now.kept c.in_ok-born.born.items c.requires.drivers c.objects.ensures c.retrieved.ensures born in
-    let n : c.len-count.result ≡ length c.in_ok-born.born.items = omega (arith, c.len-count.ensures, c.in_ok-born.born.ok.0) in
-    came_back x p c.raise.new.states c.raise.new.terminator raised settled c.len-count.result c.in_ok-born.born.items c.deref.result.now c.deref-2.result.now is c.deref.ensures.value c.deref-2.ensures.value n
+    let born : c.put_made.new.all.items ≡ made_by c.args.drivers c.objects.result.now.births (born_in c.objects.result.now.births) c.retrieved.result.now.kept (opened_of p)
+    = c.in_ok-put_made.ensures.made ∙ ap (made_by c.args.drivers c.objects.result.now.births (born_in c.objects.result.now.births) c.retrieved.result.now.kept) same in
+    let is : c.put_made.new.all.items ≡ made_at x p
+    = made_so x p c.args.drivers c.objects.result.now.births c.retrieved.result.now.kept c.put_made.new.all.items c.requires.drivers c.objects.ensures c.retrieved.ensures born in
+    let n : c.len-count.result ≡ length c.put_made.new.all.items = omega (arith, c.len-count.ensures, c.put_made.new.all.ok.0) in
+    came_back x p c.raise.new.states c.raise.new.terminator raised settled c.len-count.result c.put_made.new.all.items c.deref.result.now c.deref-2.result.now is c.deref.ensures.value c.deref-2.ensures.value n
     c.in_ok-raise.ensures.rest c.in_ok-raise.ensures.chain c.in_ok-raise.ensures.drivers c.in_ok-settle.ensures.names
-    (subst (λ (o : Opened). AreAdded raised.births (births_given raised.births o.args (row_of o.cmd).effect (objects_of c.deref-2.result.now)) settled.births) same c.in_ok-settle.ensures.births)
+    (subst (λ (o : Opened). AreAdded raised.births (births_given raised.births o.args (row_of o.cmd).effect (objects_of c.deref-2.result.now)) settled.kept.births) same c.in_ok-settle.ensures.births)
     (c.in_ok-settle.ensures.retrieved ∙ ap (λ (o : Opened). raised.retrieved ++ retrieved_by raised.births o c.deref-2.result.now) same) c.in_ok-settle.ensures.handed

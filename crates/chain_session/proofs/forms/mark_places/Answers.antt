@@ -11,11 +11,19 @@ loop-k-preserved c = elim c.if-has_mark.branch [
     marks = ap (λ (a : Handles). a.marks) w.all-is
         ∙ (w.mark_unborn.ensures.marks
         ∙ marks_more c.loop-k.all.marks c.args.all.now.marks c.args.p c.loop-k.k c.args.at.now c.requires.marks c.loop-k-test.true (sym c.has_mark.ensures ∙ w.if-has_mark.true) c.loop-k.invariant.marks);
+    room = record {
+      slots = omega (arith, ap (λ (a : Handles). a.slots) w.all-is, w.mark_unborn.ensures.room.slots, c.loop-k.invariant.room.slots);
+      room = omega (arith, ap (λ (a : Handles). a.room) w.all-is, w.mark_unborn.ensures.room.room, c.loop-k.invariant.room.room);
+    };
   }
   | else-has_mark w ↦ record {
     lists = ap (λ (a : Handles). a.lists) w.all-is ∙ c.loop-k.invariant.lists;
     marks = ap (λ (a : Handles). a.marks) w.all-is
         ∙ marks_still c.loop-k.all.marks c.args.all.now.marks c.args.p c.loop-k.k c.args.at.now c.loop-k-test.true (sym c.has_mark.ensures ∙ w.if-has_mark.false) c.loop-k.invariant.marks;
+    room = record {
+      slots = omega (arith, ap (λ (a : Handles). a.slots) w.all-is, c.loop-k.invariant.room.slots);
+      room = omega (arith, ap (λ (a : Handles). a.room) w.all-is, c.loop-k.invariant.room.room);
+    };
   }
 ]
 

@@ -1,4 +1,5 @@
 use Rattle.std.proofs.Common.{◌≡◌, set}
+use Rattle.command_tables.specs.Handles.{HasRoom}
 use Rattle.chain_session.proofs.Marks.{marked}
 use Rattle.chain_session.proofs.forms.mark_places.Given as goal
 
@@ -6,4 +7,5 @@ abbrev pub invariant-loop-k : goal.invariant-loop-k
 invariant-loop-k l = record {
   lists : l.all.lists ≡ l.initial.all.lists;
   marks : l.all.marks ≡ set l.initial.all.marks l.p (marked l.k l.at);
+  room : HasRoom l.all l.initial.all.slots l.initial.all.room;
 }

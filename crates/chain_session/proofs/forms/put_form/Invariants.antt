@@ -1,4 +1,5 @@
-use Rattle.std.proofs.Common.{◌≡◌, map, take}
+use Rattle.std.proofs.Common.{◌≡◌, ◌≤◌, map, take, vec_capacity}
+use Rattle.command_tables.specs.Handles.{HasRoom}
 use Rattle.session_tables.specs.Shown.{args_shown}
 use Rattle.chain_model.specs.Chained.{handle_by, is_unborn}
 use Rattle.chain_model.specs.Handed.{handle_in}
@@ -12,4 +13,6 @@ invariant-loop-arg l = record {
   asked : l.form.asked ≡ l.initial.form.asked;
   code : l.form.code ≡ l.initial.form.code;
   payload : l.form.payload ≡ l.initial.form.payload;
+  handles_room : vec_capacity l.initial.room ≤ vec_capacity l.room;
+  args_room : HasRoom l.form.args l.initial.form.args.slots l.initial.form.args.room;
 }

@@ -9,8 +9,8 @@ pub returns-then-is_some-clause-judged : goal.returns-then-is_some-clause-judged
 returns-then-is_some-clause-judged g c =
     let x = c.args.parts.now in
     let refused : is_some c.args.call.now.refusal ≡ true = search rules in
-    subst (λ (o : Opened). IsJudged x.names.births x.names.handed x.states.kept o c.args.call.now c.args.verdict.now x.states.kept) c.requires.opened
-    (refused_so x.names.births x.names.handed x.states.kept c.args.call.now c.args.verdict.now refused (ap (λ (o : Opened). o.stop) c.requires.opened) c.requires.empty c.requires.unheld)
+    subst (λ (o : Opened). IsJudged x.names.kept.births x.names.kept.handed x.states.kept o c.args.call.now c.args.verdict.now x.states.kept) c.requires.opened
+    (refused_so x.names.kept.births x.names.kept.handed x.states.kept c.args.call.now c.args.verdict.now refused (ap (λ (o : Opened). o.stop) c.requires.opened) c.requires.empty c.requires.unheld)
 
 pub returns-then-is_some-clause-passes : goal.returns-then-is_some-clause-passes
 returns-then-is_some-clause-passes g c =

@@ -1,9 +1,10 @@
-use Rattle.std.proofs.Common.{◌≡◌, ◌∙◌, List, map, ap, refl}
+use Rattle.std.proofs.Common.{◌≡◌, ◌∙◌, ◌+◌, List, length, map, ap, refl, rules, subst, sym}
 use Rattle.command_tables.specs.Calls.{call_content}
 use Rattle.model_driver.specs.Driver.{reply_shown}
 use Rattle.object_model.specs.Values.{Value}
 use Rattle.layer_model.specs.Ids.{IssuedAll}
 use Rattle.layer_model.specs.Terminator.{terminator_leave}
+use Rattle.dispatch_chain.specs.Room.{AllHaveBirths}
 use Rattle.terminator.specs.Calls.{answered, drivers_for}
 use Rattle.chain_session.specs.Leaving.{Rising, left_of}
 use Rattle.chain_session.proofs.CameUp.{risen}
@@ -32,3 +33,8 @@ returns-clause-chain g c = λ forms h.
     (c.in_ok-walk_leave.ensures.states forms h)
     (c.in_ok-walk_leave.ensures.results forms h)
     c.in_ok-hand_each.ensures.handed
+
+pub returns-clause-births : goal.returns-clause-births
+returns-clause-births g c = λ m h.
+    let same : length c.leave.new.results ≡ length c.args.results.now = search rules in
+    c.in_ok-walk_leave.ensures.births m (subst (λ l. AllHaveBirths (m + l) c.args.parts.now.states.rooms) (sym same) h)

@@ -17,6 +17,6 @@ returns-in_ok-held-clause-chain g c =
     let goes : is_skipped (opened_of c.args.call.now) ≡ false = cc in
     let starts : starts_chain (opened_of c.args.call.now) ≡ true = cc in
     on_ok c.raise_sent.result
-    (λ sent forms h. started_raised c.args.states.now.kept c.start.new.states.kept c.raise_sent.new.states.kept c.args.terminator.now c.raise_sent.new.terminator c.args.names.now.handed c.raise_sent.new.names.handed c.args.call.now forms c.args.made.now c.in_ok-held.held goes starts
+    (λ sent forms h. started_raised c.args.states.now.kept c.start.new.states.kept c.raise_sent.new.states.kept c.args.terminator.now c.raise_sent.new.terminator c.args.names.now.kept.handed c.raise_sent.new.names.kept.handed c.args.call.now forms c.args.made.now c.in_ok-held.held goes starts
     c.in_ok-held.ensures.states c.in_ok-held.ensures.held sent)
     c.raise_sent.ensures.chain

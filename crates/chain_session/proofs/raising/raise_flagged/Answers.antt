@@ -11,5 +11,5 @@ walk_leave-requires-clause-lost g c = none_stopped c.args.call.now.thread c.args
 
 pub returns-clause-chain : goal.returns-clause-chain
 returns-clause-chain g c = λ forms h.
-    sent_so c.args.states.now.kept c.walk_leave.new.states.kept c.args.terminator.now c.answer.new.terminator c.args.names.now.handed c.hand_each.new.self.handed c.args.call.now forms c.args.made.now c.args.results.now c.answer.new.results c.walk_leave.new.results
+    sent_so c.args.states.now.kept c.walk_leave.new.states.kept c.args.terminator.now c.answer.new.terminator c.args.names.now.kept.handed c.hand_each.new.self.kept.handed c.args.call.now forms c.args.made.now c.args.results.now c.answer.new.results c.walk_leave.new.results
     c.requires.flags c.in_ok-answer.ensures.left c.in_ok-answer.ensures.routes (c.in_ok-walk_leave.ensures.states forms h) (c.in_ok-walk_leave.ensures.results forms h) c.in_ok-hand_each.ensures.handed

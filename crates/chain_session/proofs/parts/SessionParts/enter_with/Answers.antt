@@ -1,25 +1,39 @@
-use Rattle.std.proofs.Common.{◌≡◌, ◌∙◌, None, rules, subst, sym}
+use Rattle.std.proofs.Common.{◌≡◌, ◌∙◌, None, List, Vec, Global, ap, length, subst, sym, take, vec_capacity}
 use Rattle.command_tables.specs.Calls.{call_content}
-use Rattle.session_tables.specs.Lined.{AreLined}
+use Rattle.object_model.specs.declared.Argument.{Argument}
+use Rattle.replay_model.specs.Past.{arguments_in}
 use Rattle.session_tables.specs.Shown.{args_shown}
-use Rattle.chain_session.specs.Entering.{Enters}
-use Rattle.chain_session.specs.Judging.{ComesDown, FitsCall}
+use Rattle.chain_session.specs.Judging.{FitsCall}
 use Rattle.chain_session.specs.Names.{NamesKept}
 use Rattle.chain_session.specs.Opening.{begin_content, opened_read}
+use Rattle.chain_session.specs.Scratch.{ScratchRoom}
 use Rattle.chain_session.proofs.Begins.{fits_first}
 use Rattle.chain_session.proofs.Entered.{entered_so}
+use Rattle.chain_session.proofs.Lent.{down_lent, room_lent}
 use Rattle.chain_session.proofs.parts.SessionParts.enter_with.Goals as goal
 
 pub come_down-requires-clause-fits : goal.come_down-requires-clause-fits
 come_down-requires-clause-fits g c =
     let x = c.args.self.now in
     let e = begin_content c.args.begin in
-    let read : args_shown c.deref.result.now ≡ args_shown c.in_ok-args.args.items = search rules in
-    subst (λ args. FitsCall (opened_read c.args.number e args)) (sym (read ∙ c.in_ok-args.ensures.args)) (fits_first c.args.number x.names.names e None c.requires.can.begins)
+    let read : args_shown (take (length c.args.begin.args.now) c.deref.result.now) ≡ arguments_in x.names.kept.names e.args
+    = ap (λ (vs : List (Vec Argument Global)). args_shown (take (length c.args.begin.args.now) vs)) c.deref.ensures.value
+    ∙ (c.in_ok-put_first.ensures.args ∙ ap (λ ns. arguments_in ns e.args) (c.named.ensures ∙ ap (λ (k : NamesKept). k.names) c.take_scratch-scratch.ensures.kept)) in
+    subst (λ args. FitsCall (opened_read c.args.number e args)) (sym read) (fits_first c.args.number x.names.kept.names e None c.requires.can.begins)
 
-pub come_down-requires-clause-lined : goal.come_down-requires-clause-lined
-come_down-requires-clause-lined g c =
-    subst (λ (n : NamesKept). AreLined n.births) (sym (c.take_handles-handles.ensures ∙ c.in_ok-args.ensures.same)) (subst AreLined (sym c.requires.can.shows.births) c.requires.can.steps.lined)
+pub returns-in_err-come_down-clause-succeeds : goal.returns-in_err-come_down-clause-succeeds
+returns-in_err-come_down-clause-succeeds g c = λ room.
+    let x = c.args.self.now in
+    let e = begin_content c.args.begin in
+    let n = c.take_scratch-scratch.new.self in
+    let args = args_shown (take (length c.args.begin.args.now) c.deref.result.now) in
+    let read : args ≡ arguments_in x.names.kept.names e.args
+    = ap (λ (vs : List (Vec Argument Global)). args_shown (take (length c.args.begin.args.now) vs)) c.deref.ensures.value
+    ∙ (c.in_ok-put_first.ensures.args ∙ ap (λ ns. arguments_in ns e.args) (c.named.ensures ∙ ap (λ (k : NamesKept). k.names) c.take_scratch-scratch.ensures.kept)) in
+    let wrong = c.in_err-come_down.ensures.succeeds
+    (room_lent x x n n (opened_read c.args.number e args) c.take_scratch-scratch.ensures.kept (opened_read c.args.number e (arguments_in x.names.kept.names e.args)) x.names.room.scratch.handles (vec_capacity c.take_scratch-scratch.result.handles) c.args.call.now c.args.held.now
+    (vec_capacity c.args.verdict.now.findings) (ap (λ read_as. opened_read c.args.number e read_as) read) (ap (λ (s : ScratchRoom). s.handles) c.take_scratch-scratch.ensures.scratch) room.down) in
+    cc wrong
 
 pub returns-clause-ok : goal.returns-clause-ok
 returns-clause-ok g c =
@@ -27,8 +41,10 @@ returns-clause-ok g c =
     let e = begin_content c.args.begin in
     let y = c.come_down.new.self in
     let form = call_content c.come_down.new.form in
-    let read : args_shown c.deref.result.now ≡ args_shown c.in_ok-args.args.items = search rules in
-    let down : ComesDown x (opened_read c.args.number e (args_shown c.deref.result.now)) form c.come_down.new.held c.come_down.new.verdict y
-    = subst (λ (n : NamesKept). ComesDown (record x { names = n }) (opened_read c.args.number e (args_shown c.deref.result.now)) form c.come_down.new.held c.come_down.new.verdict y) (c.take_handles-handles.ensures ∙ c.in_ok-args.ensures.same) c.in_ok-come_down.ensures.down in
-    subst (λ (n : NamesKept). Enters x c.args.number e form c.come_down.new.held c.come_down.new.verdict (record y { names = n })) (sym c.keep_read.ensures)
-    (entered_so x y c.args.number e (args_shown c.deref.result.now) form c.come_down.new.held c.come_down.new.verdict (read ∙ c.in_ok-args.ensures.args) down)
+    let last = c.keep_scratch.new.self in
+    let args = args_shown (take (length c.args.begin.args.now) c.deref.result.now) in
+    let read : args ≡ arguments_in x.names.kept.names e.args
+    = ap (λ (vs : List (Vec Argument Global)). args_shown (take (length c.args.begin.args.now) vs)) c.deref.ensures.value
+    ∙ (c.in_ok-put_first.ensures.args ∙ ap (λ ns. arguments_in ns e.args) (c.named.ensures ∙ ap (λ (k : NamesKept). k.names) c.take_scratch-scratch.ensures.kept)) in
+    entered_so x (record y { names = last }) c.args.number e args form c.come_down.new.held c.come_down.new.verdict read
+    (down_lent x y c.take_scratch-scratch.new.self last (opened_read c.args.number e args) c.take_scratch-scratch.ensures.kept form c.come_down.new.held c.come_down.new.verdict c.keep_scratch.ensures.kept c.in_ok-come_down.ensures.down)

@@ -1,9 +1,0 @@
-use Rattle.std.proofs.Common.{◌≡◌, map, take, ℕ}
-use Rattle.std.specs.List.{enumerate_from}
-use Rattle.trace_format.specs.declared.event.Name.{Name}
-use Rattle.replay_model.specs.Births.{own_object}
-use Rattle.chain_session.proofs.results.created_results.Given as goal
-
-abbrev pub invariant-loop-k : goal.invariant-loop-k
-invariant-loop-k l =
-    l.all.items ≡ map (λ (x : ℕ × Name). record { place = x.0; name = x.1; object = own_object l.ty x.1 }) (enumerate_from 0 (take l.k l.names))
