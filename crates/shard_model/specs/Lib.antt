@@ -1,0 +1,4 @@
+pub mod Followed
+pub mod Replies
+pub mod Replays
+pub mod Samples
