@@ -1,29 +1,39 @@
 //! Look-ups over the whole table, and the calls of a call's handles.
-use command_tables::{CODES, COMMANDS, Code, CommandId, Effect, HandleArgs, LayerCall, find, row};
+use command_tables::{
+    CODES, COMMANDS, Code, CommandId, Effect, HandleArgs, LayerCall, NoMemory, find, row,
+};
+use std::alloc::{AllocError, Global};
+use std::process::Abort;
 use std::test::Fail;
+
+/// What is found by a name, by the name less its last byte, and by the name with a byte more.
+fn found_about(alloc: Global, name: &[u8]) -> Result<[Option<CommandId>; 3], AllocError> {
+    let short = &name[..name.len().saturating_sub(1)];
+    let mut long = Vec::from_slice(alloc, name)?;
+    long.push(b's')?;
+    Ok([find(name), find(short), find(&long)])
+}
+
+fn check_command(
+    rt: &impl Abort,
+    alloc: Global,
+    id: CommandId,
+    number: u8,
+) -> Result<(), AllocError> {
+    let name = row(id).name.as_bytes();
+    let found = found_about(alloc, name)?;
+    assert_eq!(rt; found, [Some(id), None, None], "about the name at {number}");
+    let by_number = (CommandId::from_number(number), id.number(), name.is_empty());
+    assert_eq!(rt; by_number, (Some(id), number, false), "at {number}");
+    Ok(())
+}
 
 #[test]
 fn each_command_is_found(rt: HostRuntime) -> Result<(), Fail> {
     let mut number: u8 = 0;
     for id in &COMMANDS {
         number = number.saturating_add(1);
-        let name = row(*id).name.as_bytes();
-        assert_eq!(rt; find(name), Some(*id), "by its name at {number}");
-        assert_eq!(rt;
-            CommandId::from_number(number),
-            Some(*id),
-            "by its number {number}"
-        );
-        assert_eq!(rt; id.number(), number);
-        assert!(rt; !name.is_empty());
-        assert_eq!(rt;
-            find(&name[..name.len() - 1]),
-            None,
-            "one byte short at {number}"
-        );
-        let mut long = Vec::from_slice(rt.alloc(), name)?;
-        long.push(b's')?;
-        assert_eq!(rt; find(&long), None, "one byte long at {number}");
+        check_command(&rt, rt.alloc(), *id, number)?;
     }
     assert_eq!(rt; number, 92);
     for n in [0, 93, 120, 255] {
@@ -32,54 +42,124 @@ fn each_command_is_found(rt: HostRuntime) -> Result<(), Fail> {
     Ok(())
 }
 
+/// Names beside those of the table, and the codes that they spell.
+static CODE_NAMES: [(&str, Option<Code>); 6] = [
+    (
+        "VK_ERROR_OUT_OF_POOL_MEMORY",
+        Some(Code::ErrorOutOfPoolMemory),
+    ),
+    ("", None),
+    ("VK_SUCCES", None),
+    ("VK_SUCCESSS", None),
+    ("vk_success", None),
+    ("void", None),
+];
+
+fn check_code_names(rt: &impl Abort) {
+    for (name, code) in &CODE_NAMES {
+        assert_eq!(rt; Code::find(name.as_bytes()), *code, "at {name}");
+    }
+}
+
 #[test]
 fn each_code_is_found(rt: HostRuntime) {
     for code in &CODES {
         let name = code.name();
         assert_eq!(rt; Code::find(name.as_bytes()), Some(*code), "at {name}");
     }
-    assert_eq!(rt; CODES[0], Code::Success);
-    assert_eq!(rt; CODES[6], Code::SuboptimalKhr);
-    assert_eq!(rt; CODES[24], Code::ErrorValidationFailedExt);
     assert_eq!(rt;
-        Code::find(b"VK_ERROR_OUT_OF_POOL_MEMORY"),
-        Some(Code::ErrorOutOfPoolMemory)
+        [CODES[0], CODES[6], CODES[24]],
+        [
+            Code::Success,
+            Code::SuboptimalKhr,
+            Code::ErrorValidationFailedExt
+        ]
     );
-    let others: [&[u8]; 5] = [b"", b"VK_SUCCES", b"VK_SUCCESSS", b"vk_success", b"void"];
-    for name in others {
-        assert_eq!(rt; Code::find(name), None);
-    }
+    check_code_names(&rt);
 }
+
+/// Names near those of commands, and the numbers of the commands that they are of.
+static NAMES: [(&str, Option<u8>); 8] = [
+    ("", None),
+    ("vk", None),
+    ("vkWaitForFence", None),
+    ("vkwaitforfences", None),
+    ("VKWAITFORFENCES", None),
+    (" vkWaitForFences", None),
+    ("vkWaitForFences", Some(92)),
+    ("vkAcquireNextImageKHR", Some(1)),
+];
 
 #[test]
 fn other_names_are_not_found(rt: HostRuntime) {
-    let others: [&[u8]; 6] = [
-        b"",
-        b"vk",
-        b"vkWaitForFence",
-        b"vkwaitforfences",
-        b"VKWAITFORFENCES",
-        b" vkWaitForFences",
-    ];
-    for name in others {
-        assert_eq!(rt; find(name), None);
+    for (name, number) in &NAMES {
+        let found = find(name.as_bytes()).map(|id| id.number());
+        assert_eq!(rt; found, *number, "at {name}");
     }
-    assert_eq!(rt; find(b"vkWaitForFences").map(|id| id.number()), Some(92));
-    assert_eq!(rt;
-        find(b"vkAcquireNextImageKHR").map(|id| id.number()),
-        Some(1)
-    );
 }
 
 #[test]
 fn rows_are_those_of_vulkan(rt: HostRuntime) {
     let free = row(CommandId::FreeDescriptorSets);
-    assert_eq!(rt; free.params.len(), 3);
+    assert_eq!(rt;
+        (free.params.len(), free.effect, free.returns),
+        (3, Effect::Free(2), true)
+    );
     assert!(rt; free.params[2].many && free.params[2].optional && free.params[2].sync);
-    assert_eq!(rt; free.effect, Effect::Free(2));
-    assert!(rt; free.returns);
-    assert!(rt; row(CommandId::CreateInstance).params.is_empty());
-    assert!(rt; !row(CommandId::GetDeviceQueue).returns);
+    let create = row(CommandId::CreateInstance);
+    assert!(rt; create.params.is_empty() && !row(CommandId::GetDeviceQueue).returns);
+}
+
+fn push_all(rt: &impl Abort, args: &mut HandleArgs<6>, lists: &[&[u64]]) -> Result<(), NoMemory> {
+    for list in lists {
+        assert!(rt; args.len() < 6);
+        args.push_param(*list)?;
+    }
+    Ok(())
+}
+
+/// The handles of a parameter, if there is one.
+fn list_at(args: &HandleArgs<6>, p: usize) -> Option<&[u64]> {
+    if p < args.len() {
+        Some(args.param(p))
+    } else {
+        None
+    }
+}
+
+/// The handle at a place of a parameter and whether it's marked as unborn, if there is one.
+fn handle_at(args: &HandleArgs<6>, p: usize, k: usize) -> Option<(u64, bool)> {
+    if p < args.len() && k < args.param(p).len() {
+        Some((args.param(p)[k], args.unborn(p, k)))
+    } else {
+        None
+    }
+}
+
+fn check_lists(rt: &impl Abort, args: &HandleArgs<6>, lists: &[&[u64]]) {
+    assert_eq!(rt; args.len(), lists.len());
+    for (p, list) in lists.iter().enumerate() {
+        assert_eq!(rt; list_at(args, p), Some(*list), "at {p}");
+    }
+}
+
+/// Changes the handle at a place of a parameter, if there is one, and marks it as unborn.
+fn change(args: &mut HandleArgs<6>, p: usize, k: usize, value: u64) {
+    if p < args.len() && k < args.param(p).len() {
+        args.mark_unborn(p, k);
+        args.set(p, k, value);
+    }
+}
+
+/// Only the last of the third list's many sevens is changed.
+fn check_change(rt: &impl Abort, args: &mut HandleArgs<6>) {
+    let before = handle_at(args, 2, 1023);
+    change(args, 2, 1023, 9);
+    let found = [before, handle_at(args, 2, 1022), handle_at(args, 2, 1023)];
+    assert_eq!(rt;
+        found,
+        [Some((7, false)), Some((7, false)), Some((9, true))]
+    );
 }
 
 #[test]
@@ -87,45 +167,43 @@ fn six_lists_are_kept(rt: HostRuntime) -> Result<(), Fail> {
     let many = [7; 1024];
     let lists: [&[u64]; 6] = [&[1], &[], &many, &[7], &[], &[4, 5, 6]];
     let mut args: HandleArgs<6> = HandleArgs::new(rt.alloc());
-    for list in lists {
-        assert!(rt; args.len() < 6);
-        args.push_param(list)?;
-    }
-    assert_eq!(rt; args.len(), 6);
-    for (p, list) in lists.into_iter().enumerate() {
-        assert!(rt; p < args.len());
-        assert_eq!(rt; args.param(p), list, "at {p}");
-    }
-    assert!(rt; 1023 < args.param(2).len());
-    assert!(rt; !args.unborn(2, 1023));
-    args.mark_unborn(2, 1023);
-    args.set(2, 1023, 9);
-    assert!(rt; args.unborn(2, 1023));
-    assert!(rt; !args.unborn(2, 1022));
-    assert_eq!(rt; args.param(2)[1023], 9);
-    assert_eq!(rt; args.param(2)[1022], 7);
-    assert_eq!(rt; args.param(3), [7].as_slice());
+    push_all(&rt, &mut args, &lists)?;
+    check_lists(&rt, &args, &lists);
+    check_change(&rt, &mut args);
+    assert_eq!(rt; list_at(&args, 3), Some([7].as_slice()));
     Ok(())
+}
+
+/// A call of two lists and a byte, whose second handle is marked.
+fn marked_call(rt: &impl Abort, alloc: Global) -> Result<LayerCall, NoMemory> {
+    let mut call = LayerCall::with_room(alloc, 2, 1)?;
+    call.cmd = CommandId::DestroyBuffer;
+    push_all(rt, &mut call.args, &[&[3], &[7]])?;
+    change(&mut call.args, 1, 0, 0);
+    call.payload.push(b'x')?;
+    Ok(call)
+}
+
+fn check_marked(rt: &impl Abort, call: &LayerCall) {
+    assert_eq!(rt;
+        (call.cmd, call.payload.as_slice()),
+        (CommandId::DestroyBuffer, b"x".as_slice())
+    );
+    check_lists(rt, &call.args, &[&[3], &[0]]);
+    assert_eq!(rt; handle_at(&call.args, 1, 0), Some((0, true)));
+}
+
+fn copied(alloc: Global, call: &LayerCall) -> Result<LayerCall, NoMemory> {
+    let mut copy = LayerCall::with_room(alloc, 0, 0)?;
+    copy.copy_from(call)?;
+    Ok(copy)
 }
 
 #[test]
 fn a_call_is_copied_and_cleared(rt: HostRuntime) -> Result<(), Fail> {
-    let mut call = LayerCall::with_room(rt.alloc(), 2, 1)?;
-    call.cmd = CommandId::DestroyBuffer;
-    call.args.push_param(&[3])?;
-    call.args.push_param(&[0])?;
-    assert!(rt; 1 < call.args.len());
-    assert!(rt; 0 < call.args.param(1).len());
-    call.args.mark_unborn(1, 0);
-    call.payload.push(b'x')?;
-    let mut copy = LayerCall::with_room(rt.alloc(), 0, 0)?;
-    copy.copy_from(&call)?;
-    assert_eq!(rt; copy.cmd, CommandId::DestroyBuffer);
-    assert_eq!(rt; copy.args.len(), 2);
-    assert_eq!(rt; copy.args.param(0), [3].as_slice());
-    assert!(rt; 0 < copy.args.param(1).len());
-    assert!(rt; copy.args.unborn(1, 0));
-    assert_eq!(rt; copy.payload.as_slice(), b"x".as_slice());
+    let mut call = marked_call(&rt, rt.alloc())?;
+    let copy = copied(rt.alloc(), &call)?;
+    check_marked(&rt, &copy);
     call.args.clear();
     assert_eq!(rt; call.args.len(), 0);
     Ok(())

@@ -284,12 +284,26 @@ fn values_by_each_policy(rt: HostRuntime) -> Result<(), Fail> {
     play(&rt, alloc, &mut driver, &LAST_FRESH)
 }
 
-// Makes of an empty call the one for the most handles that a call can ask for.
-pub fn ask_for_most(call: &mut DriverCall) -> Result<(), Fail> {
+// The call for the most handles that a call can ask for.
+pub fn call_for_most(alloc: Global) -> Result<DriverCall, Fail> {
+    let mut call = DriverCall::with_room(alloc, 1026, 0)?;
     call.body.cmd = CommandId::AllocateCommandBuffers;
     call.body.asked = 1024;
     add(&mut call.body.args, &[9])?;
-    add(&mut call.body.args, &[5])
+    add(&mut call.body.args, &[5])?;
+    Ok(call)
+}
+
+// What a driver answers it, into a reply with room for so many handles.
+pub fn most_given<D: Driver>(
+    alloc: Global,
+    driver: &mut D,
+    call: &DriverCall,
+    room: usize,
+) -> Result<DriverReply, Fail> {
+    let mut reply = reply_with(alloc, room)?;
+    tell(driver, call, &mut reply)?;
+    Ok(reply)
 }
 
 // Makes of it the one that frees these.
@@ -325,26 +339,31 @@ fn are_given(
     Ok(())
 }
 
+// Makes of the call for the most handles the one that frees each second of those that were given, and tells which these are.
+fn free_each_second(
+    alloc: Global,
+    driver: &mut ModelDriver,
+    call: &mut DriverCall,
+    reply: &mut DriverReply,
+) -> Result<Vec<u64>, Fail> {
+    let freed = each_second(alloc, &reply.handles)?;
+    free(call, &freed)?;
+    tell(driver, call, reply)?;
+    Ok(freed)
+}
+
 // Of the most handles that one call can ask for, each second one is freed and given again.
 #[test]
 fn many_values(rt: HostRuntime) -> Result<(), Fail> {
     let alloc = rt.alloc();
     let mut driver = ModelDriver::new(alloc);
     driver.prepare(Policy::Reuse);
-    let mut call = call_with(alloc, 1026)?;
-    ask_for_most(&mut call)?;
-    let mut reply = reply_with(alloc, 1024)?;
-    tell(&mut driver, &call, &mut reply)?;
+    let mut call = call_for_most(alloc)?;
+    let mut reply = most_given(alloc, &mut driver, &call, 1024)?;
     assert!(rt; has_most(&reply));
-    let freed = each_second(alloc, &reply.handles)?;
-    free(&mut call, &freed)?;
-    tell(&mut driver, &call, &mut reply)?;
+    let freed = free_each_second(alloc, &mut driver, &mut call, &mut reply)?;
     are_given(&rt, alloc, &mut driver, &freed)?;
     play_one(&rt, alloc, &mut driver, 1025)
-}
-
-pub fn call_with(alloc: Global, handles: usize) -> Result<DriverCall, NoMemory> {
-    DriverCall::with_room(alloc, handles, 0)
 }
 
 pub fn reply_with(alloc: Global, handles: usize) -> Result<DriverReply, NoMemory> {

@@ -3,7 +3,7 @@ ghost use Rattle.std.specs.Prelude.{◌≡◌, Ok, Err, Some};
 ghost use Rattle.replay_base.specs.Bytes.{IsSpent};
 
 use replay_base::{Failed, Line, LineError, LineReader, MemSource, PlainSource, Source};
-use std::alloc::Global;
+use std::alloc::{AllocError, Global};
 use std::process::Abort;
 use std::test::Fail;
 
@@ -69,75 +69,114 @@ fn check_lines<S: Source>(
     Ok(())
 }
 
+// The same over a source without faults.
+fn check_plain(rt: &impl Abort, alloc: Global, text: &[u8], lines: &[u8]) -> Result<(), Fail> {
+    let mut source = PlainSource::new(text.to_vec(alloc)?);
+    check_lines(rt, alloc, &mut source, lines, Ok(Line::End))
+}
+
+// The same over one that gives a byte at each call and fails at one of them.
+fn check_bytes(
+    rt: &impl Abort,
+    alloc: Global,
+    text: &[u8],
+    fails: &[u64],
+    lines: &[u8],
+    end: Result<Line, LineError>,
+) -> Result<(), Fail> {
+    let mut source = ByBytes {
+        inner: MemSource::new(text.to_vec(alloc)?, fails.to_vec(alloc)?),
+    };
+    check_lines(rt, alloc, &mut source, lines, end)
+}
+
 #[test]
 fn lines_are_the_pieces_between_line_feeds(rt: HostRuntime) -> Result<(), Fail> {
     let alloc = rt.alloc();
-    let text = b"a\r\n\nbc\n \nd".to_vec(alloc)?;
-    let mut source = PlainSource::new(text.clone()?);
-    check_lines(&rt, alloc, &mut source, b"a\r||bc| |d|", Ok(Line::End))?;
-    let mut source = ByBytes {
-        inner: MemSource::new(text, Vec::new(alloc)),
-    };
-    check_lines(&rt, alloc, &mut source, b"a\r||bc| |d|", Ok(Line::End))?;
-    let mut source = PlainSource::new(b"\n".to_vec(alloc)?);
-    check_lines(&rt, alloc, &mut source, b"|", Ok(Line::End))?;
-    let mut source = PlainSource::new(Vec::new(alloc));
-    check_lines(&rt, alloc, &mut source, b"", Ok(Line::End))
+    let (text, lines) = (b"a\r\n\nbc\n \nd", b"a\r||bc| |d|");
+    check_plain(&rt, alloc, text, lines)?;
+    check_bytes(&rt, alloc, text, &[], lines, Ok(Line::End))?;
+    check_plain(&rt, alloc, b"\n", b"|")?;
+    check_plain(&rt, alloc, b"", b"")
 }
 
-// The source gives a byte at each call and then its end. What was read before the fault holds `lines`.
-fn check_fault(rt: &impl Abort, alloc: Global, call: u64, lines: &[u8]) -> Result<(), Fail> {
-    let mut source = ByBytes {
-        inner: MemSource::new(b"ab\ncd".to_vec(alloc)?, vec![in alloc; call]?),
-    };
-    check_lines(rt, alloc, &mut source, lines, Err(LineError::Read))
-}
+// The number of a call that fails, the lines that were whole before it, and what comes then. The sixth call meets the end, so there
+// is no seventh.
+static FAULTS: [(u64, &str, Result<Line, LineError>); 7] = [
+    (1, "", Err(LineError::Read)),
+    (2, "", Err(LineError::Read)),
+    (3, "", Err(LineError::Read)),
+    (4, "ab|", Err(LineError::Read)),
+    (5, "ab|", Err(LineError::Read)),
+    (6, "ab|", Err(LineError::Read)),
+    (7, "ab|cd|", Ok(Line::End)),
+];
 
 #[test]
 fn a_fault_comes_behind_the_lines_that_were_whole(rt: HostRuntime) -> Result<(), Fail> {
-    for call in 1..4 {
-        check_fault(&rt, rt.alloc(), call, b"")?;
+    for (call, lines, end) in &FAULTS {
+        check_bytes(&rt, rt.alloc(), b"ab\ncd", &[*call], lines.as_bytes(), *end)?;
     }
-    for call in 4..7 {
-        check_fault(&rt, rt.alloc(), call, b"ab|")?;
-    }
-    let alloc = rt.alloc();
-    // The sixth call has met the end, so there is no seventh.
-    let mut source = ByBytes {
-        inner: MemSource::new(b"ab\ncd".to_vec(alloc)?, vec![in alloc; 7]?),
-    };
-    check_lines(&rt, alloc, &mut source, b"ab|cd|", Ok(Line::End))
+    Ok(())
+}
+
+fn reader_of<S: Source + Drop>(alloc: Global, source: S) -> Result<LineReader<S>, Fail> {
+    Ok(LineReader::new(alloc, source).ok().ok_or("memory")?)
+}
+
+// A reader whose source fails at its first call.
+fn failing_reader(alloc: Global) -> Result<LineReader<MemSource>, Fail> {
+    let bytes = b"a\nb\n".to_vec(alloc)?;
+    reader_of(alloc, MemSource::new(bytes, vec![in alloc; 1]?))
 }
 
 #[test]
 fn an_error_stays(rt: HostRuntime) -> Result<(), Fail> {
-    let alloc = rt.alloc();
-    let source = MemSource::new(b"a\nb\n".to_vec(alloc)?, vec![in alloc; 1]?);
-    let mut reader = LineReader::new(alloc, source).ok().ok_or("memory")?;
-    let mut line = Vec::new(alloc);
-    assert_eq!(rt; reader.next(&mut line), Err(LineError::Read));
-    assert_eq!(rt; reader.next(&mut line), Err(LineError::Read));
-    assert_eq!(rt; reader.advance(), Err(LineError::Read));
+    let mut reader = failing_reader(rt.alloc())?;
+    let mut line = Vec::new(rt.alloc());
+    let found = [
+        reader.next(&mut line),
+        reader.next(&mut line),
+        reader.advance(),
+    ];
+    assert_eq!(rt; found, [Err(LineError::Read); 3]);
     Ok(())
+}
+
+// The next line isn't at hand, and is read.
+fn check_read(rt: &impl Abort, reader: &mut LineReader<PlainSource>) {
+    let found = (reader.advance_kept(), reader.advance());
+    assert_eq!(rt; found, (None, Ok(Line::Text)));
+}
+
+// What is at hand then, and the line that was read last.
+fn check_kept(rt: &impl Abort, reader: &mut LineReader<PlainSource>, kept: Line, line: &[u8]) {
+    assert_eq!(rt; reader.advance_kept(), Some(Ok(kept)));
+    assert_eq!(rt; reader.line(), line);
 }
 
 #[test]
 fn what_was_read_is_at_hand(rt: HostRuntime) -> Result<(), Fail> {
     let alloc = rt.alloc();
     let source = PlainSource::new(b"a\nb\nc".to_vec(alloc)?);
-    let mut reader = LineReader::new(alloc, source).ok().ok_or("memory")?;
-    assert_eq!(rt; reader.advance_kept(), None);
-    assert_eq!(rt; reader.advance(), Ok(Line::Text));
-    assert_eq!(rt; reader.advance_kept(), Some(Ok(Line::Text)));
-    assert_eq!(rt; reader.line(), b"b".as_slice());
-    assert_eq!(rt; reader.advance_kept(), None);
-    assert_eq!(rt; reader.advance(), Ok(Line::Text));
+    let mut reader = reader_of(alloc, source)?;
+    check_read(&rt, &mut reader);
+    check_kept(&rt, &mut reader, Line::Text, b"b");
+    check_read(&rt, &mut reader);
     assert_eq!(rt; reader.line(), b"c".as_slice());
     assert_eq!(rt; reader.advance_kept(), Some(Ok(Line::End)));
     Ok(())
 }
 
-// A line of so many bytes behind a short one, and what comes for it.
+// A line of so many bytes behind a short one.
+fn long_line(alloc: Global, size: usize, end: &[u8]) -> Result<Vec<u8>, AllocError> {
+    let mut bytes = b"a\n".to_vec(alloc)?;
+    bytes.extend_from_slice(&vec![in alloc; b'x'; size]?)?;
+    bytes.extend_from_slice(end)?;
+    Ok(bytes)
+}
+
+// What comes for it.
 fn check_long(
     rt: &impl Abort,
     alloc: Global,
@@ -145,65 +184,58 @@ fn check_long(
     end: &[u8],
     wanted: Result<Line, LineError>,
 ) -> Result<(), Fail> {
-    let mut bytes = b"a\n".to_vec(alloc)?;
-    bytes.extend_from_slice(&vec![in alloc; b'x'; size]?)?;
-    bytes.extend_from_slice(end)?;
-    let mut reader = LineReader::new(alloc, PlainSource::new(bytes))
-        .ok()
-        .ok_or("memory")?;
+    let bytes = long_line(alloc, size, end)?;
+    let mut reader = reader_of(alloc, PlainSource::new(bytes))?;
     let mut line = Vec::new(alloc);
-    assert_eq!(rt; reader.next(&mut line), Ok(Line::Text));
-    assert_eq!(rt; reader.next(&mut line), wanted);
+    let found = [reader.next(&mut line), reader.next(&mut line)];
+    assert_eq!(rt; found, [Ok(Line::Text), wanted], "at {size}");
     if wanted == Ok(Line::Text) {
-        assert_eq!(rt; line.len(), size);
-        assert_eq!(rt; reader.line().len(), size);
+        assert_eq!(rt; [line.len(), reader.line().len()], [size, size]);
     }
     Ok(())
 }
 
+const TOO_LONG: Result<Line, LineError> = Err(LineError::TooLong { at: 2 });
+
+// Sizes of lines, what stands behind the line, and what comes for it.
+static LONG: [(usize, &str, Result<Line, LineError>); 6] = [
+    (65_535, "\n", Ok(Line::Text)),
+    (65_536, "\n", Ok(Line::Text)),
+    (65_536, "", Ok(Line::Text)),
+    (65_537, "\n", TOO_LONG),
+    (65_537, "", TOO_LONG),
+    (200_000, "\n", TOO_LONG),
+];
+
 #[test]
 fn the_longest_line_has_65536_bytes(rt: HostRuntime) -> Result<(), Fail> {
-    check_long(&rt, rt.alloc(), 65_535, b"\n", Ok(Line::Text))?;
-    check_long(&rt, rt.alloc(), 65_536, b"\n", Ok(Line::Text))?;
-    check_long(&rt, rt.alloc(), 65_536, b"", Ok(Line::Text))?;
-    check_long(
-        &rt,
-        rt.alloc(),
-        65_537,
-        b"\n",
-        Err(LineError::TooLong { at: 2 }),
-    )?;
-    check_long(
-        &rt,
-        rt.alloc(),
-        65_537,
-        b"",
-        Err(LineError::TooLong { at: 2 }),
-    )?;
-    check_long(
-        &rt,
-        rt.alloc(),
-        200_000,
-        b"\n",
-        Err(LineError::TooLong { at: 2 }),
-    )
+    for (size, end, wanted) in &LONG {
+        check_long(&rt, rt.alloc(), *size, end.as_bytes(), *wanted)?;
+    }
+    Ok(())
+}
+
+fn repeated(alloc: Global, line: &[u8], count: usize) -> Result<Vec<u8>, AllocError> {
+    let mut bytes = Vec::new(alloc);
+    for _ in 0..count {
+        bytes.extend_from_slice(line)?;
+    }
+    Ok(bytes)
+}
+
+fn check_next(rt: &impl Abort, reader: &mut LineReader<PlainSource>, next: Line, line: &[u8]) {
+    assert_eq!(rt; reader.advance(), Ok(next));
+    assert_eq!(rt; reader.line(), line);
 }
 
 #[test]
 fn many_lines_go_through_one_buffer(rt: HostRuntime) -> Result<(), Fail> {
     let alloc = rt.alloc();
-    let mut bytes = Vec::new(alloc);
+    let bytes = repeated(alloc, b"0123456789abcdef\n", 20_000)?;
+    let mut reader = reader_of(alloc, PlainSource::new(bytes))?;
     for _ in 0..20_000 {
-        bytes.extend_from_slice(b"0123456789abcdef\n")?;
+        check_next(&rt, &mut reader, Line::Text, b"0123456789abcdef");
     }
-    let mut reader = LineReader::new(alloc, PlainSource::new(bytes))
-        .ok()
-        .ok_or("memory")?;
-    for _ in 0..20_000 {
-        assert_eq!(rt; reader.advance(), Ok(Line::Text));
-        assert_eq!(rt; reader.line(), b"0123456789abcdef".as_slice());
-    }
-    assert_eq!(rt; reader.advance(), Ok(Line::End));
-    assert_eq!(rt; reader.line().is_empty(), true);
+    check_next(&rt, &mut reader, Line::End, b"");
     Ok(())
 }

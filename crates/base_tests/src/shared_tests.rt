@@ -1,11 +1,11 @@
 //! What the seats of shared drivers answer, call by call.
 use crate::driver_tests::{
-    CREATE, DESTROY, Step, are_recorded, ask_for_most, call_of, call_with, has_most,
-    is_that_answer, play_one, reply_with, tell,
+    CREATE, DESTROY, Step, are_recorded, call_for_most, call_of, has_most, is_that_answer,
+    most_given, play_one, reply_with, tell,
 };
 use model_driver::{
-    DriverCall, DriverReply, Policy, RecordingSeat, RecordingShared, SeatDriver, SharedDriver,
-    SharedModel,
+    Driver, DriverCall, DriverReply, Policy, RecordingSeat, RecordingShared, SeatDriver,
+    SharedDriver, SharedModel,
 };
 use std::alloc::Global;
 use std::process::Abort;
@@ -174,26 +174,34 @@ fn ends_with(log: &[(DriverCall, DriverReply)], value: u64) -> bool {
     }
 }
 
-// A seat with room for as many calls as a file of streams can have, the most handles that one call can ask for, and then
-// a thousand calls.
+// Checks what a seat records of a call for the most handles that there are and a thousand calls after it.
+fn check_many(rt: &impl Abort, log: &[(DriverCall, DriverReply)]) {
+    assert_eq!(rt; log.len(), 1001);
+    assert!(rt; starts_with_most(log));
+    assert!(rt; ends_with(log, 2024));
+}
+
+// Makes that call, and the thousand.
+fn play_many<D: Driver>(rt: &impl Abort, alloc: Global, driver: &mut D) -> Result<(), Fail> {
+    let call = call_for_most(alloc)?;
+    let reply = most_given(alloc, driver, &call, 0)?;
+    assert!(rt; has_most(&reply));
+    for value in 1025..2025 {
+        play_one(rt, alloc, driver, value)?;
+    }
+    Ok(())
+}
+
+// A seat with room for as many calls as a file of streams can have.
 #[test]
 fn many_calls_at_a_seat(rt: HostRuntime) -> Result<(), Fail> {
     let alloc = rt.alloc();
     let driver = RecordingShared::new(SharedModel::new());
     let seat = driver.seat(alloc, Policy::Reuse, 131_072, 262_144, 1_048_576)?;
-    let mut call = call_with(alloc, 1026)?;
-    ask_for_most(&mut call)?;
-    let mut reply = reply_with(alloc, 0)?;
     let mut at = SeatDriver::new(&driver, seat);
-    tell(&mut at, &call, &mut reply)?;
-    assert!(rt; has_most(&reply));
-    for value in 1025..2025 {
-        play_one(&rt, alloc, &mut at, value)?;
-    }
+    play_many(&rt, alloc, &mut at)?;
     let seats = vec![in alloc; at.into_seat()]?;
     let log = logged(alloc, &seats)?;
-    assert_eq!(rt; log.len(), 1001);
-    assert!(rt; starts_with_most(&log));
-    assert!(rt; ends_with(&log, 2024));
+    check_many(&rt, &log);
     Ok(())
 }

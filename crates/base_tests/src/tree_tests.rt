@@ -1,25 +1,52 @@
 // What no clause says: that calls succeed with ample memory, and what the file system answers. The expected answers are
 // written by hand.
 use replay_base::{FsTree, MemTree, NoMemory, Tree, TreeError, TreeRead};
-use std::alloc::{Allocator, Global};
+use std::alloc::{AllocError, Allocator, Global};
 use std::fs::{self, Metadata, OpenOptions};
 use std::io::{self, ErrorKind, Read};
+use std::process::Abort;
 use std::rt::Files;
 use std::test::Fail;
 use std::{env, process};
 
-// The names in a folder, sorted, each with a space behind it. What was in the list before is gone.
-fn listed<T: Tree>(alloc: Global, tree: &mut T, folder: &str) -> Result<String, TreeError> {
+// The names in a folder, sorted. What was in the list before is gone.
+fn names_in<T: Tree>(alloc: Global, tree: &mut T, folder: &str) -> Result<Vec<String>, TreeError> {
     let mut names = Vec::new(alloc);
     names.push(String::from_str(alloc, "old")?)?;
     tree.list(folder, &mut names)?;
     names.sort()?;
+    Ok(names)
+}
+
+fn joined(alloc: Global, names: &[String]) -> Result<String, AllocError> {
     let mut text = String::new(alloc);
-    for name in &names {
+    for name in names {
         text.push_str(name)?;
         text.push(' ')?;
     }
     Ok(text)
+}
+
+// The same with a space behind each.
+fn listed<T: Tree>(alloc: Global, tree: &mut T, folder: &str) -> Result<String, TreeError> {
+    let names = names_in(alloc, tree, folder)?;
+    Ok(joined(alloc, &names)?)
+}
+
+fn check_list<T: Tree>(
+    rt: &impl Abort,
+    alloc: Global,
+    tree: &mut T,
+    folder: &str,
+    names: &str,
+) -> Result<(), TreeError> {
+    let found = listed(alloc, tree, folder)?;
+    assert_eq!(rt; found.as_str(), names, "in {folder}");
+    Ok(())
+}
+
+fn list_fault<T: Tree>(alloc: Global, tree: &mut T, folder: &str) -> Option<TreeError> {
+    listed(alloc, tree, folder).err()
 }
 
 // What a read answers, and how many bytes it gives: those that were there before are gone.
@@ -56,42 +83,53 @@ fn a_tree_in_memory_lists_and_reads(rt: HostRuntime) -> Result<(), Fail> {
         ("", ""),
         ("/none", ""),
     ] {
-        let found = listed(alloc, &mut tree, folder)?;
-        assert_eq!(rt; found.as_str(), names, "in {folder}");
+        check_list(&rt, alloc, &mut tree, folder, names)?;
     }
-    let mut bytes = Vec::new(alloc);
-    assert_eq!(rt; tree.read("/d/b.json", 3, &mut bytes), Ok(TreeRead::Data));
-    assert_eq!(rt; bytes.as_slice(), b"bbb".as_slice());
-    assert_eq!(rt;
-        taken(alloc, &mut tree, "/d/b.json", 2),
-        Ok((TreeRead::TooLarge, 0))
-    );
-    assert_eq!(rt;
-        taken(alloc, &mut tree, "/d/c.json", 9),
-        Ok((TreeRead::Absent, 0))
-    );
+    check_memory_reads(&rt, alloc, &mut tree);
     Ok(())
+}
+
+fn check_memory_reads(rt: &impl Abort, alloc: Global, tree: &mut MemTree) {
+    let mut bytes = Vec::new(alloc);
+    let answer = tree.read("/d/b.json", 3, &mut bytes);
+    assert_eq!(rt;
+        (answer, bytes.as_slice()),
+        (Ok(TreeRead::Data), b"bbb".as_slice())
+    );
+    let others = [
+        taken(alloc, tree, "/d/b.json", 2),
+        taken(alloc, tree, "/d/c.json", 9),
+    ];
+    assert_eq!(rt;
+        others,
+        [Ok((TreeRead::TooLarge, 0)), Ok((TreeRead::Absent, 0))]
+    );
+}
+
+// The same tree, whose second and fourth call fail.
+fn failing(alloc: Global) -> Result<MemTree, NoMemory> {
+    let mut tree = planted(alloc)?;
+    tree.fail_at(2)?;
+    tree.fail_at(4)?;
+    Ok(tree)
+}
+
+fn check_failing(rt: &impl Abort, alloc: Global, tree: &mut MemTree) {
+    let first = list_fault(alloc, tree, "/dd");
+    let reads = [
+        taken(alloc, tree, "/dd/e.json", 1),
+        taken(alloc, tree, "/dd/e.json", 1),
+    ];
+    let last = list_fault(alloc, tree, "/dd");
+    assert_eq!(rt; [first, last], [None, Some(TreeError::Failed)]);
+    assert_eq!(rt; reads, [Err(TreeError::Failed), Ok((TreeRead::Data, 1))]);
 }
 
 #[test]
 fn calls_with_a_listed_number_fail(rt: HostRuntime) -> Result<(), Fail> {
     let alloc = rt.alloc();
-    let mut tree = planted(alloc).ok().ok_or("memory")?;
-    assert_eq!(rt; tree.fail_at(2), Ok(()));
-    assert_eq!(rt; tree.fail_at(4), Ok(()));
-    assert_eq!(rt; listed(alloc, &mut tree, "/dd").is_ok(), true);
-    assert_eq!(rt;
-        taken(alloc, &mut tree, "/dd/e.json", 1),
-        Err(TreeError::Failed)
-    );
-    assert_eq!(rt;
-        taken(alloc, &mut tree, "/dd/e.json", 1),
-        Ok((TreeRead::Data, 1))
-    );
-    assert_eq!(rt;
-        listed(alloc, &mut tree, "/dd").err(),
-        Some(TreeError::Failed)
-    );
+    let mut tree = failing(alloc).ok().ok_or("memory")?;
+    check_failing(&rt, alloc, &mut tree);
     Ok(())
 }
 
@@ -104,37 +142,68 @@ fn plant(rt: &HostRuntime, folder: &str) -> io::Result<()> {
     fs::create_dir(rt, format!(in alloc; "{folder}/x.json")?)
 }
 
-#[test]
-fn the_file_system_is_a_tree(rt: HostRuntime) -> Result<(), Fail> {
-    let alloc = rt.alloc();
-    let temp = env::temp_dir(&rt)?;
+fn own_folder(rt: &HostRuntime) -> Result<String, Fail> {
+    let temp = env::temp_dir(rt)?;
     let id = process::id(rt.process());
-    let folder = format!(in alloc; "{}/vkreplay_tree_{id}", temp.as_path().as_str())?;
-    plant(&rt, folder.as_str())?;
-    let mut tree = FsTree::new(&rt);
-    let names = listed(alloc, &mut tree, folder.as_str())?;
-    assert_eq!(rt; names.as_str(), "a.json b.txt x.json ");
-    for (name, max, wanted) in [
-        ("a.json", 5, Ok((TreeRead::Data, 5))),
-        ("a.json", 4, Ok((TreeRead::TooLarge, 0))),
-        ("b.txt", 0, Ok((TreeRead::Data, 0))),
-        ("none.json", 9, Ok((TreeRead::Absent, 0))),
-        ("none/a.json", 9, Ok((TreeRead::Absent, 0))),
-        ("a.json/a.json", 9, Ok((TreeRead::Absent, 0))),
-        ("x.json", 9, Err(TreeError::Failed)),
-    ] {
+    Ok(format!(in rt.alloc(); "{}/vkreplay_tree_{id}", temp.as_path().as_str())?)
+}
+
+// Paths in the folder, how many bytes may be read there, and what a read answers.
+static FILES: [(&str, usize, Result<(TreeRead, usize), TreeError>); 7] = [
+    ("a.json", 5, Ok((TreeRead::Data, 5))),
+    ("a.json", 4, Ok((TreeRead::TooLarge, 0))),
+    ("b.txt", 0, Ok((TreeRead::Data, 0))),
+    ("none.json", 9, Ok((TreeRead::Absent, 0))),
+    ("none/a.json", 9, Ok((TreeRead::Absent, 0))),
+    ("a.json/a.json", 9, Ok((TreeRead::Absent, 0))),
+    ("x.json", 9, Err(TreeError::Failed)),
+];
+
+fn check_files<T: Tree>(
+    rt: &impl Abort,
+    alloc: Global,
+    tree: &mut T,
+    folder: &str,
+) -> Result<(), AllocError> {
+    for (name, max, wanted) in &FILES {
         let path = format!(in alloc; "{folder}/{name}")?;
         assert_eq!(rt;
-            taken(alloc, &mut tree, path.as_str(), max),
-            wanted,
+            taken(alloc, tree, path.as_str(), *max),
+            *wanted,
             "at {name}"
         );
     }
+    Ok(())
+}
+
+fn check_no_names<T: Tree>(
+    rt: &impl Abort,
+    alloc: Global,
+    tree: &mut T,
+    folder: &str,
+) -> Result<(), TreeError> {
     for name in ["none", "a.json", "a.json/b", "x.json"] {
         let path = format!(in alloc; "{folder}/{name}")?;
-        let names = listed(alloc, &mut tree, path.as_str())?;
-        assert_eq!(rt; names.as_str(), "", "in {name}");
+        check_list(rt, alloc, tree, path.as_str(), "")?;
     }
+    Ok(())
+}
+
+#[test]
+fn the_file_system_is_a_tree(rt: HostRuntime) -> Result<(), Fail> {
+    let alloc = rt.alloc();
+    let folder = own_folder(&rt)?;
+    plant(&rt, folder.as_str())?;
+    let mut tree = FsTree::new(&rt);
+    check_list(
+        &rt,
+        alloc,
+        &mut tree,
+        folder.as_str(),
+        "a.json b.txt x.json ",
+    )?;
+    check_files(&rt, alloc, &mut tree, folder.as_str())?;
+    check_no_names(&rt, alloc, &mut tree, folder.as_str())?;
     fs::remove_dir_all(&rt, folder.as_str())?;
     Ok(())
 }
@@ -233,25 +302,27 @@ impl Files for Guarded {
     }
 }
 
-#[test]
-fn a_name_that_is_no_text_is_left_out(rt: HostRuntime) -> Result<(), Fail> {
-    let alloc = rt.alloc();
-    let guarded = Guarded { rt, fails: false };
-    let mut tree = FsTree::new(&guarded);
-    let names = listed(alloc, &mut tree, "d")?;
-    assert_eq!(rt; names.as_str(), "a.json b.json ");
+fn check_guarded(rt: &impl Abort, alloc: Global, guarded: &Guarded) -> Result<(), TreeError> {
+    let mut tree = FsTree::new(guarded);
+    check_list(rt, alloc, &mut tree, "d", "a.json b.json ")?;
     assert_eq!(rt;
-        listed(alloc, &mut tree, "denied").err(),
+        list_fault(alloc, &mut tree, "denied"),
         Some(TreeError::Failed)
     );
     assert_eq!(rt;
         taken(alloc, &mut tree, "d/a.json", 9),
         Err(TreeError::Failed)
     );
+    Ok(())
+}
+
+#[test]
+fn a_name_that_is_no_text_is_left_out(rt: HostRuntime) -> Result<(), Fail> {
+    check_guarded(&rt, rt.alloc(), &Guarded { rt, fails: false })?;
     let guarded = Guarded { rt, fails: true };
     let mut tree = FsTree::new(&guarded);
     assert_eq!(rt;
-        listed(alloc, &mut tree, "d").err(),
+        list_fault(rt.alloc(), &mut tree, "d"),
         Some(TreeError::Failed)
     );
     Ok(())

@@ -1,7 +1,7 @@
 // Lists of words, parted by `|`, and what they ask for.
 use model_driver::Policy;
-use program_words::{GenWords, Request, RunWords, WordsError, read_words};
-use std::alloc::Global;
+use program_words::{GenWords, Request, RunWords, SoakWords, WordsError, read_words};
+use std::alloc::{AllocError, Global};
 use std::process::Abort;
 use std::test::Fail;
 
@@ -228,36 +228,44 @@ fn policy_name(policy: Policy) -> &'static str {
     }
 }
 
-fn shown_run(alloc: Global, run: &RunWords<'_>) -> Result<String, Fail> {
+fn shown_run(alloc: Global, run: &RunWords<'_>) -> Result<String, AllocError> {
     let driver = policy_name(run.policy);
-    Ok(format!(in alloc; "root={} driver={driver} exe={}", run.root, run.exe)?)
+    format!(in alloc; "root={} driver={driver} exe={}", run.root, run.exe)
 }
 
-fn shown_gen(alloc: Global, made: &GenWords) -> Result<String, Fail> {
-    Ok(format!(in alloc; "number={} calls={}", made.number, made.calls)?)
+fn shown_gen(alloc: Global, made: &GenWords) -> Result<String, AllocError> {
+    format!(in alloc; "number={} calls={}", made.number, made.calls)
 }
 
-fn shown(alloc: Global, words: &[String]) -> Result<String, Fail> {
-    match read_words(alloc, words) {
-        Ok(Request::Run(run)) => {
-            let run = shown_run(alloc, &run)?;
-            Ok(format!(in alloc; "run {run}")?)
+fn shown_soak(alloc: Global, soak: &SoakWords<'_>) -> Result<String, AllocError> {
+    let run = shown_run(alloc, &soak.run)?;
+    let made = shown_gen(alloc, &soak.made)?;
+    format!(in alloc; "soak {run} {made}")
+}
+
+fn shown_request(alloc: Global, request: &Request<'_>) -> Result<String, AllocError> {
+    match request {
+        Request::Run(run) => {
+            let run = shown_run(alloc, run)?;
+            format!(in alloc; "run {run}")
         }
-        Ok(Request::Chain(chain)) => Ok(format!(in alloc;
+        Request::Chain(chain) => format!(in alloc;
             "chain root={} exe={} layers={}",
             chain.root, chain.exe, chain.layers
-        )?),
-        Ok(Request::Gen(made)) => {
-            let made = shown_gen(alloc, &made)?;
-            Ok(format!(in alloc; "gen {made}")?)
+        ),
+        Request::Gen(made) => {
+            let made = shown_gen(alloc, made)?;
+            format!(in alloc; "gen {made}")
         }
-        Ok(Request::Soak(soak)) => {
-            let run = shown_run(alloc, &soak.run)?;
-            let made = shown_gen(alloc, &soak.made)?;
-            Ok(format!(in alloc; "soak {run} {made}")?)
-        }
-        Err(WordsError::Usage) => Ok(format!(in alloc; "usage")?),
-        Err(WordsError::NoMemory) => Ok(format!(in alloc; "no memory")?),
+        Request::Soak(soak) => shown_soak(alloc, soak),
+    }
+}
+
+fn shown(alloc: Global, words: &[String]) -> Result<String, AllocError> {
+    match read_words(alloc, words) {
+        Ok(request) => shown_request(alloc, &request),
+        Err(WordsError::Usage) => String::from_str(alloc, USAGE),
+        Err(WordsError::NoMemory) => String::from_str(alloc, "no memory"),
     }
 }
 

@@ -15,10 +15,15 @@ type Row = (
     &'static str,
 );
 
-fn check(rt: &impl Abort, alloc: Global, row: &Row) -> Result<(), Fail> {
-    let (explicit, implicit, variables, app, wanted) = *row;
+fn built_of(alloc: Global, row: &Row) -> Result<String, AllocError> {
+    let (explicit, implicit, variables, app, _) = *row;
     let setup = setup_of(alloc, explicit, implicit, variables)?;
-    let text = built(alloc, &setup, app)?;
+    built(alloc, &setup, app)
+}
+
+fn check(rt: &impl Abort, alloc: Global, row: &Row) -> Result<(), Fail> {
+    let (explicit, implicit, variables, _, wanted) = *row;
+    let text = built_of(alloc, row)?;
     assert_eq!(rt;
         text.as_str(),
         wanted,
@@ -299,11 +304,15 @@ fn over_of(alloc: Global, blacklist: &str) -> Result<FoundLayer, AllocError> {
     Ok(FoundLayer { path, entry })
 }
 
+fn built_without(alloc: Global, row: &Row) -> Result<String, AllocError> {
+    let setup = blacklisting(alloc, row)?;
+    built(alloc, &setup, "A M")
+}
+
 fn check_blacklists(rt: &impl Abort, alloc: Global, rows: &[Row]) -> Result<(), Fail> {
     for row in rows {
         let (explicit, implicit, blacklist, _, wanted) = *row;
-        let setup = blacklisting(alloc, row)?;
-        let text = built(alloc, &setup, "A M")?;
+        let text = built_without(alloc, row)?;
         assert_eq!(rt;
             text.as_str(),
             wanted,

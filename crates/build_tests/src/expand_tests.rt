@@ -9,7 +9,7 @@ use std::test::Fail;
 type Row = (&'static str, &'static str, &'static str, &'static str);
 
 // The names that a name stands for, each with a blank behind it.
-fn expanded(alloc: Global, setup: &Setup, name: &str) -> Result<String, AllocError> {
+fn shown(alloc: Global, setup: &Setup, name: &str) -> Result<String, AllocError> {
     let mut text = String::new(alloc);
     match expand(alloc, setup, name).ok().ok_or(AllocError)? {
         Some(names) => add_names(&names, &mut text)?,
@@ -25,10 +25,15 @@ fn add_names(names: &[String], text: &mut String) -> Result<(), AllocError> {
     Ok(())
 }
 
+fn expanded(alloc: Global, row: &Row) -> Result<String, AllocError> {
+    let (explicit, implicit, name, _) = *row;
+    let setup = setup_of(alloc, explicit, implicit, "VK_LOADER_LAYERS_DISABLE=~all~")?;
+    shown(alloc, &setup, name)
+}
+
 fn check(rt: &impl Abort, alloc: Global, row: &Row) -> Result<(), Fail> {
     let (explicit, implicit, name, wanted) = *row;
-    let setup = setup_of(alloc, explicit, implicit, "VK_LOADER_LAYERS_DISABLE=~all~")?;
-    let text = expanded(alloc, &setup, name)?;
+    let text = expanded(alloc, row)?;
     assert_eq!(rt; text.as_str(), wanted, "{explicit} | {implicit} | {name}");
     Ok(())
 }

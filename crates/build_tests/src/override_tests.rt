@@ -1,8 +1,8 @@
 // The setup that files and variables come to, and the chain that is built of it; the expected answers are written by hand.
-use crate::test_setups::{built, env_of, shown};
+use crate::test_setups::{built, env_of, joined, shown};
 use chain_build::{ChainAnswer, ChainError, Setup, build, read_setup};
 use env_filters::EnvList;
-use layer_search::{FoundLayer, Note, SearchError};
+use layer_search::{FoundLayer, LayerList, SearchError};
 use replay_base::MemTree;
 use std::alloc::{AllocError, Global};
 use std::process::Abort;
@@ -19,15 +19,17 @@ pub(crate) fn put(tree: &mut MemTree, path: &str, text: &str) -> Result<(), Allo
 
 // The manifest of a layer with these members beside those that each has. The variable `D_NAME` turns it off.
 pub(crate) fn manifest(alloc: Global, name: &str, members: &str) -> Result<String, AllocError> {
-    let mut text = String::from_str(alloc, r#"{"file_format_version":"1.2.0","layer":{"name":""#)?;
-    text.push_str(name)?;
-    text.push_str(r#"","type":"GLOBAL","api_version":"1.3.275","implementation_version":"1","#)?;
-    text.push_str(r#""description":"","disable_environment":{"D_"#)?;
-    text.push_str(name)?;
-    text.push_str(r#"":"1"},"#)?;
-    text.push_str(members)?;
-    text.push_str("}}")?;
-    Ok(text)
+    let pieces = [
+        r#"{"file_format_version":"1.2.0","layer":{"name":""#,
+        name,
+        r#"","type":"GLOBAL","api_version":"1.3.275","implementation_version":"1","#,
+        r#""description":"","disable_environment":{"D_"#,
+        name,
+        r#"":"1"},"#,
+        members,
+        "}}",
+    ];
+    joined(alloc, &pieces)
 }
 
 const OVERRIDE: &str = "VK_LAYER_LUNARG_override";
@@ -86,33 +88,34 @@ fn tree_of(alloc: Global, members: &str) -> Result<MemTree, AllocError> {
     Ok(tree)
 }
 
-// Adds the names of layers, a bar, and the kinds of notes.
-fn add(layers: &[FoundLayer], notes: &[Note], text: &mut String) -> Result<(), AllocError> {
+fn add_names(layers: &[FoundLayer], text: &mut String) -> Result<(), AllocError> {
     for layer in layers {
         let name = layer.entry.name.as_str();
-        write!(
-            text,
-            "{} ",
-            name.strip_prefix("VK_LAYER_LUNARG_").unwrap_or(name)
-        )?;
-    }
-    text.push('|')?;
-    for note in notes {
-        write!(text, "{:?} ", note.kind)?;
+        let short = name.strip_prefix("VK_LAYER_LUNARG_").unwrap_or(name);
+        write!(text, "{short} ")?;
     }
     Ok(())
+}
+
+// Adds the names of layers, a bar, the kinds of notes, and a slash.
+fn add(found: &LayerList, text: &mut String) -> Result<(), AllocError> {
+    add_names(&found.list, text)?;
+    text.push('|')?;
+    for note in &found.notes {
+        write!(text, "{:?} ", note.kind)?;
+    }
+    text.push_str("/ ")
 }
 
 // What the setup holds: the explicit layers, the implicit ones, and whether there is an override.
 fn shown_setup(alloc: Global, setup: &Setup) -> Result<String, AllocError> {
     let mut text = String::new(alloc);
-    add(&setup.explicit.list, &setup.explicit.notes, &mut text)?;
-    text.push_str("/ ")?;
-    add(&setup.implicit.list, &setup.implicit.notes, &mut text)?;
-    match &setup.over {
-        Some(over) => write!(text, "/ {}", over.entry.name.as_str())?,
-        None => text.push_str("/ none")?,
-    }
+    add(&setup.explicit, &mut text)?;
+    add(&setup.implicit, &mut text)?;
+    text.push_str(match &setup.over {
+        Some(over) => over.entry.name.as_str(),
+        None => "none",
+    })?;
     Ok(text)
 }
 
@@ -157,13 +160,19 @@ fn setup_of(alloc: Global, members: &str, variables: &str, exe: &str) -> Result<
     Ok(read_setup(alloc, &mut tree, &env, "", exe)?)
 }
 
-fn check(rt: &impl Abort, alloc: Global, row: &Row) -> Result<(), Fail> {
-    let (members, variables, exe, wanted, chain) = *row;
+// A row's setup, and the chain for no layer of the application.
+fn found_of(alloc: Global, row: &Row) -> Result<(String, String), Fail> {
+    let (members, variables, exe, _, _) = *row;
     let setup = setup_of(alloc, members, variables, exe)?;
     let text = shown_setup(alloc, &setup)?;
-    assert_eq!(rt; text.as_str(), wanted, "{members} {variables} {exe}");
-    let text = built(alloc, &setup, "")?;
-    assert_eq!(rt; text.as_str(), chain, "{members} {variables} {exe}");
+    Ok((text, built(alloc, &setup, "")?))
+}
+
+fn check(rt: &impl Abort, alloc: Global, row: &Row) -> Result<(), Fail> {
+    let (members, variables, exe, wanted, chain) = *row;
+    let (setup, built) = found_of(alloc, row)?;
+    let found = (setup.as_str(), built.as_str());
+    assert_eq!(rt; found, (wanted, chain), "{members} {variables} {exe}");
     Ok(())
 }
 
@@ -454,10 +463,14 @@ fn driven(alloc: Global, variables: &str) -> Result<Setup, Fail> {
     Ok(read_setup(alloc, &mut tree, &env, "", "")?)
 }
 
+fn drivers_under(alloc: Global, variables: &str) -> Result<String, Fail> {
+    let setup = driven(alloc, variables)?;
+    Ok(shown_drivers(alloc, &build(alloc, &setup, &[]))?)
+}
+
 fn check_drivers(rt: &impl Abort, alloc: Global, rows: &[(&str, &str)]) -> Result<(), Fail> {
     for (variables, wanted) in rows {
-        let setup = driven(alloc, variables)?;
-        let text = shown_drivers(alloc, &build(alloc, &setup, &[]))?;
+        let text = drivers_under(alloc, variables)?;
         assert_eq!(rt; text.as_str(), *wanted, "{variables}");
     }
     Ok(())
@@ -479,18 +492,17 @@ fn empty(alloc: Global) -> Result<Setup, Fail> {
 fn an_empty_tree_has_no_driver(rt: HostRuntime) -> Result<(), Fail> {
     let setup = empty(rt.alloc())?;
     let text = shown_setup(rt.alloc(), &setup)?;
-    assert_eq!(rt; text.as_str(), "|/ |/ none");
-    assert_eq!(rt; setup.exe.as_str(), "/bin/x");
-    assert_eq!(rt; setup.env.get("HOME"), Some("/home/u"));
+    let found = (text.as_str(), setup.exe.as_str(), setup.env.get("HOME"));
+    assert_eq!(rt; found, ("|/ |/ none", "/bin/x", Some("/home/u")));
     Ok(())
 }
 
 #[test]
 fn an_empty_tree_has_no_chain(rt: HostRuntime) -> Result<(), Fail> {
     let setup = empty(rt.alloc())?;
-    let text = built(rt.alloc(), &setup, "")?;
-    assert_eq!(rt; text.as_str(), "no driver");
-    let text = built(rt.alloc(), &setup, "A")?;
-    assert_eq!(rt; text.as_str(), "missing A");
+    for (app, wanted) in [("", "no driver"), ("A", "missing A")] {
+        let text = built(rt.alloc(), &setup, app)?;
+        assert_eq!(rt; text.as_str(), wanted, "{app}");
+    }
     Ok(())
 }

@@ -25,10 +25,10 @@ fn numbered(alloc: Global, count: u32, behind: &str) -> Result<String, AllocErro
 
 // So many variables, and a disable list of as many names.
 fn sized_env(alloc: Global, count: u32) -> Result<EnvList, AllocError> {
-    let mut variables = numbered(alloc, count, "=x;")?;
-    variables.push_str("VK_LOADER_LAYERS_DISABLE=")?;
-    variables.push_str(numbered(alloc, count, ",")?.as_str())?;
-    env_of(alloc, variables.as_str())
+    let variables = numbered(alloc, count, "=x;")?;
+    let names = numbered(alloc, count, ",")?;
+    let text = format!(in alloc; "{variables}VK_LOADER_LAYERS_DISABLE={names}")?;
+    env_of(alloc, text.as_str())
 }
 
 // The layer of a number.
@@ -46,8 +46,10 @@ fn enabled_layer(alloc: Global, number: u32) -> Result<LayerEntry, AllocError> {
     Ok(layer)
 }
 
-fn is_on(alloc: Global, layer: &LayerEntry, env: &EnvList) -> Result<bool, AllocError> {
-    implicit_on(alloc, layer, env).ok().ok_or(AllocError)
+// Whether a layer is on under so many variables and names.
+fn is_on(alloc: Global, layer: &LayerEntry, count: u32) -> Result<bool, AllocError> {
+    let env = sized_env(alloc, count)?;
+    implicit_on(alloc, layer, &env).ok().ok_or(AllocError)
 }
 
 // How many variables and names there are, a layer's number, and whether it is on.
@@ -64,9 +66,9 @@ static NUMBERS: [(u32, u32, bool); 8] = [
 
 fn check_numbers(rt: &impl Abort, alloc: Global, rows: &[(u32, u32, bool)]) -> Result<(), Fail> {
     for (count, number, wanted) in rows {
-        let env = sized_env(alloc, *count)?;
         let layer = numbered_layer(alloc, *number)?;
-        assert_eq!(rt; is_on(alloc, &layer, &env)?, *wanted, "{count} {number}");
+        let found = is_on(alloc, &layer, *count)?;
+        assert_eq!(rt; found, *wanted, "{count} {number}");
     }
     Ok(())
 }
@@ -79,28 +81,28 @@ fn implicit_on_by_lists_of_every_size(rt: HostRuntime) -> Result<(), Fail> {
 #[test]
 fn implicit_on_by_the_last_of_many_variables(rt: HostRuntime) -> Result<(), Fail> {
     for count in [1, 30, 4_096] {
-        let env = sized_env(rt.alloc(), count)?;
         let layer = enabled_layer(rt.alloc(), count)?;
-        assert_eq!(rt; is_on(rt.alloc(), &layer, &env)?, true);
+        let is_on = is_on(rt.alloc(), &layer, count)?;
+        assert!(rt; is_on, "{count}");
     }
     Ok(())
 }
 
 // A meta-layer of a meta-layer of so many layers.
 fn nested(alloc: Global, count: u32, implicit: &str) -> Result<Setup, AllocError> {
-    let mut explicit = String::from_str(alloc, "L=M M=")?;
-    explicit.push_str(numbered(alloc, count, ",")?.as_str())?;
+    let names = numbered(alloc, count, ",")?;
+    let explicit = format!(in alloc; "L=M M={names}")?;
     setup_of(alloc, explicit.as_str(), implicit, "")
 }
 
-fn expanded(alloc: Global, setup: &Setup) -> Result<Option<Vec<String>>, AllocError> {
-    expand(alloc, setup, "L").ok().ok_or(AllocError)
+fn expanded(alloc: Global, count: u32, implicit: &str) -> Result<Option<Vec<String>>, AllocError> {
+    let setup = nested(alloc, count, implicit)?;
+    expand(alloc, &setup, "L").ok().ok_or(AllocError)
 }
 
 fn check_expanded(rt: &impl Abort, alloc: Global, count: u32) -> Result<(), Fail> {
     let implicit = numbered(alloc, count, " ")?;
-    let setup = nested(alloc, count, implicit.as_str())?;
-    let found = expanded(alloc, &setup)?;
+    let found = expanded(alloc, count, implicit.as_str())?;
     let wanted = words(alloc, implicit.as_str())?;
     assert_eq!(rt; found, Some(wanted), "{count}");
     Ok(())
@@ -132,12 +134,15 @@ fn listing(alloc: Global, count: u32) -> Result<Setup, AllocError> {
     setup_of(alloc, explicit.as_str(), "", "")
 }
 
-fn check_named(rt: &impl Abort, alloc: Global, count: u32, named: u32) -> Result<(), Fail> {
+fn built_of(alloc: Global, count: u32, app: &str) -> Result<String, AllocError> {
     let setup = listing(alloc, count)?;
-    let mut wanted = last_ones(alloc, count, named)?;
-    let text = built(alloc, &setup, wanted.as_str())?;
-    wanted.push('|')?;
-    assert_eq!(rt; text.as_str(), wanted.as_str());
+    built(alloc, &setup, app)
+}
+
+fn check_named(rt: &impl Abort, alloc: Global, count: u32, named: u32) -> Result<(), Fail> {
+    let names = last_ones(alloc, count, named)?;
+    let text = built_of(alloc, count, names.as_str())?;
+    assert_eq!(rt; text.strip_suffix('|'), Some(names.as_str()));
     Ok(())
 }
 
@@ -153,6 +158,15 @@ fn chains_of_every_size_are_built(rt: HostRuntime) -> Result<(), Fail> {
     check_all_named(&rt, rt.alloc(), &NAMED)
 }
 
+// What each layer of such a manifest has beside its name.
+static MEMBERS: &str =
+    r#""type":"GLOBAL","library_path":"lib.so","api_version":"1","implementation_version":"1","description":"","disable_environment":{"D":"1"}}"#;
+
+fn push_layer(text: &mut String, before: &str, number: u32) -> Result<(), AllocError> {
+    let comma = if number > 1 { "," } else { "" };
+    write!(text, "{comma}{{\"name\":\"{before}{number}\",{MEMBERS}")
+}
+
 // Puts a manifest of so many layers, whose names have a text before their numbers from 1 on.
 fn put_layers(
     alloc: Global,
@@ -163,13 +177,7 @@ fn put_layers(
 ) -> Result<(), AllocError> {
     let mut text = String::from_str(alloc, r#"{"file_format_version":"1.2.0","layers":["#)?;
     for number in 1..=count {
-        if number > 1 {
-            text.push(',')?;
-        }
-        write!(text, "{{\"name\":\"{before}{number}\",")?;
-        text.push_str(r#""type":"GLOBAL","library_path":"lib.so","api_version":"1","#)?;
-        text.push_str(r#""implementation_version":"1","description":"","#)?;
-        text.push_str(r#""disable_environment":{"D":"1"}}"#)?;
+        push_layer(&mut text, before, number)?;
     }
     text.push_str("]}")?;
     put(tree, path, text.as_str())
@@ -179,29 +187,19 @@ fn put_layers(
 fn sized_tree(alloc: Global, count: u32) -> Result<MemTree, AllocError> {
     let mut tree = MemTree::new(alloc);
     put(&mut tree, "/n1.json", DRIVER)?;
-    put_layers(
-        alloc,
-        &mut tree,
-        "/etc/vulkan/explicit_layer.d/l.json",
-        "n",
-        count,
-    )?;
-    put_layers(
-        alloc,
-        &mut tree,
-        "/etc/vulkan/implicit_layer.d/l.json",
-        "in",
-        count,
-    )?;
+    for (path, before) in [
+        ("/etc/vulkan/explicit_layer.d/l.json", "n"),
+        ("/etc/vulkan/implicit_layer.d/l.json", "in"),
+    ] {
+        put_layers(alloc, &mut tree, path, before, count)?;
+    }
     Ok(tree)
 }
 
 // Variables that name the driver, and files that aren't there: so many files in all.
 fn sized_variables(alloc: Global, count: u32) -> Result<String, AllocError> {
-    let mut text = String::from_str(alloc, "VK_DRIVER_FILES=/")?;
-    text.push_str(numbered(alloc, count, ".json:/")?.as_str())?;
-    text.push_str("n1.json;")?;
-    Ok(text)
+    let files = numbered(alloc, count, ".json:/")?;
+    format!(in alloc; "VK_DRIVER_FILES=/{files}n1.json;")
 }
 
 // How many layers of each kind and named drivers there are, and what comes where each implicit layer is on and `n1` is named.
@@ -221,14 +219,22 @@ fn sized_setup(alloc: Global, tree: &mut MemTree, count: u32, behind: &str) -> R
     Ok(read_setup(alloc, tree, &env, "", "")?)
 }
 
+type Counts = (usize, usize, usize, usize);
+
 // How many drivers, notes of drivers, explicit layers and implicit ones a setup has.
-fn counts(setup: &Setup) -> (usize, usize, usize, usize) {
+fn counts(setup: &Setup) -> Counts {
     (
         setup.drivers.list.len(),
         setup.drivers.notes.len(),
         setup.explicit.list.len(),
         setup.implicit.list.len(),
     )
+}
+
+// What a setup of a size has, and its chain where the application names `n1`.
+fn found_of(alloc: Global, tree: &mut MemTree, count: u32) -> Result<(Counts, String), Fail> {
+    let setup = sized_setup(alloc, tree, count, "")?;
+    Ok((counts(&setup), built(alloc, &setup, "n1")?))
 }
 
 fn check_size(
@@ -238,12 +244,18 @@ fn check_size(
     row: &(u32, &str),
 ) -> Result<(), Fail> {
     let (count, wanted) = *row;
-    let setup = sized_setup(alloc, tree, count, "")?;
     let size = count as usize;
-    assert_eq!(rt; counts(&setup), (1, size.saturating_sub(1), size, size));
-    let text = built(alloc, &setup, "n1")?;
-    assert_eq!(rt; text.as_str(), wanted);
+    let (found, text) = found_of(alloc, tree, count)?;
+    assert_eq!(rt;
+        (found, text.as_str()),
+        ((1, size.saturating_sub(1), size, size), wanted)
+    );
     Ok(())
+}
+
+fn built_without(alloc: Global, tree: &mut MemTree, count: u32) -> Result<String, Fail> {
+    let setup = sized_setup(alloc, tree, count, "VK_LOADER_LAYERS_DISABLE=~implicit~")?;
+    Ok(built(alloc, &setup, "n1")?)
 }
 
 fn check_size_without(
@@ -252,8 +264,7 @@ fn check_size_without(
     tree: &mut MemTree,
     count: u32,
 ) -> Result<(), Fail> {
-    let setup = sized_setup(alloc, tree, count, "VK_LOADER_LAYERS_DISABLE=~implicit~")?;
-    let text = built(alloc, &setup, "n1")?;
+    let text = built_without(alloc, tree, count)?;
     assert_eq!(rt; text.as_str(), "n1 |");
     Ok(())
 }
@@ -303,9 +314,8 @@ static NAMED_FILES: [(&str, u32, Option<SearchError>); 4] = [
 
 // Variables of which one names so many files.
 fn naming(alloc: Global, variable: &str, count: u32) -> Result<EnvList, AllocError> {
-    let mut text = String::from_str(alloc, variable)?;
-    text.push_str(numbered(alloc, count, ".json:/")?.as_str())?;
-    text.push_str("n1.json")?;
+    let files = numbered(alloc, count, ".json:/")?;
+    let text = format!(in alloc; "{variable}{files}n1.json")?;
     env_of(alloc, text.as_str())
 }
 
@@ -360,6 +370,6 @@ fn a_folder_of_an_override_that_is_off_is_not_searched(rt: HostRuntime) -> Resul
     let mut tree = crowded(rt.alloc())?;
     let env = env_of(rt.alloc(), "D_VK_LAYER_LUNARG_override=")?;
     let setup = read_setup(rt.alloc(), &mut tree, &env, "", "")?;
-    assert_eq!(rt; setup.over.is_none(), true);
+    assert!(rt; setup.over.is_none());
     Ok(())
 }

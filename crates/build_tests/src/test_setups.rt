@@ -19,6 +19,15 @@ pub(crate) fn env_of(alloc: Global, text: &str) -> Result<EnvList, AllocError> {
     Ok(env)
 }
 
+// The pieces of a text, one behind the other.
+pub(crate) fn joined(alloc: Global, pieces: &[&str]) -> Result<String, AllocError> {
+    let mut text = String::new(alloc);
+    for piece in pieces {
+        text.push_str(piece)?;
+    }
+    Ok(text)
+}
+
 // Words with blanks between them.
 pub(crate) fn words(alloc: Global, text: &str) -> Result<Vec<String>, AllocError> {
     let mut list = Vec::new(alloc);

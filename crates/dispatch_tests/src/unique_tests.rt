@@ -50,6 +50,39 @@ fn call_of(alloc: Global, from: &GivenCall) -> Result<LayerCall, Fail> {
     Ok(call)
 }
 
+// Whether a parameter has just these handles, and just the one at this place isn't born.
+fn has_handles(
+    call: &LayerCall,
+    p: usize,
+    handles: &[u64],
+    unborn: Option<(usize, usize)>,
+) -> bool {
+    if p >= call.args.len() || call.args.param(p) != handles {
+        return false;
+    }
+    for k in 0..call.args.param(p).len() {
+        if call.args.unborn(p, k) != (unborn == Some((p, k))) {
+            return false;
+        }
+    }
+    true
+}
+
+fn is_below(rt: &impl Abort, call: &LayerCall, from: &GivenCall, below: &[&[u64]], at: usize) {
+    let kept = (
+        call.cmd == from.0,
+        call.payload.as_slice() == from.3,
+        call.args.len(),
+    );
+    assert_eq!(rt; kept, (true, true, below.len()), "at step {at}");
+    for (p, handles) in below.iter().enumerate() {
+        assert!(rt;
+            has_handles(call, p, handles, from.2),
+            "at {p} of step {at}"
+        );
+    }
+}
+
 fn goes_on(
     rt: &impl Abort,
     alloc: Global,
@@ -60,21 +93,7 @@ fn goes_on(
 ) -> Result<(), Fail> {
     let mut call = call_of(alloc, from)?;
     part.enter(&mut call);
-    assert!(rt; call.cmd == from.0, "at step {at}");
-    assert_eq!(rt; call.payload.as_slice(), from.3, "at step {at}");
-    assert_eq!(rt; call.args.len(), below.len(), "at step {at}");
-    for (p, handles) in below.iter().enumerate() {
-        assert!(rt; p < call.args.len());
-        assert_eq!(rt; call.args.param(p), *handles, "at {p} of step {at}");
-        for k in 0..handles.len() {
-            assert!(rt; k < call.args.param(p).len());
-            assert_eq!(rt;
-                call.args.unborn(p, k),
-                from.2 == Some((p, k)),
-                "at {p} of step {at}"
-            );
-        }
-    }
+    is_below(rt, &call, from, below, at);
     Ok(())
 }
 
@@ -326,25 +345,51 @@ fn value_at(id: u64) -> u64 {
 
 const DESTROY_NULL: GivenCall = GivenCall(CommandId::DestroyBuffer, &[&[40], &[0]], None, b"");
 
-fn buffers(rt: &impl Abort, alloc: Global, count: u64) -> Result<(), Fail> {
+// So many buffers come up, with ids in order.
+fn buffers_come_up(
+    rt: &impl Abort,
+    alloc: Global,
+    part: &mut UniqueState,
+    count: u64,
+) -> Result<(), Fail> {
     let create = call_of(alloc, &CREATE_BUFFER)?;
-    let mut destroy = call_of(alloc, &DESTROY_NULL)?;
-    let mut part = UniqueState::new(alloc);
     for k in 0..count {
         let id = k.wrapping_add(1);
         let mut results = [value_at(id)];
         part.leave(&create, &mut results).ok().ok_or("memory")?;
         assert_eq!(rt; results[0], id);
     }
+    Ok(())
+}
+
+// The destruction of the buffer with an id goes down with the value that stands below it.
+fn goes_down(rt: &impl Abort, part: &UniqueState, destroy: &mut LayerCall, id: u64) {
+    assert!(rt; 1 < destroy.args.len() && 0 < destroy.args.param(1).len());
+    destroy.args.set(1, 0, id);
+    part.enter(destroy);
+    assert!(rt;
+        1 < destroy.args.len() && destroy.args.param(1) == [value_at(id)].as_slice(),
+        "at {id}"
+    );
+}
+
+fn buffers_go_down(
+    rt: &impl Abort,
+    alloc: Global,
+    part: &UniqueState,
+    count: u64,
+) -> Result<(), Fail> {
+    let mut destroy = call_of(alloc, &DESTROY_NULL)?;
     for id in (1..count).rev() {
-        assert!(rt; 1 < destroy.args.len());
-        assert!(rt; 0 < destroy.args.param(1).len());
-        destroy.args.set(1, 0, id);
-        part.enter(&mut destroy);
-        assert!(rt; 1 < destroy.args.len());
-        assert_eq!(rt; destroy.args.param(1), [value_at(id)].as_slice());
+        goes_down(rt, part, &mut destroy, id);
     }
     Ok(())
+}
+
+fn buffers(rt: &impl Abort, alloc: Global, count: u64) -> Result<(), Fail> {
+    let mut part = UniqueState::new(alloc);
+    buffers_come_up(rt, alloc, &mut part, count)?;
+    buffers_go_down(rt, alloc, &part, count)
 }
 
 #[test]

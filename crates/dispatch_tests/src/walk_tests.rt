@@ -62,7 +62,24 @@ fn begin(
     Ok(())
 }
 
-// A thread's call returns with these results, which become those above.
+// A thread's call returns with these results: those that go up.
+fn come_up_with(
+    alloc: Global,
+    machine: &mut Machine,
+    held: &Held,
+    thread: u32,
+    results: &[u64],
+) -> Result<Vec<u64>, Fail> {
+    let mut above = Vec::from_slice(alloc, results)?;
+    match results {
+        [] => come_up(machine, thread, held)?,
+        [0] => above.fill(come_up_lost(machine, thread, held)?),
+        [one] => above.fill(come_up_one(machine, thread, held, *one)?),
+        _ => come_up_images(machine, thread, held, &mut above)?,
+    }
+    Ok(above)
+}
+
 fn end(
     rt: &impl Abort,
     alloc: Global,
@@ -72,25 +89,8 @@ fn end(
     results: &[u64],
     above: &[u64],
 ) -> Result<(), Fail> {
-    match results {
-        [] => {
-            come_up(machine, thread, held)?;
-            assert!(rt; above.is_empty());
-        }
-        [0] => {
-            let lost = come_up_lost(machine, thread, held)?;
-            assert_eq!(rt; [lost].as_slice(), above);
-        }
-        [one] => {
-            let one = come_up_one(machine, thread, held, *one)?;
-            assert_eq!(rt; [one].as_slice(), above);
-        }
-        _ => {
-            let mut images = Vec::from_slice(alloc, results)?;
-            come_up_images(machine, thread, held, &mut images)?;
-            assert_eq!(rt; images.as_slice(), above);
-        }
-    }
+    let found = come_up_with(alloc, machine, held, thread, results)?;
+    assert_eq!(rt; found.as_slice(), above);
     Ok(())
 }
 

@@ -1,17 +1,17 @@
 //! Each mark of the command table that the rules parameter and parent read, in one table: with a call at which it fails and one at
 //! which it doesn't.
 use crate::calls::{Lists, Made, Named};
-use crate::lifetime_steps::{finding, is_found, make_all};
-use crate::lifetime_tests::with_devices;
+use crate::lifetime_steps::{Found, is_found};
+use crate::lifetime_tests::make;
 use command_tables::{CommandId, Rule};
-use lifetime_layer::{Finding, LifeState};
+use lifetime_layer::LifeState;
 use std::alloc::Global;
 use std::process::Abort;
 use std::test::Fail;
 
 // A call, and what is found at it.
 #[derive(Clone, Copy)]
-struct Judged(CommandId, Lists, &'static [(u8, u32, Rule)]);
+struct Judged(CommandId, Lists, &'static [Found]);
 
 // What the devices 3 and 4 have. Of each pool of the first device there are two.
 const WORLD: &[Made] = &[
@@ -44,25 +44,25 @@ const OR_NULL: &[Judged] = &[
     Judged(
         CommandId::ResetEvent,
         &[&[3], &[0]],
-        &[(1, 0, Rule::Parameter)],
+        &[Found(1, 0, Rule::Parameter, 0)],
     ),
     Judged(CommandId::DestroyBuffer, &[&[3], &[0]], &[]),
     Judged(
         CommandId::QueueSubmit,
         &[&[16], &[0], &[], &[], &[0]],
-        &[(1, 0, Rule::Parameter)],
+        &[Found(1, 0, Rule::Parameter, 0)],
     ),
     Judged(CommandId::QueueSubmit, &[&[16], &[], &[], &[], &[0]], &[]),
     Judged(CommandId::CmdBindVertexBuffers, &[&[13], &[0, 10, 0]], &[]),
     Judged(
         CommandId::QueueSubmit,
         &[&[16], &[], &[], &[], &[31]],
-        &[(4, 0, Rule::Parameter)],
+        &[Found(4, 0, Rule::Parameter, 0)],
     ),
     Judged(
         CommandId::GetPhysicalDeviceSurfaceSupportKHR,
         &[&[2], &[0]],
-        &[(1, 0, Rule::Parameter)],
+        &[Found(1, 0, Rule::Parameter, 0)],
     ),
     Judged(
         CommandId::GetPhysicalDeviceSurfaceFormatsKHR,
@@ -76,24 +76,24 @@ const SAME_DEVICE: &[Judged] = &[
     Judged(
         CommandId::DestroyBuffer,
         &[&[4], &[10]],
-        &[(1, 0, Rule::Parent)],
+        &[Found(1, 0, Rule::Parent, 0)],
     ),
     Judged(CommandId::GetBufferMemoryRequirements, &[&[3], &[10]], &[]),
     Judged(
         CommandId::CmdBindIndexBuffer,
         &[&[23], &[10]],
-        &[(1, 0, Rule::Parent)],
+        &[Found(1, 0, Rule::Parent, 0)],
     ),
     Judged(CommandId::CmdBindIndexBuffer, &[&[13], &[10]], &[]),
     Judged(
         CommandId::CmdBindVertexBuffers,
         &[&[13], &[10, 20, 0, 20]],
-        &[(1, 1, Rule::Parent), (1, 3, Rule::Parent)],
+        &[Found(1, 1, Rule::Parent, 0), Found(1, 3, Rule::Parent, 0)],
     ),
     Judged(
         CommandId::QueueSubmit,
         &[&[16], &[], &[13, 23], &[], &[21]],
-        &[(2, 1, Rule::Parent), (4, 0, Rule::Parent)],
+        &[Found(2, 1, Rule::Parent, 0), Found(4, 0, Rule::Parent, 0)],
     ),
     Judged(
         CommandId::QueueSubmit,
@@ -109,22 +109,22 @@ const OWNED_BY: &[Judged] = &[
     Judged(
         CommandId::FreeCommandBuffers,
         &[&[3], &[12], &[13, 33]],
-        &[(2, 1, Rule::Parent)],
+        &[Found(2, 1, Rule::Parent, 0)],
     ),
     Judged(
         CommandId::FreeDescriptorSets,
         &[&[3], &[37], &[18]],
-        &[(2, 0, Rule::Parent)],
+        &[Found(2, 0, Rule::Parent, 0)],
     ),
     Judged(
         CommandId::DestroyImage,
         &[&[3], &[7]],
-        &[(1, 0, Rule::Parent)],
+        &[Found(1, 0, Rule::Parent, 0)],
     ),
     Judged(
         CommandId::BindImageMemory,
         &[&[3], &[7], &[15]],
-        &[(1, 0, Rule::Parent)],
+        &[Found(1, 0, Rule::Parent, 0)],
     ),
     Judged(CommandId::BindImageMemory, &[&[3], &[14], &[15]], &[]),
     Judged(CommandId::FreeCommandBuffers, &[&[3], &[12], &[0, 13]], &[]),
@@ -132,17 +132,8 @@ const OWNED_BY: &[Judged] = &[
     Judged(CommandId::DestroyImage, &[&[3], &[14]], &[]),
 ];
 
-fn findings_of(alloc: Global, given: &[(u8, u32, Rule)]) -> Result<Vec<Finding>, Fail> {
-    let mut findings = Vec::new(alloc);
-    for (param, index, rule) in given {
-        findings.push(finding(*param, *index, *rule, 0))?;
-    }
-    Ok(findings)
-}
-
 fn judge(alloc: Global, state: &mut LifeState, call: &Judged) -> Result<bool, Fail> {
-    let findings = findings_of(alloc, call.2)?;
-    is_found(alloc, state, &Named(call.0, call.1), &findings)
+    is_found(alloc, state, &Named(call.0, call.1), call.2)
 }
 
 fn judge_all(
@@ -157,12 +148,16 @@ fn judge_all(
     Ok(())
 }
 
+fn judge_tables(rt: &impl Abort, alloc: Global, state: &mut LifeState) -> Result<(), Fail> {
+    make(rt, alloc, state, WORLD)?;
+    for calls in [OR_NULL, SAME_DEVICE, OWNED_BY] {
+        judge_all(rt, alloc, state, calls)?;
+    }
+    Ok(())
+}
+
 #[test]
 fn each_mark_of_a_parameter(rt: HostRuntime) -> Result<(), Fail> {
-    let alloc = rt.alloc();
-    let mut state = with_devices(&rt, alloc)?;
-    make_all(&rt, alloc, &mut state, WORLD)?;
-    judge_all(&rt, alloc, &mut state, OR_NULL)?;
-    judge_all(&rt, alloc, &mut state, SAME_DEVICE)?;
-    judge_all(&rt, alloc, &mut state, OWNED_BY)
+    let mut state = LifeState::new(rt.alloc(), 2);
+    judge_tables(&rt, rt.alloc(), &mut state)
 }

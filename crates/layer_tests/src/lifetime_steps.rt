@@ -1,9 +1,11 @@
 //! Stories of one part that keeps lifetimes, as tables of steps: a table costs the prover next to nothing, where each call of a
 //! function is proved.
 ghost use Rattle.std.specs.Prelude.{◌<◌, length};
+ghost use Rattle.object_records.specs.Shape.{HasParams};
+ghost use Rattle.lifetime_layer.specs.Shape.{HasFewPlaces};
 
 use crate::calls::{Made, Named, call_of};
-use command_tables::Rule;
+use command_tables::{LayerCall, Rule};
 use lifetime_layer::{Finding, LifeState, Verdict};
 use std::alloc::Global;
 use std::process::Abort;
@@ -46,17 +48,36 @@ fn findings_of(alloc: Global, given: &[Found]) -> Result<Vec<Finding>, Fail> {
     Ok(findings)
 }
 
-// Whether just this is found at a call, and the call is skipped.
+// Whether a verdict has just this, and skips the call if there is any of it.
+fn is_just(alloc: Global, verdict: &Verdict, found: &[Found]) -> Result<bool, Fail> {
+    let findings = findings_of(alloc, found)?;
+    Ok(verdict.findings.as_slice() == findings.as_slice() && verdict.skip == !found.is_empty())
+}
+
+// Whether just this is found at a call that comes in.
+fn enters(
+    alloc: Global,
+    state: &mut LifeState,
+    call: &LayerCall,
+    found: &[Found],
+) -> Result<bool, Fail>
+    requires shape { HasParams call.now }
+    requires few { HasFewPlaces call.now }
+{
+    let mut verdict = Verdict::new(alloc);
+    state.enter(call, &mut verdict).ok().ok_or("memory")?;
+    is_just(alloc, &verdict, found)
+}
+
+// Whether just this is found at a call, and the call is skipped if there is any of it.
 pub(crate) fn is_found(
     alloc: Global,
     state: &mut LifeState,
     named: &Named,
-    findings: &[Finding],
+    found: &[Found],
 ) -> Result<bool, Fail> {
     let call = call_of(alloc, named.0, named.1)?;
-    let mut verdict = Verdict::new(alloc);
-    state.enter(&call, &mut verdict).ok().ok_or("memory")?;
-    Ok(verdict.findings.as_slice() == findings && verdict.skip == !findings.is_empty())
+    enters(alloc, state, &call, found)
 }
 
 // The same, where the call's second parameter is written with a name that isn't born.
@@ -64,7 +85,7 @@ fn is_found_unborn(
     alloc: Global,
     state: &mut LifeState,
     named: &Named,
-    findings: &[Finding],
+    found: &[Found],
 ) -> Result<bool, Fail> {
     let mut call = call_of(alloc, named.0, named.1)?;
     let _count = call.args.len();
@@ -72,9 +93,7 @@ fn is_found_unborn(
         return Err("no second parameter".into());
     }
     call.args.mark_unborn(1, 0);
-    let mut verdict = Verdict::new(alloc);
-    state.enter(&call, &mut verdict).ok().ok_or("memory")?;
-    Ok(verdict.findings.as_slice() == findings && verdict.skip == !findings.is_empty())
+    enters(alloc, state, &call, found)
 }
 
 // A call comes back with one result.
@@ -92,6 +111,11 @@ fn is_made(alloc: Global, state: &mut LifeState, named: &Named, handle: u64) -> 
     Ok(is_clean)
 }
 
+// The same of a call of a table.
+fn comes_back(alloc: Global, state: &mut LifeState, made: &Made) -> Result<bool, Fail> {
+    is_made(alloc, state, &Named(made.0, made.1), made.2)
+}
+
 pub(crate) fn make_all(
     rt: &impl Abort,
     alloc: Global,
@@ -99,11 +123,7 @@ pub(crate) fn make_all(
     calls: &[Made],
 ) -> Result<(), Fail> {
     for i in 0..calls.len() {
-        let Made(cmd, params, handle) = calls[i];
-        assert!(rt;
-            is_made(alloc, state, &Named(cmd, params), handle)?,
-            "at made {i}"
-        );
+        assert!(rt; comes_back(alloc, state, &calls[i])?, "at made {i}");
     }
     Ok(())
 }
@@ -119,14 +139,8 @@ fn goes(
 {
     match &steps[i] {
         Step::Makes(named, handle) => is_made(alloc, state, named, *handle),
-        Step::Finds(named, found) => {
-            let findings = findings_of(alloc, found)?;
-            is_found(alloc, state, named, &findings)
-        }
-        Step::FindsUnborn(named, found) => {
-            let findings = findings_of(alloc, found)?;
-            is_found_unborn(alloc, state, named, &findings)
-        }
+        Step::Finds(named, found) => is_found(alloc, state, named, found),
+        Step::FindsUnborn(named, found) => is_found_unborn(alloc, state, named, found),
         Step::Leaves(named, handle) => {
             leave(alloc, state, named, *handle)?;
             Ok(true)

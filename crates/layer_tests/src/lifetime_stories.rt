@@ -1,7 +1,7 @@
 //! Whole stories, as calls on one part.
 use crate::calls::Named;
-use crate::lifetime_steps::{Found, Step, all_go};
-use crate::lifetime_tests::with_devices;
+use crate::lifetime_steps::{Found, Step};
+use crate::lifetime_tests::tell;
 use command_tables::{CommandId, Rule};
 use std::test::Fail;
 
@@ -17,8 +17,7 @@ static DESTROYED_TWICE: [Step; 3] = [
 
 #[test]
 fn a_buffer_is_destroyed_twice(rt: HostRuntime) -> Result<(), Fail> {
-    let mut state = with_devices(&rt, rt.alloc())?;
-    all_go(&rt, rt.alloc(), &mut state, &DESTROYED_TWICE)
+    tell(&rt, rt.alloc(), &[], &DESTROYED_TWICE)
 }
 
 const DESTROY_DEVICE: Named = Named(CommandId::DestroyDevice, &[&[3]]);
@@ -34,8 +33,7 @@ static BEFORE_ITS_IMAGE: [Step; 6] = [
 
 #[test]
 fn a_device_is_destroyed_before_its_image(rt: HostRuntime) -> Result<(), Fail> {
-    let mut state = with_devices(&rt, rt.alloc())?;
-    all_go(&rt, rt.alloc(), &mut state, &BEFORE_ITS_IMAGE)
+    tell(&rt, rt.alloc(), &[], &BEFORE_ITS_IMAGE)
 }
 
 const GET_QUEUE: Named = Named(CommandId::GetDeviceQueue, &[&[3]]);
@@ -54,8 +52,7 @@ static DESTROYED_FENCE: [Step; 5] = [
 
 #[test]
 fn a_queue_is_given_a_destroyed_fence(rt: HostRuntime) -> Result<(), Fail> {
-    let mut state = with_devices(&rt, rt.alloc())?;
-    all_go(&rt, rt.alloc(), &mut state, &DESTROYED_FENCE)
+    tell(&rt, rt.alloc(), &[], &DESTROYED_FENCE)
 }
 
 static ANOTHER_DEVICE: [Step; 3] = [
@@ -69,8 +66,7 @@ static ANOTHER_DEVICE: [Step; 3] = [
 
 #[test]
 fn a_buffer_is_destroyed_through_another_device(rt: HostRuntime) -> Result<(), Fail> {
-    let mut state = with_devices(&rt, rt.alloc())?;
-    all_go(&rt, rt.alloc(), &mut state, &ANOTHER_DEVICE)
+    tell(&rt, rt.alloc(), &[], &ANOTHER_DEVICE)
 }
 
 static GIVEN_TWICE: [Step; 4] = [
@@ -82,8 +78,7 @@ static GIVEN_TWICE: [Step; 4] = [
 
 #[test]
 fn one_queue_is_given_twice(rt: HostRuntime) -> Result<(), Fail> {
-    let mut state = with_devices(&rt, rt.alloc())?;
-    all_go(&rt, rt.alloc(), &mut state, &GIVEN_TWICE)
+    tell(&rt, rt.alloc(), &[], &GIVEN_TWICE)
 }
 
 const ALLOCATE: Named = Named(CommandId::AllocateCommandBuffers, &[&[3], &[5]]);
@@ -98,8 +93,7 @@ static WHILE_IT_ALLOCATES: [Step; 5] = [
 
 #[test]
 fn a_pool_is_destroyed_while_it_allocates(rt: HostRuntime) -> Result<(), Fail> {
-    let mut state = with_devices(&rt, rt.alloc())?;
-    all_go(&rt, rt.alloc(), &mut state, &WHILE_IT_ALLOCATES)
+    tell(&rt, rt.alloc(), &[], &WHILE_IT_ALLOCATES)
 }
 
 static DISPATCH: [Step; 13] = [
@@ -123,6 +117,5 @@ static DISPATCH: [Step; 13] = [
 
 #[test]
 fn a_recorded_dispatch_from_start_to_end(rt: HostRuntime) -> Result<(), Fail> {
-    let mut state = with_devices(&rt, rt.alloc())?;
-    all_go(&rt, rt.alloc(), &mut state, &DISPATCH)
+    tell(&rt, rt.alloc(), &[], &DISPATCH)
 }

@@ -30,25 +30,38 @@ static SWAPCHAIN: [Made; 3] = [
     Made(CommandId::GetSwapchainImagesKHR, &[&[3], &[6]], 7),
 ];
 
-// The instance, its physical device and the devices, seen by a part at place 2.
-pub(crate) fn with_devices(rt: &impl Abort, alloc: Global) -> Result<LifeState, Fail> {
+// The instance, its physical device and the devices, and what these calls make besides.
+pub(crate) fn make(
+    rt: &impl Abort,
+    alloc: Global,
+    state: &mut LifeState,
+    besides: &[Made],
+) -> Result<(), Fail> {
+    make_all(rt, alloc, state, &DEVICES)?;
+    make_all(rt, alloc, state, besides)
+}
+
+// On the devices and what these calls make besides, each step goes as it must.
+fn go_from(
+    rt: &impl Abort,
+    alloc: Global,
+    state: &mut LifeState,
+    besides: &[Made],
+    steps: &[Step],
+) -> Result<(), Fail> {
+    make(rt, alloc, state, besides)?;
+    all_go(rt, alloc, state, steps)
+}
+
+// The same, of a part at place 2.
+pub(crate) fn tell(
+    rt: &impl Abort,
+    alloc: Global,
+    besides: &[Made],
+    steps: &[Step],
+) -> Result<(), Fail> {
     let mut state = LifeState::new(alloc, 2);
-    make_all(rt, alloc, &mut state, &DEVICES)?;
-    Ok(state)
-}
-
-// Besides, the command pools.
-fn with_pools(rt: &impl Abort, alloc: Global) -> Result<LifeState, Fail> {
-    let mut state = with_devices(rt, alloc)?;
-    make_all(rt, alloc, &mut state, &POOLS)?;
-    Ok(state)
-}
-
-// Besides the devices, the surface and the swapchain.
-fn with_swapchain(rt: &impl Abort, alloc: Global) -> Result<LifeState, Fail> {
-    let mut state = with_devices(rt, alloc)?;
-    make_all(rt, alloc, &mut state, &SWAPCHAIN)?;
-    Ok(state)
+    go_from(rt, alloc, &mut state, besides, steps)
 }
 
 static NULLS: [Step; 2] = [
@@ -61,8 +74,7 @@ static NULLS: [Step; 2] = [
 
 #[test]
 fn null_is_allowed_by_the_mark_alone(rt: HostRuntime) -> Result<(), Fail> {
-    let mut state = with_devices(&rt, rt.alloc())?;
-    all_go(&rt, rt.alloc(), &mut state, &NULLS)
+    tell(&rt, rt.alloc(), &[], &NULLS)
 }
 
 static UNBORN: [Step; 1] = [Step::FindsUnborn(
@@ -72,8 +84,7 @@ static UNBORN: [Step; 1] = [Step::FindsUnborn(
 
 #[test]
 fn a_name_that_is_not_born_is_no_null(rt: HostRuntime) -> Result<(), Fail> {
-    let mut state = with_devices(&rt, rt.alloc())?;
-    all_go(&rt, rt.alloc(), &mut state, &UNBORN)
+    tell(&rt, rt.alloc(), &[], &UNBORN)
 }
 
 static FIRST_ARGUMENTS: [Step; 5] = [
@@ -92,8 +103,7 @@ static FIRST_ARGUMENTS: [Step; 5] = [
 
 #[test]
 fn the_device_is_that_of_the_first_argument(rt: HostRuntime) -> Result<(), Fail> {
-    let mut state = with_devices(&rt, rt.alloc())?;
-    all_go(&rt, rt.alloc(), &mut state, &FIRST_ARGUMENTS)
+    tell(&rt, rt.alloc(), &[], &FIRST_ARGUMENTS)
 }
 
 static OTHER_PARAMETERS: [Step; 4] = [
@@ -111,8 +121,7 @@ static OTHER_PARAMETERS: [Step; 4] = [
 
 #[test]
 fn the_owner_is_the_object_of_another_parameter(rt: HostRuntime) -> Result<(), Fail> {
-    let mut state = with_pools(&rt, rt.alloc())?;
-    all_go(&rt, rt.alloc(), &mut state, &OTHER_PARAMETERS)
+    tell(&rt, rt.alloc(), &POOLS, &OTHER_PARAMETERS)
 }
 
 static IMAGES: [Step; 2] = [
@@ -125,8 +134,7 @@ static IMAGES: [Step; 2] = [
 
 #[test]
 fn an_image_of_a_swapchain_is_not_the_devices(rt: HostRuntime) -> Result<(), Fail> {
-    let mut state = with_swapchain(&rt, rt.alloc())?;
-    all_go(&rt, rt.alloc(), &mut state, &IMAGES)
+    tell(&rt, rt.alloc(), &SWAPCHAIN, &IMAGES)
 }
 
 static POOL_ENDS: [Step; 4] = [
@@ -141,8 +149,7 @@ static POOL_ENDS: [Step; 4] = [
 
 #[test]
 fn what_a_pool_or_a_swapchain_owns_ends_with_it(rt: HostRuntime) -> Result<(), Fail> {
-    let mut state = with_pools(&rt, rt.alloc())?;
-    all_go(&rt, rt.alloc(), &mut state, &POOL_ENDS)
+    tell(&rt, rt.alloc(), &POOLS, &POOL_ENDS)
 }
 
 // A queue is retrieved while its device is destroyed, and so are an image, its swapchain and its device.
@@ -161,8 +168,7 @@ static LATE_RESULTS: [Step; 10] = [
 
 #[test]
 fn an_instance_takes_what_it_owns_at_any_depth(rt: HostRuntime) -> Result<(), Fail> {
-    let mut state = with_swapchain(&rt, rt.alloc())?;
-    all_go(&rt, rt.alloc(), &mut state, &LATE_RESULTS)
+    tell(&rt, rt.alloc(), &SWAPCHAIN, &LATE_RESULTS)
 }
 
 static NULLS_AND_REPEATS: [Step; 3] = [
@@ -182,8 +188,7 @@ static NULLS_AND_REPEATS: [Step; 3] = [
 
 #[test]
 fn a_free_takes_nulls_and_repeats(rt: HostRuntime) -> Result<(), Fail> {
-    let mut state = with_pools(&rt, rt.alloc())?;
-    all_go(&rt, rt.alloc(), &mut state, &NULLS_AND_REPEATS)
+    tell(&rt, rt.alloc(), &POOLS, &NULLS_AND_REPEATS)
 }
 
 static RESET: [Step; 5] = [
@@ -202,8 +207,7 @@ static RESET: [Step; 5] = [
 
 #[test]
 fn a_reset_ends_the_sets_and_not_the_pool(rt: HostRuntime) -> Result<(), Fail> {
-    let mut state = with_devices(&rt, rt.alloc())?;
-    all_go(&rt, rt.alloc(), &mut state, &RESET)
+    tell(&rt, rt.alloc(), &[], &RESET)
 }
 
 static NO_DEVICE: [Step; 2] = [
@@ -219,8 +223,7 @@ static NO_DEVICE: [Step; 2] = [
 
 #[test]
 fn a_first_argument_for_nothing_has_no_device(rt: HostRuntime) -> Result<(), Fail> {
-    let mut state = with_devices(&rt, rt.alloc())?;
-    all_go(&rt, rt.alloc(), &mut state, &NO_DEVICE)
+    tell(&rt, rt.alloc(), &[], &NO_DEVICE)
 }
 
 static DEAD_DEVICE: [Step; 3] = [
@@ -237,8 +240,7 @@ static DEAD_DEVICE: [Step; 3] = [
 
 #[test]
 fn a_dead_device_may_have_living_children(rt: HostRuntime) -> Result<(), Fail> {
-    let mut state = with_devices(&rt, rt.alloc())?;
-    all_go(&rt, rt.alloc(), &mut state, &DEAD_DEVICE)
+    tell(&rt, rt.alloc(), &[], &DEAD_DEVICE)
 }
 
 static CHILDREN: [Step; 2] = [
@@ -254,8 +256,7 @@ static CHILDREN: [Step; 2] = [
 
 #[test]
 fn what_children_own_is_not_counted(rt: HostRuntime) -> Result<(), Fail> {
-    let mut state = with_pools(&rt, rt.alloc())?;
-    all_go(&rt, rt.alloc(), &mut state, &CHILDREN)
+    tell(&rt, rt.alloc(), &POOLS, &CHILDREN)
 }
 
 static LOST: [Step; 4] = [
@@ -267,8 +268,7 @@ static LOST: [Step; 4] = [
 
 #[test]
 fn a_lost_result_makes_nothing(rt: HostRuntime) -> Result<(), Fail> {
-    let mut state = with_devices(&rt, rt.alloc())?;
-    all_go(&rt, rt.alloc(), &mut state, &LOST)
+    tell(&rt, rt.alloc(), &[], &LOST)
 }
 
 const DESTROY: Named = Named(CommandId::DestroyBuffer, &[&[3], &[10]]);
@@ -282,22 +282,29 @@ static OF_THE_COPY: [Step; 2] = [
 
 static OF_THE_ORIGINAL: [Step; 1] = [Step::Finds(DESTROY, &[])];
 
-// A copy with room for four births.
+// A copy with room for four births, of a part with so many living objects.
+fn goes_on(rt: &impl Abort, alloc: Global, copy: &mut LifeState, live: usize) -> Result<(), Fail> {
+    copy.reserve(4).ok().ok_or("memory")?;
+    assert_eq!(rt; copy.live_count(), live);
+    all_go(rt, alloc, copy, &OF_THE_COPY)
+}
+
 fn copy_goes_on(rt: &impl Abort, alloc: Global, state: &LifeState) -> Result<(), Fail> {
     let mut copy = state.copy().ok().ok_or("memory")?;
-    copy.reserve(4).ok().ok_or("memory")?;
-    assert_eq!(rt; copy.live_count(), state.live_count());
-    all_go(rt, alloc, &mut copy, &OF_THE_COPY)
+    goes_on(rt, alloc, &mut copy, state.live_count())
+}
+
+fn go_apart(rt: &impl Abort, alloc: Global, state: &mut LifeState) -> Result<(), Fail> {
+    go_from(rt, alloc, state, &[], &BEFORE_THE_COPY)?;
+    copy_goes_on(rt, alloc, state)?;
+    all_go(rt, alloc, state, &OF_THE_ORIGINAL)
 }
 
 // A part's copy stands at its place, and goes on by itself.
 #[test]
 fn a_copy_goes_on_by_itself(rt: HostRuntime) -> Result<(), Fail> {
-    let alloc = rt.alloc();
-    let mut state = with_devices(&rt, alloc)?;
-    all_go(&rt, alloc, &mut state, &BEFORE_THE_COPY)?;
-    copy_goes_on(&rt, alloc, &state)?;
-    all_go(&rt, alloc, &mut state, &OF_THE_ORIGINAL)
+    let mut state = LifeState::new(rt.alloc(), 2);
+    go_apart(&rt, rt.alloc(), &mut state)
 }
 
 // Findings of verdicts with room for none, for a few and for many.
@@ -305,9 +312,9 @@ fn a_copy_goes_on_by_itself(rt: HostRuntime) -> Result<(), Fail> {
 fn a_verdict_with_room(rt: HostRuntime) -> Result<(), Fail> {
     for room in [0usize, 3, 5000] {
         let mut verdict = Verdict::with_room(rt.alloc(), room).ok().ok_or("memory")?;
-        assert!(rt; verdict.findings.is_empty() && !verdict.skip);
+        let is_clean = verdict.findings.is_empty() && !verdict.skip;
         verdict.findings.push(finding(1, 2, Rule::Parent, 0))?;
-        assert_eq!(rt; verdict.findings.len(), 1);
+        assert_eq!(rt; (is_clean, verdict.findings.len()), (true, 1), "{room}");
     }
     Ok(())
 }

@@ -1,7 +1,7 @@
 //! Each mark of the command table that the rule overlap reads, in one table: with two calls that conflict and two that don't.
 use crate::calls::{Made, Named};
-use crate::thread_steps::{end, is_found, make_all, on, overlap_finding};
-use crate::thread_tests::with_queue;
+use crate::thread_steps::{end, is_found, on, overlap_finding};
+use crate::thread_tests::make;
 use command_tables::CommandId;
 use lifetime_layer::Finding;
 use std::alloc::Global;
@@ -176,12 +176,21 @@ fn overlaps_of(alloc: Global, given: &[(u8, u32)], number: u64) -> Result<Vec<Fi
     Ok(findings)
 }
 
+// Whether the second call conflicts with the open call of this number just where it must.
+fn conflicts(alloc: Global, state: &mut UseState, row: &Beside, number: u64) -> Result<bool, Fail> {
+    let findings = overlaps_of(alloc, row.2, number)?;
+    is_found(alloc, state, on(2, 900), &row.1, &findings)
+}
+
+fn end_both(alloc: Global, state: &mut UseState, row: &Beside) -> Result<(), Fail> {
+    end(alloc, state, 1, &row.0, 0)?;
+    end(alloc, state, 2, &row.1, 0)
+}
+
 fn judge(alloc: Global, state: &mut UseState, row: &Beside, number: u64) -> Result<bool, Fail> {
     let is_clean = is_found(alloc, state, on(1, number), &row.0, &[])?;
-    let findings = overlaps_of(alloc, row.2, number)?;
-    let is_met = is_found(alloc, state, on(2, 900), &row.1, &findings)?;
-    end(alloc, state, 1, &row.0, 0)?;
-    end(alloc, state, 2, &row.1, 0)?;
+    let is_met = conflicts(alloc, state, row, number)?;
+    end_both(alloc, state, row)?;
     Ok(is_clean && is_met)
 }
 
@@ -197,13 +206,16 @@ fn judge_all(
     Ok(())
 }
 
+fn judge_tables(rt: &impl Abort, alloc: Global, state: &mut UseState) -> Result<(), Fail> {
+    make(rt, alloc, state, WORLD)?;
+    for rows in [WRITTEN, WITH_POOL, WITH_QUEUES, WITH_SETS] {
+        judge_all(rt, alloc, state, rows)?;
+    }
+    Ok(())
+}
+
 #[test]
 fn each_mark_of_a_use(rt: HostRuntime) -> Result<(), Fail> {
-    let alloc = rt.alloc();
-    let mut state = with_queue(&rt, alloc)?;
-    make_all(&rt, alloc, &mut state, WORLD)?;
-    judge_all(&rt, alloc, &mut state, WRITTEN)?;
-    judge_all(&rt, alloc, &mut state, WITH_POOL)?;
-    judge_all(&rt, alloc, &mut state, WITH_QUEUES)?;
-    judge_all(&rt, alloc, &mut state, WITH_SETS)
+    let mut state = UseState::new(rt.alloc(), 3);
+    judge_tables(&rt, rt.alloc(), &mut state)
 }

@@ -1,7 +1,10 @@
 //! Stories of one part that finds overlaps, as tables of steps: a table costs the prover next to nothing, where each call of a
 //! function is proved.
+ghost use Rattle.object_records.specs.Shape.{HasParams};
+ghost use Rattle.lifetime_layer.specs.Shape.{HasFewPlaces};
+
 use crate::calls::{Made, Named, call_of};
-use command_tables::Rule;
+use command_tables::{LayerCall, Rule};
 use lifetime_layer::{Finding, Verdict};
 use std::alloc::Global;
 use std::process::Abort;
@@ -50,6 +53,25 @@ fn findings_of(alloc: Global, given: &[Overlap]) -> Result<Vec<Finding>, Fail> {
     Ok(findings)
 }
 
+// Whether a call that comes in has just these findings, and isn't skipped.
+fn enters(
+    alloc: Global,
+    state: &mut UseState,
+    caller: Caller,
+    call: &LayerCall,
+    findings: &[Finding],
+) -> Result<bool, Fail>
+    requires shape { HasParams call.now }
+    requires few { HasFewPlaces call.now }
+{
+    let mut verdict = Verdict::new(alloc);
+    state
+        .enter(caller.thread, caller.number, call, &mut verdict)
+        .ok()
+        .ok_or("memory")?;
+    Ok(verdict.findings.as_slice() == findings && !verdict.skip)
+}
+
 // Whether a call that begins has just these findings, and isn't skipped.
 pub(crate) fn is_found(
     alloc: Global,
@@ -59,12 +81,7 @@ pub(crate) fn is_found(
     findings: &[Finding],
 ) -> Result<bool, Fail> {
     let call = call_of(alloc, named.0, named.1)?;
-    let mut verdict = Verdict::new(alloc);
-    state
-        .enter(caller.thread, caller.number, &call, &mut verdict)
-        .ok()
-        .ok_or("memory")?;
-    Ok(verdict.findings.as_slice() == findings && !verdict.skip)
+    enters(alloc, state, caller, &call, findings)
 }
 
 // A thread's call comes back with one result; 0 for none.
@@ -101,11 +118,22 @@ pub(crate) fn make_all(
     Ok(())
 }
 
+// Whether just these overlaps are found at a call that begins.
+fn begins(
+    alloc: Global,
+    state: &mut UseState,
+    caller: Caller,
+    named: &Named,
+    overlaps: &[Overlap],
+) -> Result<bool, Fail> {
+    let findings = findings_of(alloc, overlaps)?;
+    is_found(alloc, state, caller, named, &findings)
+}
+
 fn goes(alloc: Global, state: &mut UseState, step: &Step) -> Result<bool, Fail> {
     match step {
         Step::Begins(thread, number, named, overlaps) => {
-            let findings = findings_of(alloc, overlaps)?;
-            is_found(alloc, state, on(*thread, *number), named, &findings)
+            begins(alloc, state, on(*thread, *number), named, overlaps)
         }
         Step::Ends(thread, named, handle) => {
             end(alloc, state, *thread, named, *handle)?;

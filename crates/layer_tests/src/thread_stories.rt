@@ -1,7 +1,7 @@
 //! Calls that are open beside each other, on one part.
 use crate::calls::Named;
-use crate::thread_steps::{Overlap, Step, all_go};
-use crate::thread_tests::{with_command_pool, with_queue, with_set};
+use crate::thread_steps::{Overlap, Step};
+use crate::thread_tests::{COMMAND_POOL, SET, tell};
 use command_tables::CommandId;
 use std::test::Fail;
 
@@ -17,8 +17,7 @@ static SUBMITTED_TWICE: [Step; 5] = [
 
 #[test]
 fn a_queue_is_submitted_to_by_two_threads(rt: HostRuntime) -> Result<(), Fail> {
-    let mut state = with_queue(&rt, rt.alloc())?;
-    all_go(&rt, rt.alloc(), &mut state, &SUBMITTED_TWICE)
+    tell(&rt, rt.alloc(), &[], &SUBMITTED_TWICE)
 }
 
 const ALLOCATE: Named = Named(CommandId::AllocateCommandBuffers, &[&[3], &[5]]);
@@ -32,8 +31,7 @@ static DESTROYED_WHILE_ALLOCATING: [Step; 2] = [
 
 #[test]
 fn a_pool_is_destroyed_while_buffers_are_allocated(rt: HostRuntime) -> Result<(), Fail> {
-    let mut state = with_command_pool(&rt, rt.alloc())?;
-    all_go(&rt, rt.alloc(), &mut state, &DESTROYED_WHILE_ALLOCATING)
+    tell(&rt, rt.alloc(), &COMMAND_POOL, &DESTROYED_WHILE_ALLOCATING)
 }
 
 const BEGIN_6: Named = Named(CommandId::BeginCommandBuffer, &[&[6]]);
@@ -47,8 +45,7 @@ static TWO_BUFFERS: [Step; 2] = [
 
 #[test]
 fn two_buffers_of_one_pool_are_begun(rt: HostRuntime) -> Result<(), Fail> {
-    let mut state = with_command_pool(&rt, rt.alloc())?;
-    all_go(&rt, rt.alloc(), &mut state, &TWO_BUFFERS)
+    tell(&rt, rt.alloc(), &COMMAND_POOL, &TWO_BUFFERS)
 }
 
 const CREATE_BUFFER: Named = Named(CommandId::CreateBuffer, &[&[3]]);
@@ -60,8 +57,7 @@ static DEVICE_READ: [Step; 2] = [
 
 #[test]
 fn a_device_is_read_by_two_threads(rt: HostRuntime) -> Result<(), Fail> {
-    let mut state = with_queue(&rt, rt.alloc())?;
-    all_go(&rt, rt.alloc(), &mut state, &DEVICE_READ)
+    tell(&rt, rt.alloc(), &[], &DEVICE_READ)
 }
 
 const UPDATE: Named = Named(
@@ -78,8 +74,7 @@ static RESET_WHILE_WRITTEN: [Step; 2] = [
 
 #[test]
 fn a_pool_is_reset_while_its_set_is_written(rt: HostRuntime) -> Result<(), Fail> {
-    let mut state = with_set(&rt, rt.alloc())?;
-    all_go(&rt, rt.alloc(), &mut state, &RESET_WHILE_WRITTEN)
+    tell(&rt, rt.alloc(), &SET, &RESET_WHILE_WRITTEN)
 }
 
 static WRITTEN_AFTER_ITS_END: [Step; 8] = [
@@ -96,8 +91,7 @@ static WRITTEN_AFTER_ITS_END: [Step; 8] = [
 // A dead set is used still where it is named, but the reset of its pool no longer writes it.
 #[test]
 fn a_set_is_written_by_two_threads_after_its_end(rt: HostRuntime) -> Result<(), Fail> {
-    let mut state = with_set(&rt, rt.alloc())?;
-    all_go(&rt, rt.alloc(), &mut state, &WRITTEN_AFTER_ITS_END)
+    tell(&rt, rt.alloc(), &SET, &WRITTEN_AFTER_ITS_END)
 }
 
 const UPDATE_TWICE: Named = Named(
@@ -112,8 +106,7 @@ static NAMED_TWICE: [Step; 2] = [
 
 #[test]
 fn a_call_names_a_set_twice(rt: HostRuntime) -> Result<(), Fail> {
-    let mut state = with_set(&rt, rt.alloc())?;
-    all_go(&rt, rt.alloc(), &mut state, &NAMED_TWICE)
+    tell(&rt, rt.alloc(), &SET, &NAMED_TWICE)
 }
 
 const SUBMIT_6: Named = Named(CommandId::QueueSubmit, &[&[4], &[], &[6], &[], &[0]]);
@@ -127,8 +120,7 @@ static BY_ITSELF_AND_BY_ITS_POOL: [Step; 3] = [
 // The buffer conflicts with the second call, its pool with the first: one finding, with the lesser number.
 #[test]
 fn an_argument_conflicts_by_itself_and_by_its_pool(rt: HostRuntime) -> Result<(), Fail> {
-    let mut state = with_command_pool(&rt, rt.alloc())?;
-    all_go(&rt, rt.alloc(), &mut state, &BY_ITSELF_AND_BY_ITS_POOL)
+    tell(&rt, rt.alloc(), &COMMAND_POOL, &BY_ITSELF_AND_BY_ITS_POOL)
 }
 
 static LEAST: [Step; 7] = [
@@ -143,8 +135,7 @@ static LEAST: [Step; 7] = [
 
 #[test]
 fn the_least_number_is_named(rt: HostRuntime) -> Result<(), Fail> {
-    let mut state = with_queue(&rt, rt.alloc())?;
-    all_go(&rt, rt.alloc(), &mut state, &LEAST)
+    tell(&rt, rt.alloc(), &[], &LEAST)
 }
 
 const WAIT_FOR_DEVICE: Named = Named(CommandId::DeviceWaitIdle, &[&[3]]);
@@ -158,8 +149,7 @@ static WAITED_FOR: [Step; 4] = [
 
 #[test]
 fn a_device_is_waited_for_while_its_queue_is_in_use(rt: HostRuntime) -> Result<(), Fail> {
-    let mut state = with_queue(&rt, rt.alloc())?;
-    all_go(&rt, rt.alloc(), &mut state, &WAITED_FOR)
+    tell(&rt, rt.alloc(), &[], &WAITED_FOR)
 }
 
 const SUBMIT_TO_NOTHING: Named = Named(CommandId::QueueSubmit, &[&[40], &[], &[], &[], &[0]]);
@@ -171,8 +161,7 @@ static NOTHING_GAVE_IT: [Step; 2] = [
 
 #[test]
 fn an_object_that_nothing_gave_is_not_used(rt: HostRuntime) -> Result<(), Fail> {
-    let mut state = with_queue(&rt, rt.alloc())?;
-    all_go(&rt, rt.alloc(), &mut state, &NOTHING_GAVE_IT)
+    tell(&rt, rt.alloc(), &[], &NOTHING_GAVE_IT)
 }
 
 static OPEN_UNTIL_RESULTS: [Step; 5] = [
@@ -186,8 +175,7 @@ static OPEN_UNTIL_RESULTS: [Step; 5] = [
 // The part is not told whether a part further on skips the call.
 #[test]
 fn a_call_is_open_until_its_results_come(rt: HostRuntime) -> Result<(), Fail> {
-    let mut state = with_command_pool(&rt, rt.alloc())?;
-    all_go(&rt, rt.alloc(), &mut state, &OPEN_UNTIL_RESULTS)
+    tell(&rt, rt.alloc(), &COMMAND_POOL, &OPEN_UNTIL_RESULTS)
 }
 
 const DESTROY_BUFFER: Named = Named(CommandId::DestroyBuffer, &[&[3], &[5]]);
@@ -204,6 +192,5 @@ static DEAD_BUFFER: [Step; 6] = [
 // That a buffer is dead is for a lifetimes part to say.
 #[test]
 fn a_dead_buffer_is_destroyed_by_two_threads(rt: HostRuntime) -> Result<(), Fail> {
-    let mut state = with_queue(&rt, rt.alloc())?;
-    all_go(&rt, rt.alloc(), &mut state, &DEAD_BUFFER)
+    tell(&rt, rt.alloc(), &[], &DEAD_BUFFER)
 }

@@ -16,37 +16,50 @@ static QUEUE: [Made; 4] = [
 ];
 
 // The command pool 5 with the command buffers 6 and 7.
-static COMMAND_POOL: [Made; 3] = [
+pub(crate) static COMMAND_POOL: [Made; 3] = [
     Made(CommandId::CreateCommandPool, &[&[3]], 5),
     Made(CommandId::AllocateCommandBuffers, &[&[3], &[5]], 6),
     Made(CommandId::AllocateCommandBuffers, &[&[3], &[5]], 7),
 ];
 
 // The descriptor pool 8 with the set 9.
-static SET: [Made; 2] = [
+pub(crate) static SET: [Made; 2] = [
     Made(CommandId::CreateDescriptorPool, &[&[3]], 8),
     Made(CommandId::AllocateDescriptorSets, &[&[3], &[8], &[10]], 9),
 ];
 
-// The instance, its physical device, and the device with the queue, seen by a part at place 3.
-pub(crate) fn with_queue(rt: &impl Abort, alloc: Global) -> Result<UseState, Fail> {
+// The instance, its physical device, and the device with the queue, and what these calls make besides.
+pub(crate) fn make(
+    rt: &impl Abort,
+    alloc: Global,
+    state: &mut UseState,
+    besides: &[Made],
+) -> Result<(), Fail> {
+    make_all(rt, alloc, state, &QUEUE)?;
+    make_all(rt, alloc, state, besides)
+}
+
+// On the device with its queue and what these calls make besides, each step goes as it must.
+fn go_from(
+    rt: &impl Abort,
+    alloc: Global,
+    state: &mut UseState,
+    besides: &[Made],
+    steps: &[Step],
+) -> Result<(), Fail> {
+    make(rt, alloc, state, besides)?;
+    all_go(rt, alloc, state, steps)
+}
+
+// The same, of a part at place 3.
+pub(crate) fn tell(
+    rt: &impl Abort,
+    alloc: Global,
+    besides: &[Made],
+    steps: &[Step],
+) -> Result<(), Fail> {
     let mut state = UseState::new(alloc, 3);
-    make_all(rt, alloc, &mut state, &QUEUE)?;
-    Ok(state)
-}
-
-// Besides, the command pool.
-pub(crate) fn with_command_pool(rt: &impl Abort, alloc: Global) -> Result<UseState, Fail> {
-    let mut state = with_queue(rt, alloc)?;
-    make_all(rt, alloc, &mut state, &COMMAND_POOL)?;
-    Ok(state)
-}
-
-// Besides the queue, the descriptor pool.
-pub(crate) fn with_set(rt: &impl Abort, alloc: Global) -> Result<UseState, Fail> {
-    let mut state = with_queue(rt, alloc)?;
-    make_all(rt, alloc, &mut state, &SET)?;
-    Ok(state)
+    go_from(rt, alloc, &mut state, besides, steps)
 }
 
 const WAIT: Named = Named(CommandId::QueueWaitIdle, &[&[4]]);
@@ -63,18 +76,25 @@ static OF_THE_COPY: [Step; 4] = [
 static OF_THE_ORIGINAL: [Step; 1] = [Step::Begins(3, 23, WAIT, &[Overlap(0, 0, 20)])];
 
 // A copy with room for three births, and for three further open calls with three uses.
+fn goes_on(rt: &impl Abort, alloc: Global, copy: &mut UseState) -> Result<(), Fail> {
+    copy.reserve(3, 3).ok().ok_or("memory")?;
+    all_go(rt, alloc, copy, &OF_THE_COPY)
+}
+
 fn copy_goes_on(rt: &impl Abort, alloc: Global, state: &UseState) -> Result<(), Fail> {
     let mut copy = state.copy().ok().ok_or("memory")?;
-    copy.reserve(3, 3).ok().ok_or("memory")?;
-    all_go(rt, alloc, &mut copy, &OF_THE_COPY)
+    goes_on(rt, alloc, &mut copy)
+}
+
+fn go_apart(rt: &impl Abort, alloc: Global, state: &mut UseState) -> Result<(), Fail> {
+    go_from(rt, alloc, state, &[], &BEFORE_THE_COPY)?;
+    copy_goes_on(rt, alloc, state)?;
+    all_go(rt, alloc, state, &OF_THE_ORIGINAL)
 }
 
 // A part's copy keeps the open calls with their numbers, and goes on by itself.
 #[test]
 fn a_copy_goes_on_by_itself(rt: HostRuntime) -> Result<(), Fail> {
-    let alloc = rt.alloc();
-    let mut state = with_queue(&rt, alloc)?;
-    all_go(&rt, alloc, &mut state, &BEFORE_THE_COPY)?;
-    copy_goes_on(&rt, alloc, &state)?;
-    all_go(&rt, alloc, &mut state, &OF_THE_ORIGINAL)
+    let mut state = UseState::new(rt.alloc(), 3);
+    go_apart(&rt, rt.alloc(), &mut state)
 }

@@ -1,6 +1,6 @@
 //! Manifests of every size are read where there is memory: small ones, 30 entries in 40,000 bytes as real ones have, and those of
 //! 1,048,576 bytes, the most that a search reads.
-use manifest_reader::{LayerKind, read_driver, read_layers};
+use manifest_reader::{LayerEntry, LayerKind, read_driver, read_layers};
 use std::alloc::{AllocError, Global};
 use std::process::Abort;
 use std::test::Fail;
@@ -30,6 +30,19 @@ fn push_long(text: &mut String, length: usize) -> Result<(), AllocError> {
     Ok(())
 }
 
+fn push_layer(text: &mut String, number: usize, length: usize) -> Result<(), AllocError> {
+    write!(
+        text,
+        "{{\"name\":\"VK_LAYER_{number}\",\"type\":\"GLOBAL\",\"library_path\":\"lib{number}.so\",\"api_version\":\"1.3.275\""
+    )?;
+    text.push_str(
+        r#","implementation_version":"1","disable_environment":{"OFF":"1"},"description":"#,
+    )?;
+    push_long(text, length)?;
+    text.push('}')?;
+    Ok(())
+}
+
 fn layers_file(
     alloc: Global,
     count: usize,
@@ -41,18 +54,18 @@ fn layers_file(
         if number > 0 {
             text.push(',')?;
         }
-        write!(
-            text,
-            "{{\"name\":\"VK_LAYER_{number}\",\"type\":\"GLOBAL\",\"library_path\":\"lib{number}.so\""
-        )?;
-        text.push_str(r#","api_version":"1.3.275","implementation_version":"1""#)?;
-        text.push_str(r#","disable_environment":{"OFF":"1"},"description":"#)?;
-        push_long(&mut text, length)?;
-        text.push('}')?;
+        push_layer(&mut text, number, length)?;
     }
     text.push_str("]}")?;
     pad(&mut text, size)?;
     Ok(text)
+}
+
+fn push_extension(text: &mut String, number: usize, length: usize) -> Result<(), AllocError> {
+    write!(text, "\"extension_{number}\":")?;
+    push_long(text, length)?;
+    text.push(',')?;
+    Ok(())
 }
 
 fn driver_file(
@@ -63,13 +76,35 @@ fn driver_file(
 ) -> Result<String, AllocError> {
     let mut text = String::from_str(alloc, r#"{"file_format_version":"1.0.1","ICD":{"#)?;
     for number in 0..count {
-        write!(text, "\"extension_{number}\":")?;
-        push_long(&mut text, length)?;
-        text.push(',')?;
+        push_extension(&mut text, number, length)?;
     }
     text.push_str(r#""library_path":"liba.so","api_version":"1.3.275"}}"#)?;
     pad(&mut text, size)?;
     Ok(text)
+}
+
+// The names of a layer, of its library and of the variable that disables it.
+fn names_of(alloc: Global, entry: &LayerEntry) -> Result<String, Fail> {
+    let library = entry.library.as_ref().ok_or("a library")?;
+    let switch = entry.disable.as_ref().ok_or("a variable")?;
+    Ok(format!(in alloc;
+        "{} {} {}",
+        entry.name.as_str(),
+        library.as_str(),
+        switch.name.as_str()
+    )?)
+}
+
+fn check_entry(
+    rt: &impl Abort,
+    alloc: Global,
+    entry: &LayerEntry,
+    number: usize,
+) -> Result<(), Fail> {
+    let names = names_of(alloc, entry)?;
+    let wanted = format!(in alloc; "VK_LAYER_{number} lib{number}.so OFF")?;
+    assert_eq!(rt; names.as_str(), wanted.as_str());
+    Ok(())
 }
 
 fn check_layers(
@@ -80,20 +115,19 @@ fn check_layers(
     count: usize,
 ) -> Result<(), Fail> {
     let found = read_layers(alloc, text.as_bytes(), kind)?;
-    assert_eq!(rt; found.entries.len(), count);
-    assert_eq!(rt; found.device_type, 0);
+    assert_eq!(rt; (found.entries.len(), found.device_type), (count, 0));
     for (number, entry) in found.entries.iter().enumerate() {
-        let name = format!(in alloc; "VK_LAYER_{number} lib{number}.so OFF")?;
-        let library = entry.library.as_ref().ok_or("a library")?;
-        let switch = entry.disable.as_ref().ok_or("a variable")?;
-        let read = format!(in alloc;
-            "{} {} {}",
-            entry.name.as_str(),
-            library.as_str(),
-            switch.name.as_str()
-        )?;
-        assert_eq!(rt; read.as_str(), name.as_str());
+        check_entry(rt, alloc, entry, number)?;
     }
+    Ok(())
+}
+
+fn check_driver(rt: &impl Abort, alloc: Global, text: &str) -> Result<(), Fail> {
+    let driver = read_driver(alloc, text.as_bytes())?;
+    assert_eq!(rt;
+        (driver.library.as_str(), driver.portability),
+        ("liba.so", false)
+    );
     Ok(())
 }
 
@@ -102,13 +136,10 @@ fn manifests_of_every_size_are_read(rt: HostRuntime) -> Result<(), Fail> {
     let alloc = rt.alloc();
     for (count, length, size) in SIZES.iter() {
         let text = layers_file(alloc, *count, *length, *size)?;
-        for kind in [LayerKind::Explicit, LayerKind::Implicit] {
-            check_layers(&rt, alloc, text.as_str(), kind, *count)?;
-        }
+        check_layers(&rt, alloc, text.as_str(), LayerKind::Explicit, *count)?;
+        check_layers(&rt, alloc, text.as_str(), LayerKind::Implicit, *count)?;
         let text = driver_file(alloc, *count, *length, *size)?;
-        let driver = read_driver(alloc, text.as_bytes())?;
-        assert_eq!(rt; driver.library.as_str(), "liba.so");
-        assert!(rt; !driver.portability);
+        check_driver(&rt, alloc, text.as_str())?;
     }
     Ok(())
 }

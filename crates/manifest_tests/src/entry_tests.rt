@@ -95,10 +95,7 @@ fn push_members(
         };
         is_later = is_later || *member == key;
         if !value.is_empty() {
-            text.push_str(",\"")?;
-            text.push_str(*name)?;
-            text.push_str("\":")?;
-            text.push_str(value)?;
+            write!(text, ",\"{name}\":{value}")?;
         }
     }
     Ok(())
@@ -234,30 +231,62 @@ static DRIVER_FILES: [(&str, Option<ManifestFault>); 30] = [
 static DRIVER: &str =
     r#""file_format_version":"1.0.1","ICD":{"library_path":"libvulkan_a.so","api_version":"1.3.275"}"#;
 
-#[test]
-fn files_of_drivers(rt: HostRuntime) -> Result<(), Fail> {
-    let alloc = rt.alloc();
+fn check_driver_files(rt: &impl Abort, alloc: Global) -> Result<(), AllocError> {
     for (form, want) in &DRIVER_FILES {
         let text = filled(alloc, *form, DRIVER)?;
         assert_eq!(rt; fault_of(alloc, text.as_str(), None), *want, "{form}");
     }
-    // The file's object is one level, and each list one more.
+    Ok(())
+}
+
+fn push_times(text: &mut String, part: &str, count: usize) -> Result<(), AllocError> {
+    for _ in 0..count {
+        text.push_str(part)?;
+    }
+    Ok(())
+}
+
+/// A driver's file with a member of so many lists, one in the other.
+fn nested(alloc: Global, lists: usize) -> Result<String, AllocError> {
+    let mut text = filled(alloc, r#"{@,"x":"#, DRIVER)?;
+    push_times(&mut text, "[", lists)?;
+    push_times(&mut text, "]", lists)?;
+    text.push_str("}")?;
+    Ok(text)
+}
+
+/// The file's object is one level, and each list one more.
+fn check_levels(rt: &impl Abort, alloc: Global) -> Result<(), AllocError> {
     for (lists, want) in [(126, None), (127, Some(ManifestFault::NotJson))] {
-        let mut text = filled(alloc, r#"{@,"x":"#, DRIVER)?;
-        for _ in 0..lists {
-            text.push_str("[")?;
-        }
-        for _ in 0..lists {
-            text.push_str("]")?;
-        }
-        text.push_str("}")?;
+        let text = nested(alloc, lists)?;
         assert_eq!(rt; fault_of(alloc, text.as_str(), None), want, "{lists}");
     }
-    let text = filled(alloc, "{@}", DRIVER)?;
+    Ok(())
+}
+
+fn check_driver(
+    rt: &impl Abort,
+    alloc: Global,
+    text: &str,
+    portability: bool,
+) -> Result<(), ManifestFault> {
     let entry = read_driver(alloc, text.as_bytes())?;
-    assert!(rt; entry.library.as_str() == "libvulkan_a.so" && !entry.portability);
+    assert_eq!(rt;
+        (entry.library.as_str(), entry.portability),
+        ("libvulkan_a.so", portability)
+    );
+    Ok(())
+}
+
+#[test]
+fn files_of_drivers(rt: HostRuntime) -> Result<(), Fail> {
+    let alloc = rt.alloc();
+    check_driver_files(&rt, alloc)?;
+    check_levels(&rt, alloc)?;
+    let text = filled(alloc, "{@}", DRIVER)?;
+    check_driver(&rt, alloc, text.as_str(), false)?;
     let text = file(alloc, "ICD", &ICD, Key::IsPortabilityDriver, "true", None)?;
-    assert!(rt; read_driver(alloc, text.as_bytes())?.portability);
+    check_driver(&rt, alloc, text.as_str(), true)?;
     let no_text =
         b"{\"x\":\"\xff\",\"file_format_version\":\"1\",\"ICD\":{\"library_path\":\"a\",\"api_version\":\"1\"}}";
     assert_eq!(rt;
@@ -353,6 +382,19 @@ fn check_order(
     Ok(())
 }
 
+/// Without a member at a key.
+fn check_left_out(rt: &impl Abort, alloc: Global) -> Result<(), AllocError> {
+    let explicit = Some(LayerKind::Explicit);
+    let found = [
+        fault_at(alloc, &ICD, None, Key::LibraryPath, "", Some("1"))?,
+        fault_at(alloc, &LAYER, explicit, Key::LibraryPath, "", None)?,
+        fault_at(alloc, &LAYER, explicit, Key::DisableEnvironment, "", None)?,
+    ];
+    let library = missing(Key::LibraryPath);
+    assert_eq!(rt; found, [library, library, None]);
+    Ok(())
+}
+
 #[test]
 fn kinds_and_their_order(rt: HostRuntime) -> Result<(), Fail> {
     let alloc = rt.alloc();
@@ -363,12 +405,7 @@ fn kinds_and_their_order(rt: HostRuntime) -> Result<(), Fail> {
     check_kinds(&rt, alloc, &OVERRIDE, implicit, &OVERRIDE_KINDS)?;
     check_order(&rt, alloc, &ICD, None)?;
     check_order(&rt, alloc, &LAYER, implicit)?;
-    let library = fault_at(alloc, &ICD, None, Key::LibraryPath, "", Some("1"))?;
-    assert_eq!(rt; library, missing(Key::LibraryPath));
-    let library = fault_at(alloc, &LAYER, explicit, Key::LibraryPath, "", None)?;
-    assert_eq!(rt; library, missing(Key::LibraryPath));
-    let switch = fault_at(alloc, &LAYER, explicit, Key::DisableEnvironment, "", None)?;
-    assert_eq!(rt; switch, None);
+    check_left_out(&rt, alloc)?;
     Ok(())
 }
 
@@ -411,39 +448,39 @@ static TEXTS: [(Key, &str, bool); 35] = [
     (Key::EnableEnvironment, "{}", false),
 ];
 
+/// The fault of a layer of a kind with a value at a key.
+fn layer_fault(
+    alloc: Global,
+    kind: LayerKind,
+    key: Key,
+    value: &str,
+) -> Result<Option<ManifestFault>, AllocError> {
+    fault_at(alloc, &LAYER, Some(kind), key, value, None)
+}
+
+/// A name has at most 255 bytes.
+fn check_name_sizes(rt: &impl Abort, alloc: Global) -> Result<(), AllocError> {
+    for (length, want) in [(255, None), (256, wrong(Key::Name))] {
+        let mut name = String::from_str(alloc, "\"")?;
+        push_times(&mut name, "n", length)?;
+        name.push_str("\"")?;
+        let fault = layer_fault(alloc, LayerKind::Explicit, Key::Name, name.as_str())?;
+        assert_eq!(rt; fault, want, "{length}");
+    }
+    Ok(())
+}
+
 #[test]
 fn texts_by_their_bytes(rt: HostRuntime) -> Result<(), Fail> {
     let alloc = rt.alloc();
     for (key, value, is_good) in &TEXTS {
         let want = if *is_good { None } else { wrong(*key) };
-        let fault = fault_at(alloc, &LAYER, Some(LayerKind::Implicit), *key, *value, None)?;
+        let fault = layer_fault(alloc, LayerKind::Implicit, *key, *value)?;
         assert_eq!(rt; fault, want, "{key}: {value}");
     }
-    let no_member = fault_at(
-        alloc,
-        &LAYER,
-        Some(LayerKind::Explicit),
-        Key::DisableEnvironment,
-        "{}",
-        None,
-    )?;
+    let no_member = layer_fault(alloc, LayerKind::Explicit, Key::DisableEnvironment, "{}")?;
     assert_eq!(rt; no_member, wrong(Key::DisableEnvironment));
-    for (length, want) in [(255, None), (256, wrong(Key::Name))] {
-        let mut name = String::from_str(alloc, "\"")?;
-        for _ in 0..length {
-            name.push_str("n")?;
-        }
-        name.push_str("\"")?;
-        let fault = fault_at(
-            alloc,
-            &LAYER,
-            Some(LayerKind::Explicit),
-            Key::Name,
-            name.as_str(),
-            None,
-        )?;
-        assert_eq!(rt; fault, want, "{length}");
-    }
+    check_name_sizes(&rt, alloc)?;
     Ok(())
 }
 
@@ -564,36 +601,65 @@ static NAMESAKE: [Member; 9] = [
     (Key::AppKeys, "app_keys", r#"["a"]"#),
 ];
 
+/// Kinds of layers, a value at a key, and what is read.
+type Shown = (LayerKind, (Key, &'static str), &'static str);
+
+static VALIDATION_SHOWN: [Shown; 2] = [
+    (
+        LayerKind::Explicit,
+        (Key::Icd, ""),
+        r#"[LayerEntry { name: "VK_LAYER_KHRONOS_validation", library: Some("libVkLayer_khronos_validation.so"), components: [], disable: None, enable: None, blacklist: [], app_keys: [], override_paths: [] }]"#,
+    ),
+    (
+        LayerKind::Implicit,
+        (Key::Icd, ""),
+        "Missing { key: DisableEnvironment }",
+    ),
+];
+
+static NAMESAKE_SHOWN: [Shown; 1] = [(
+    LayerKind::Implicit,
+    (Key::Icd, ""),
+    r#"[LayerEntry { name: "VK_LAYER_LUNARG_override", library: Some("o.so"), components: [], disable: Some(EnvPair { name: "A", value: "y" }), enable: None, blacklist: [], app_keys: [], override_paths: [] }]"#,
+)];
+
+static OVERRIDE_SHOWN: [Shown; 3] = [
+    (
+        LayerKind::Implicit,
+        (Key::Icd, ""),
+        r#"[LayerEntry { name: "VK_LAYER_LUNARG_override", library: None, components: ["VK_LAYER_a", "VK_LAYER_b"], disable: Some(EnvPair { name: "O_OFF", value: "" }), enable: Some(EnvPair { name: "O_ON", value: "yes" }), blacklist: ["VK_LAYER_c"], app_keys: ["/usr/bin/app"], override_paths: ["/opt/l", "/opt/m"] }]"#,
+    ),
+    (
+        LayerKind::Explicit,
+        (Key::ComponentLayers, "[]"),
+        r#"[LayerEntry { name: "VK_LAYER_LUNARG_override", library: None, components: [], disable: Some(EnvPair { name: "O_OFF", value: "" }), enable: None, blacklist: [], app_keys: [], override_paths: [] }]"#,
+    ),
+    (
+        LayerKind::Implicit,
+        (Key::Name, r#""VK_LAYER_m""#),
+        r#"[LayerEntry { name: "VK_LAYER_m", library: None, components: ["VK_LAYER_a", "VK_LAYER_b"], disable: Some(EnvPair { name: "O_OFF", value: "" }), enable: Some(EnvPair { name: "O_ON", value: "yes" }), blacklist: [], app_keys: [], override_paths: [] }]"#,
+    ),
+];
+
+fn check_all_shown(
+    rt: &impl Abort,
+    alloc: Global,
+    base: &[Member],
+    rows: &[Shown],
+) -> Result<(), AllocError> {
+    for (kind, changed, wanted) in rows {
+        let (key, here) = *changed;
+        let text = shown(alloc, base, *kind, key, here)?;
+        assert_eq!(rt; text.as_str(), *wanted, "{key}: {here}");
+    }
+    Ok(())
+}
+
 #[test]
 fn entries_of_layers(rt: HostRuntime) -> Result<(), Fail> {
     let alloc = rt.alloc();
-    let (explicit, implicit) = (LayerKind::Explicit, LayerKind::Implicit);
-    let text = shown(alloc, &VALIDATION, explicit, Key::Icd, "")?;
-    assert_eq!(rt;
-        text.as_str(),
-        r#"[LayerEntry { name: "VK_LAYER_KHRONOS_validation", library: Some("libVkLayer_khronos_validation.so"), components: [], disable: None, enable: None, blacklist: [], app_keys: [], override_paths: [] }]"#
-    );
-    let text = shown(alloc, &VALIDATION, implicit, Key::Icd, "")?;
-    assert_eq!(rt; text.as_str(), "Missing { key: DisableEnvironment }");
-    let text = shown(alloc, &NAMESAKE, implicit, Key::Icd, "")?;
-    assert_eq!(rt;
-        text.as_str(),
-        r#"[LayerEntry { name: "VK_LAYER_LUNARG_override", library: Some("o.so"), components: [], disable: Some(EnvPair { name: "A", value: "y" }), enable: None, blacklist: [], app_keys: [], override_paths: [] }]"#
-    );
-    let text = shown(alloc, &OVERRIDE, implicit, Key::Icd, "")?;
-    assert_eq!(rt;
-        text.as_str(),
-        r#"[LayerEntry { name: "VK_LAYER_LUNARG_override", library: None, components: ["VK_LAYER_a", "VK_LAYER_b"], disable: Some(EnvPair { name: "O_OFF", value: "" }), enable: Some(EnvPair { name: "O_ON", value: "yes" }), blacklist: ["VK_LAYER_c"], app_keys: ["/usr/bin/app"], override_paths: ["/opt/l", "/opt/m"] }]"#
-    );
-    let text = shown(alloc, &OVERRIDE, explicit, Key::ComponentLayers, "[]")?;
-    assert_eq!(rt;
-        text.as_str(),
-        r#"[LayerEntry { name: "VK_LAYER_LUNARG_override", library: None, components: [], disable: Some(EnvPair { name: "O_OFF", value: "" }), enable: None, blacklist: [], app_keys: [], override_paths: [] }]"#
-    );
-    let text = shown(alloc, &OVERRIDE, implicit, Key::Name, r#""VK_LAYER_m""#)?;
-    assert_eq!(rt;
-        text.as_str(),
-        r#"[LayerEntry { name: "VK_LAYER_m", library: None, components: ["VK_LAYER_a", "VK_LAYER_b"], disable: Some(EnvPair { name: "O_OFF", value: "" }), enable: Some(EnvPair { name: "O_ON", value: "yes" }), blacklist: [], app_keys: [], override_paths: [] }]"#
-    );
+    check_all_shown(&rt, alloc, &VALIDATION, &VALIDATION_SHOWN)?;
+    check_all_shown(&rt, alloc, &NAMESAKE, &NAMESAKE_SHOWN)?;
+    check_all_shown(&rt, alloc, &OVERRIDE, &OVERRIDE_SHOWN)?;
     Ok(())
 }

@@ -3,6 +3,7 @@ use env_filters::{
     EnvList, FilterList, Glob, LayerKindBit, NoMemory, split_layer_names, split_paths,
 };
 use std::alloc::Global;
+use std::process::Abort;
 use std::test::Fail;
 
 fn globbed(alloc: Global, glob: &str, name: &str) -> Result<bool, NoMemory> {
@@ -90,56 +91,68 @@ fn globs_match_as_the_table_says(rt: HostRuntime) -> Result<(), Fail> {
 fn disable_lists_know_three_words(rt: HostRuntime) -> Result<(), Fail> {
     for (list, name, explicit, implicit) in DISABLED.iter() {
         let alloc = rt.alloc();
-        assert_eq!(rt;
+        let found = [
             disabled(alloc, list, name, LayerKindBit::Explicit),
-            Ok(*explicit)
-        );
-        assert_eq!(rt;
             disabled(alloc, list, name, LayerKindBit::Implicit),
-            Ok(*implicit)
-        );
+        ];
+        assert_eq!(rt; found, [Ok(*explicit), Ok(*implicit)], "{list} {name}");
     }
     Ok(())
+}
+
+// Gives values to names, some of them twice.
+fn put_some(env: &mut EnvList) -> Result<(), NoMemory> {
+    env.put("HOME", "/a")?;
+    env.put("EMPTY", "")?;
+    env.put("HOME", "/b")
+}
+
+// A copy of the variables before `HOME` was emptied.
+fn copy_and_empty(env: &mut EnvList) -> Result<EnvList, NoMemory> {
+    let copy = env.clone()?;
+    env.put("HOME", "")?;
+    Ok(copy)
 }
 
 #[test]
 fn the_last_value_of_a_name_counts(rt: HostRuntime) -> Result<(), Fail> {
     let mut env = EnvList::new(rt.alloc());
     assert_eq!(rt; env.get("HOME"), None);
-    assert_eq!(rt; env.put("HOME", "/a"), Ok(()));
-    assert_eq!(rt; env.put("EMPTY", ""), Ok(()));
-    assert_eq!(rt; env.put("HOME", "/b"), Ok(()));
-    let copy = env.clone()?;
-    assert_eq!(rt; env.put("HOME", ""), Ok(()));
-    assert_eq!(rt; env.get("HOME"), Some(""));
-    assert_eq!(rt; env.get("EMPTY"), Some(""));
-    assert_eq!(rt; env.get("home"), None);
-    assert_eq!(rt; copy.get("HOME"), Some("/b"));
+    assert_eq!(rt; put_some(&mut env), Ok(()));
+    let copy = copy_and_empty(&mut env).ok().ok_or("memory")?;
+    let found = [
+        env.get("HOME"),
+        env.get("EMPTY"),
+        env.get("home"),
+        copy.get("HOME"),
+    ];
+    assert_eq!(rt; found, [Some(""), Some(""), None, Some("/b")]);
     Ok(())
+}
+
+fn check_texts(rt: &impl Abort, found: &[String], wanted: &[&str]) {
+    assert_eq!(rt; found.len(), wanted.len());
+    for (text, want) in found.iter().zip(wanted) {
+        assert_eq!(rt; text.as_str(), *want);
+    }
 }
 
 #[test]
 fn paths_stand_between_colons(rt: HostRuntime) -> Result<(), Fail> {
-    let alloc = rt.alloc();
-    let paths = split_paths(alloc, ":/a::/b").ok().ok_or("memory")?;
-    assert_eq!(rt; paths.len(), 2);
-    assert_eq!(rt; paths[0].as_str(), "/a");
-    assert_eq!(rt; paths[1].as_str(), "/b");
-    let none = split_paths(alloc, "::").ok().ok_or("memory")?;
-    assert_eq!(rt; none.len(), 0);
+    let paths = split_paths(rt.alloc(), ":/a::/b").ok().ok_or("memory")?;
+    check_texts(&rt, &paths, &["/a", "/b"]);
+    let none = split_paths(rt.alloc(), "::").ok().ok_or("memory")?;
+    check_texts(&rt, &none, &[]);
     Ok(())
 }
 
 #[test]
 fn names_stand_between_commas(rt: HostRuntime) -> Result<(), Fail> {
-    let alloc = rt.alloc();
-    let names = split_layer_names(alloc, ",VK_LAYER_a:b,,VK_LAYER_c")
+    let names = split_layer_names(rt.alloc(), ",VK_LAYER_a:b,,VK_LAYER_c")
         .ok()
         .ok_or("memory")?;
-    assert_eq!(rt; names.len(), 2);
-    assert_eq!(rt; names[0].as_str(), "VK_LAYER_a:b");
-    assert_eq!(rt; names[1].as_str(), "VK_LAYER_c");
-    let none = split_layer_names(alloc, ",").ok().ok_or("memory")?;
-    assert_eq!(rt; none.len(), 0);
+    check_texts(&rt, &names, &["VK_LAYER_a:b", "VK_LAYER_c"]);
+    let none = split_layer_names(rt.alloc(), ",").ok().ok_or("memory")?;
+    check_texts(&rt, &none, &[]);
     Ok(())
 }

@@ -9,16 +9,10 @@ use std::process::Abort;
 use std::test::Fail;
 
 // A layer of a name and type, with the variable that an implicit layer needs.
-fn layer(alloc: Global, name: &str, kind: &str) -> Result<String, SearchError> {
-    let mut text = String::from_str(alloc, r#"{"name":""#)?;
-    text.push_str(name)?;
-    text.push_str(r#"","type":""#)?;
-    text.push_str(kind)?;
-    text.push_str(
-        r#"","library_path":"libl.so","api_version":"1.3.275","implementation_version":"1","#,
-    )?;
-    text.push_str(r#""description":"","disable_environment":{"OFF":"1"}}"#)?;
-    Ok(text)
+fn layer(alloc: Global, name: &str, kind: &str) -> Result<String, AllocError> {
+    format!(in alloc;
+        "{{\"name\":\"{name}\",\"type\":\"{kind}\",\"library_path\":\"libl.so\",\"api_version\":\"1.3.275\",\"implementation_version\":\"1\",\"description\":\"\",\"disable_environment\":{{\"OFF\":\"1\"}}}}"
+    )
 }
 
 // Puts a manifest of layers, written as `NAME:TYPE` with blanks between them.
@@ -217,13 +211,19 @@ fn implicit_layers_and_given_folders(rt: HostRuntime) -> Result<(), Fail> {
     check_all_given(&rt, rt.alloc(), &mut tree, &GIVEN)
 }
 
-// An environment that names so many files that aren't there, and the first of them again.
-fn many_files(alloc: Global, count: u32) -> Result<EnvList, SearchError> {
+// The paths of so many files that aren't there, and the first of them again.
+fn many_paths(alloc: Global, count: u32) -> Result<String, AllocError> {
     let mut text = String::new(alloc);
     for number in 0..count {
         write!(text, "/{number}.json:")?;
     }
     text.push_str("/0.json")?;
+    Ok(text)
+}
+
+// An environment that names them.
+fn many_files(alloc: Global, count: u32) -> Result<EnvList, SearchError> {
+    let text = many_paths(alloc, count)?;
     let mut env = EnvList::new(alloc);
     env.put("VK_DRIVER_FILES", text.as_str())?;
     env.put("VK_LAYER_PATH", text.as_str())?;

@@ -42,44 +42,50 @@ fn add_notes(notes: &[Note], text: &mut String) -> Result<(), AllocError> {
     Ok(())
 }
 
-// The paths of drivers with their libraries, a bar, and the notes; or the error.
+// The paths of drivers, a bar, and the notes.
+fn add_drivers(found: &Drivers, text: &mut String) -> Result<(), AllocError> {
+    for driver in &found.list {
+        write!(text, "{} ", driver.path.as_str())?;
+    }
+    text.push('|')?;
+    add_notes(&found.notes, text)
+}
+
+// The same, or the error.
 pub(crate) fn shown(
     alloc: Global,
     found: &Result<Drivers, SearchError>,
 ) -> Result<String, AllocError> {
     let mut text = String::new(alloc);
     match found {
-        Ok(found) => {
-            for driver in &found.list {
-                write!(text, "{} ", driver.path.as_str())?;
-            }
-            text.push('|')?;
-            add_notes(&found.notes, &mut text)?;
-        }
+        Ok(found) => add_drivers(found, &mut text)?,
         Err(error) => write!(text, "{error:?}")?,
     }
     Ok(text)
 }
 
-// The same of layers, with their names.
+// The paths of layers with their names, a bar, and the notes.
+fn add_layers(found: &LayerList, text: &mut String) -> Result<(), AllocError> {
+    for layer in &found.list {
+        write!(
+            text,
+            "{} {} ",
+            layer.path.as_str(),
+            layer.entry.name.as_str()
+        )?;
+    }
+    text.push('|')?;
+    add_notes(&found.notes, text)
+}
+
+// The same, or the error.
 pub(crate) fn shown_layers(
     alloc: Global,
     found: &Result<LayerList, SearchError>,
 ) -> Result<String, AllocError> {
     let mut text = String::new(alloc);
     match found {
-        Ok(found) => {
-            for layer in &found.list {
-                write!(
-                    text,
-                    "{} {} ",
-                    layer.path.as_str(),
-                    layer.entry.name.as_str()
-                )?;
-            }
-            text.push('|')?;
-            add_notes(&found.notes, &mut text)?;
-        }
+        Ok(found) => add_layers(found, &mut text)?,
         Err(error) => write!(text, "{error:?}")?,
     }
     Ok(text)
@@ -328,8 +334,8 @@ fn a_driver_has_what_its_manifest_says(rt: HostRuntime) -> Result<(), Fail> {
     let env = env_beside(alloc, "")?;
     let found = find_drivers(alloc, &mut tree, &env, "")?;
     let first = found.list.first().ok_or("a driver")?;
-    assert_eq!(rt; first.entry.library.as_str(), "liba.so");
-    assert_eq!(rt; first.entry.portability, false);
+    let entry = (first.entry.library.as_str(), first.entry.portability);
+    assert_eq!(rt; entry, ("liba.so", false));
     Ok(())
 }
 

@@ -70,6 +70,35 @@ fn cut_text(alloc: Global, text: &str, lines: usize, whole: bool) -> Result<Stri
     Ok(front)
 }
 
+// A trace that is cut, and whether a line would end with the next byte: it ends with that line where there is just its end missing.
+fn is_cut(
+    rt: &impl Abort,
+    alloc: Global,
+    row: &Row,
+    text: &str,
+    cut: &[u8],
+    next_ends: bool,
+) -> Result<(), Fail> {
+    let unended = cut.last().is_some_and(|byte| *byte != b'\n');
+    let lines = lines_in(cut).saturating_add(usize::from(unended && next_ends));
+    let whole = !unended || next_ends;
+    let mut source = MemSource::new(Vec::from_slice(alloc, cut)?, Vec::new(alloc));
+    let (status, out) = ended_by(alloc, row, &mut source)?;
+    let wanted = cut_text(alloc, text, lines, whole)?;
+    let ends_well = if whole && lines % 2 == 1 {
+        Status::Clean
+    } else {
+        Status::Malformed
+    };
+    assert_eq!(rt;
+        (status, out.bytes() == wanted.as_bytes()),
+        (ends_well, true),
+        "{}",
+        cut.len()
+    );
+    Ok(())
+}
+
 #[test]
 fn a_trace_is_cut_behind_each_byte(rt: HostRuntime) -> Result<(), Fail> {
     let alloc = rt.alloc();
@@ -78,24 +107,35 @@ fn a_trace_is_cut_behind_each_byte(rt: HostRuntime) -> Result<(), Fail> {
     let text = lines_of(alloc, row.start.text, row.text)?;
     let bytes = trace.as_bytes();
     for count in 0..=bytes.len() {
-        let cut = &bytes[..count];
-        let unended = cut.last().is_some_and(|byte| *byte != b'\n');
         let next_ends = bytes.get(count) == Some(&b'\n');
-        let lines = lines_in(cut).saturating_add(usize::from(unended && next_ends));
-        let whole = !unended || next_ends;
-        let mut source = MemSource::new(Vec::from_slice(alloc, cut)?, Vec::new(alloc));
-        let (status, out) = ended_by(alloc, row, &mut source)?;
-        let wanted = cut_text(alloc, text.as_str(), lines, whole)?;
-        assert!(rt; out.bytes() == wanted.as_bytes(), "{count}");
-        assert!(rt;
-            (status == Status::Clean) == (whole && lines % 2 == 1),
-            "{count}"
-        );
-        assert!(rt;
-            status == Status::Clean || status == Status::Malformed,
-            "{count}"
-        );
+        is_cut(&rt, alloc, row, text.as_str(), &bytes[..count], next_ends)?;
     }
+    Ok(())
+}
+
+// A source of these bytes that fails behind a front of them.
+fn fails_behind(
+    rt: &impl Abort,
+    alloc: Global,
+    row: &Row,
+    text: &str,
+    bytes: &[u8],
+    front: &[u8],
+) -> Result<(), Fail> {
+    let mut source = ByteSource {
+        bytes: Vec::from_slice(alloc, bytes)?,
+        at: 0,
+        fails_at: front.len(),
+        faults: 0,
+    };
+    let (status, out) = ended_by(alloc, row, &mut source)?;
+    let wanted = text_by(alloc, text, lines_in(front))?;
+    assert_eq!(rt;
+        (status, out.bytes() == wanted.as_bytes()),
+        (Status::ReadFault, true),
+        "{}",
+        front.len()
+    );
     Ok(())
 }
 
@@ -107,16 +147,7 @@ fn a_source_fails_behind_each_byte(rt: HostRuntime) -> Result<(), Fail> {
     let text = lines_of(alloc, row.start.text, row.text)?;
     let bytes = trace.as_bytes();
     for count in 0..=bytes.len() {
-        let mut source = ByteSource {
-            bytes: Vec::from_slice(alloc, bytes)?,
-            at: 0,
-            fails_at: count,
-            faults: 0,
-        };
-        let (status, out) = ended_by(alloc, row, &mut source)?;
-        let wanted = text_by(alloc, text.as_str(), lines_in(&bytes[..count]))?;
-        assert_eq!(rt; status, Status::ReadFault);
-        assert!(rt; out.bytes() == wanted.as_bytes(), "{count}");
+        fails_behind(&rt, alloc, row, text.as_str(), bytes, &bytes[..count])?;
     }
     Ok(())
 }

@@ -68,22 +68,31 @@ fn ran_failing(alloc: Global, row: &Row, words: &str, call: usize) -> Result<Ran
 // Nothing is read of the trace, written or told.
 fn shows_nothing(rt: &impl Abort, alloc: Global, row: &Row, ran: &Ran) -> Result<(), Fail> {
     let trace = trace_of(alloc, row)?;
-    assert_eq!(rt; ran.status, Status::ReadFault);
-    assert!(rt; ran.streams.out.bytes().is_empty());
-    assert!(rt; ran.streams.errs.bytes() == b"vkreplay: read fault\n".as_slice());
-    assert!(rt; ran.streams.trace.left() == trace.as_bytes());
-    assert!(rt; ran.told.is_empty());
-    assert!(rt; !ran.comes_back);
+    let shown = [
+        ran.streams.out.bytes().is_empty(),
+        ran.streams.errs.bytes() == b"vkreplay: read fault\n".as_slice(),
+        ran.streams.trace.left() == trace.as_bytes(),
+        ran.told.is_empty(),
+    ];
+    assert_eq!(rt;
+        (ran.status, ran.comes_back, shown),
+        (Status::ReadFault, false, [true, true, true, true])
+    );
     Ok(())
 }
 
 // The row's own result.
 fn is_own(rt: &impl Abort, alloc: Global, row: &Row, ran: &Ran) -> Result<(), Fail> {
     let text = lines_of(alloc, row.start.text, row.text)?;
-    assert_eq!(rt; ran.status, row.status);
-    assert!(rt; ran.streams.out.bytes() == text.as_bytes(), "{text}");
-    assert!(rt; ran.streams.errs.bytes().is_empty(), "{text}");
-    assert!(rt; ran.comes_back);
+    let shown = [
+        ran.streams.out.bytes() == text.as_bytes(),
+        ran.streams.errs.bytes().is_empty(),
+    ];
+    assert_eq!(rt;
+        (ran.status, ran.comes_back, shown),
+        (row.status, true, [true, true]),
+        "{text}"
+    );
     Ok(())
 }
 
@@ -145,37 +154,60 @@ fn keeps_a_front(rt: &impl Abort, alloc: Global, row: &Row, ran: &Ran) -> Result
     let text = lines_of(alloc, row.start.text, row.text)?;
     let told = lines_of(alloc, row.start.told, row.told)?;
     let out = ran.streams.out.bytes();
-    assert_eq!(rt; ran.status, Status::WriteFault);
-    assert!(rt; ran.streams.errs.bytes() == b"vkreplay: write fault\n".as_slice());
-    assert!(rt; text.as_bytes().starts_with(out));
-    assert!(rt; told.as_bytes().starts_with(&ran.told));
-    assert!(rt; returns_in(out) <= lines_in(&ran.told));
-    assert!(rt; !ran.comes_back);
+    let shown = [
+        ran.streams.errs.bytes() == b"vkreplay: write fault\n".as_slice(),
+        text.as_bytes().starts_with(out),
+        told.as_bytes().starts_with(&ran.told),
+        returns_in(out) <= lines_in(&ran.told),
+    ];
+    assert_eq!(rt;
+        (ran.status, ran.comes_back, shown),
+        (Status::WriteFault, false, [true, true, true, true])
+    );
     Ok(())
 }
 
-// A sink that takes all that it is handed has whole lines, whichever of its calls fails. There is a call for each line, or fewer.
-fn fails_at_each_write(rt: &impl Abort, alloc: Global, row: &Row) -> Result<(), Fail> {
-    let text = lines_of(alloc, row.start.text, row.text)?;
+// A run of a row over a sink with room for so many bytes, whose write with this number fails.
+fn ran_to_write(alloc: Global, row: &Row, room: usize, write: usize) -> Result<Ran, Fail> {
+    let number = u64::try_from(write).ok().ok_or("too large")?;
+    ran_into(alloc, row, room, &[number])
+}
+
+// A front of whole lines is written.
+fn keeps_lines(rt: &impl Abort, alloc: Global, row: &Row, ran: &Ran) -> Result<(), Fail> {
+    keeps_a_front(rt, alloc, row, ran)?;
+    let out = ran.streams.out.bytes();
+    assert!(rt; out.is_empty() || out.ends_with(b"\n"));
+    Ok(())
+}
+
+// Goes through the writes until one isn't made, as there is a call for each line, or fewer; the rest fail in vain.
+fn writes_fail(
+    rt: &impl Abort,
+    alloc: Global,
+    row: &Row,
+    room: usize,
+    lines: usize,
+) -> Result<(), Fail> {
     let mut stops = true;
-    for write in 1..=lines_in(text.as_bytes()) {
-        let number = u64::try_from(write).ok().ok_or("too large")?;
-        let ran = ran_into(alloc, row, text.len(), &[number])?;
+    for write in 1..=lines {
+        let ran = ran_to_write(alloc, row, room, write)?;
         stops = stops && ran.status == Status::WriteFault;
         if stops {
-            keeps_a_front(rt, alloc, row, &ran)?;
-            let out = ran.streams.out.bytes();
-            assert!(rt; out.is_empty() || out.ends_with(b"\n"), "{write}");
+            keeps_lines(rt, alloc, row, &ran)?;
         } else {
             is_own(rt, alloc, row, &ran)?;
         }
     }
-    is_own(
-        rt,
-        alloc,
-        row,
-        &ran_into(alloc, row, text.len(), &[u64::MAX])?,
-    )
+    Ok(())
+}
+
+// A sink that takes all that it is handed has whole lines, whichever of its calls fails.
+fn fails_at_each_write(rt: &impl Abort, alloc: Global, row: &Row) -> Result<(), Fail> {
+    let text = lines_of(alloc, row.start.text, row.text)?;
+    writes_fail(rt, alloc, row, text.len(), lines_in(text.as_bytes()))?;
+    let ran = ran_into(alloc, row, text.len(), &[u64::MAX])?;
+    is_own(rt, alloc, row, &ran)
 }
 
 // A sink without room for the whole text has all that there is room for.
@@ -260,21 +292,39 @@ fn said_over(alloc: Global, said: &Said, errs: MemSink) -> Result<Ran, Fail> {
     run_of_streams(alloc, said.words, &[HOME], streams)
 }
 
+// An error sink with room for a part of the line has a front of it, and all else is as in the whole run.
+fn is_said_in(
+    rt: &impl Abort,
+    alloc: Global,
+    said: &Said,
+    room: usize,
+    whole: &Ran,
+) -> Result<(), Fail> {
+    let errs = MemSink::new(alloc, room, Vec::new(alloc))
+        .ok()
+        .ok_or("no memory")?;
+    let ran = said_over(alloc, said, errs)?;
+    let line = b"vkreplay: ".as_slice();
+    let there = ran.streams.errs.bytes();
+    let shown = [
+        ran.streams.out.bytes() == whole.streams.out.bytes(),
+        line.starts_with(there) || there.starts_with(line),
+        whole.streams.errs.bytes().starts_with(there),
+    ];
+    assert_eq!(rt;
+        (ran.status, shown),
+        (said.status, [true, true, true]),
+        "{room}"
+    );
+    Ok(())
+}
+
 // An error sink that fails at once, and those with room for a part of the line.
 fn is_said_to_none(rt: &impl Abort, alloc: Global, said: &Said) -> Result<(), Fail> {
     let whole = said_over(alloc, said, sink(alloc, 0)?)?;
     assert_eq!(rt; whole.status, said.status);
     for room in 0..12 {
-        let errs = MemSink::new(alloc, room, Vec::new(alloc))
-            .ok()
-            .ok_or("no memory")?;
-        let ran = said_over(alloc, said, errs)?;
-        assert_eq!(rt; ran.status, said.status);
-        assert!(rt; ran.streams.out.bytes() == whole.streams.out.bytes());
-        let line = b"vkreplay: ".as_slice();
-        let there = ran.streams.errs.bytes();
-        assert!(rt; line.starts_with(there) || there.starts_with(line));
-        assert!(rt; whole.streams.errs.bytes().starts_with(there));
+        is_said_in(rt, alloc, said, room, &whole)?;
     }
     Ok(())
 }
@@ -310,6 +360,16 @@ fn plain_trace_seen(alloc: Global, count: u32, next: &str) -> Result<Seen, Fail>
     )
 }
 
+// The lines of the first instance.
+fn first_lines(alloc: Global) -> Result<String, Fail> {
+    let shown = plain_text(alloc, 64)?;
+    let chain = shown.as_str().strip_prefix("chain 0").ok_or("no chain")?;
+    let text = format!(in alloc;
+        "chain 1{chain}ret 1 vkCreateInstance VK_ERROR_OUT_OF_HOST_MEMORY born=0\n"
+    )?;
+    Ok(text)
+}
+
 // What stops the trace at its fourth line leaves the lines of the first instance.
 fn leaves_the_first(
     rt: &impl Abort,
@@ -318,15 +378,13 @@ fn leaves_the_first(
     status: Status,
     errs: &[u8],
 ) -> Result<(), Fail> {
-    let shown = plain_text(alloc, 64)?;
-    let chain = shown.as_str().strip_prefix("chain 0").ok_or("no chain")?;
-    let text = format!(in alloc;
-        "chain 1{chain}ret 1 vkCreateInstance VK_ERROR_OUT_OF_HOST_MEMORY born=0\n"
-    )?;
+    let text = first_lines(alloc)?;
     let seen = plain_trace_seen(alloc, 64, next)?;
-    assert_eq!(rt; seen.status, status);
-    assert!(rt; seen.out.as_slice() == text.as_bytes(), "{next}");
-    assert!(rt; seen.errs.as_slice() == errs, "{next}");
+    let shown = [
+        seen.out.as_slice() == text.as_bytes(),
+        seen.errs.as_slice() == errs,
+    ];
+    assert_eq!(rt; (seen.status, shown), (status, [true, true]), "{next}");
     Ok(())
 }
 

@@ -3,6 +3,7 @@ ghost use Rattle.stream_log.specs.Log.{owner_view, last_time, line, appended, gi
 
 use crate::{DeviceLog, Entry, NoMemory, Owner, Seen, StepClock};
 use std::alloc::Global;
+use std::process::Abort;
 use std::test::*;
 
 // A log for the threads 1, 2 and 4294967295.
@@ -47,6 +48,24 @@ fn is(entry: &Entry, thread: u32, time: u64, begins: bool, results: &[u64]) -> b
         && entry.results.as_slice() == results
 }
 
+// An entry's thread, its time, whether it begins a call, and its results.
+type Parts<'a> = (u32, u64, bool, &'a [u64]);
+
+fn check_entries(rt: &impl Abort, entries: &[Entry], wanted: &[Parts<'_>]) {
+    assert_eq!(rt; entries.len(), wanted.len());
+    for (entry, (thread, time, begins, results)) in entries.iter().zip(wanted) {
+        assert!(rt; is(entry, *thread, *time, *begins, *results), "at {time}");
+    }
+}
+
+// For how many entries and results there is room, and the last time.
+fn state(owner: &Owner) -> (u32, u32, u64)
+    ensures { result ≡ (owner.now.entries, owner.now.results, last_time owner.now.list) }
+{
+    let (entries, results) = owner.room();
+    (entries, results, owner.last_time())
+}
+
 #[test]
 fn three_ticks(rt: HostRuntime) -> Result<(), Fail> {
     let Ok((clock, mut first)) = StepClock::new(rt.alloc(), 3) else {
@@ -78,20 +97,18 @@ fn two_entries(rt: HostRuntime) -> Result<(), Fail> {
     let Ok((log, mut owner)) = log_of_three(rt.alloc(), 2, 1) else {
         panic!(rt; "no memory")
     };
-    assert_eq!(rt; owner.last_time(), 0);
-    assert!(rt; owner.room() == (2, 1));
+    let empty = state(&owner);
     owner.append(&log, 1, 1, true, &[]);
-    assert!(rt; owner.room() == (1, 1));
+    let half = state(&owner);
     let seen = owner.give(&log, 1);
     owner.append(&log, 2, 3, false, &[7]);
-    assert!(rt; owner.room() == (0, 0));
-    assert_eq!(rt; owner.last_time(), 3);
+    let full = state(&owner);
     owner.take(&log, seen);
     let Ok(entries) = log.close(rt.alloc(), owner) else {
         panic!(rt; "no memory")
     };
-    assert_eq!(rt; entries.len(), 2);
-    assert!(rt; is(&entries[0], 1, 1, true, &[]) && is(&entries[1], 2, 3, false, &[7]));
+    assert_eq!(rt; [empty, half, full], [(2, 1, 0), (1, 1, 1), (0, 0, 3)]);
+    check_entries(&rt, &entries, &[(1, 1, true, &[]), (2, 3, false, &[7])]);
     Ok(())
 }
 
@@ -130,9 +147,13 @@ fn tokens_in_both_orders(rt: HostRuntime) -> Result<(), Fail> {
     let Ok(entries) = log.close(rt.alloc(), owner) else {
         panic!(rt; "no memory")
     };
-    assert_eq!(rt; entries.len(), 4);
-    assert!(rt; is(&entries[0], 1, 5, false, &[]) && is(&entries[1], 2, 6, false, &[]));
-    assert!(rt; is(&entries[2], 2, 7, false, &[9]) && is(&entries[3], 1, 8, false, &[]));
+    let wanted: [Parts<'_>; 4] = [
+        (1, 5, false, &[]),
+        (2, 6, false, &[]),
+        (2, 7, false, &[9]),
+        (1, 8, false, &[]),
+    ];
+    check_entries(&rt, &entries, &wanted);
     Ok(())
 }
 
@@ -151,9 +172,12 @@ fn three_tokens(rt: HostRuntime) -> Result<(), Fail> {
     let Ok(entries) = log.close(rt.alloc(), owner) else {
         panic!(rt; "no memory")
     };
-    assert_eq!(rt; entries.len(), 3);
-    assert!(rt; is(&entries[0], 2, 1, false, &[]) && is(&entries[1], 0xffff_ffff, 2, false, &[]));
-    assert!(rt; is(&entries[2], 1, 3, false, &[]));
+    let wanted: [Parts<'_>; 3] = [
+        (2, 1, false, &[]),
+        (0xffff_ffff, 2, false, &[]),
+        (1, 3, false, &[]),
+    ];
+    check_entries(&rt, &entries, &wanted);
     Ok(())
 }
 
@@ -164,28 +188,18 @@ fn filled_to_its_room(rt: HostRuntime) -> Result<(), Fail> {
         panic!(rt; "no memory")
     };
     owner.append(&log, 1, 1, false, &[0]);
-    assert!(rt; owner.room() == (1, 4));
-    owner.append(
-        &log,
-        0xffff_ffff,
-        u64::MAX,
-        true,
-        &[u64::MAX, 0, 1, u64::MAX],
-    );
-    assert!(rt; owner.room() == (0, 0) && owner.last_time() == u64::MAX);
+    let half = state(&owner);
+    let greatest = [u64::MAX, 0, 1, u64::MAX];
+    owner.append(&log, 0xffff_ffff, u64::MAX, true, &greatest);
+    let full = state(&owner);
     let Ok(entries) = log.close(rt.alloc(), owner) else {
         panic!(rt; "no memory")
     };
-    assert_eq!(rt; entries.len(), 2);
-    assert!(rt; is(&entries[0], 1, 1, false, &[0]));
-    assert!(rt;
-        is(
-            &entries[1],
-            0xffff_ffff,
-            u64::MAX,
-            true,
-            &[u64::MAX, 0, 1, u64::MAX]
-        )
-    );
+    assert_eq!(rt; [half, full], [(1, 4, 1), (0, 0, u64::MAX)]);
+    let wanted: [Parts<'_>; 2] = [
+        (1, 1, false, &[0]),
+        (0xffff_ffff, u64::MAX, true, &greatest),
+    ];
+    check_entries(&rt, &entries, &wanted);
     Ok(())
 }

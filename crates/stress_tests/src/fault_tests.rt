@@ -127,16 +127,23 @@ const WRITTEN_BY: [usize; 12] = [0, 0, 2, 3, 3, 4, 4, 5, 5, 6, 7, 8];
 
 const TOLD_BY: [usize; 12] = [0, 0, 1, 1, 2, 2, 3, 3, 4, 4, 4, 4];
 
+// Whether these are whole lines of the text, the first ones.
+fn has_whole_lines(out: &[u8]) -> bool {
+    TWICE_TEXT.as_bytes().starts_with(out) && (out.is_empty() || out.ends_with(b"\n"))
+}
+
 #[test]
 fn a_source_that_fails_leaves_its_whole_lines(rt: HostRuntime) -> Result<(), Fail> {
     for read in 0..=TWICE.len() {
         let cut = cut_run(rt.alloc(), read, TWICE_TEXT.len())?;
         let lines = lines_in(&TWICE.as_bytes()[..read]);
-        assert_eq!(rt; cut.status, Status::ReadFault);
-        assert!(rt; TWICE_TEXT.as_bytes().starts_with(&cut.out), "{read}");
-        assert!(rt; cut.out.is_empty() || cut.out.ends_with(b"\n"), "{read}");
-        assert_eq!(rt; Some(&lines_in(&cut.out)), WRITTEN_BY.get(lines));
-        assert_eq!(rt; Some(&cut.told), TOLD_BY.get(lines));
+        let wanted = (WRITTEN_BY.get(lines).copied(), TOLD_BY.get(lines).copied());
+        let counts = (Some(lines_in(&cut.out)), Some(cut.told));
+        assert_eq!(rt;
+            (cut.status, has_whole_lines(&cut.out), counts),
+            (Status::ReadFault, true, wanted),
+            "{read}"
+        );
     }
     Ok(())
 }
@@ -173,13 +180,14 @@ fn size_of_lines(count: usize) -> usize {
 fn a_sink_that_fails_has_a_front_of_the_text(rt: HostRuntime) -> Result<(), Fail> {
     for written in 0..TWICE_TEXT.len() {
         let cut = cut_run(rt.alloc(), usize::MAX, written)?;
-        assert_eq!(rt; cut.status, Status::WriteFault);
-        assert!(rt;
-            cut.out.as_slice() == &TWICE_TEXT.as_bytes()[..written],
+        let is_front = cut.out.as_slice() == &TWICE_TEXT.as_bytes()[..written];
+        let told = told_behind(&cut.out);
+        let read = size_of_lines(line_of_cut(&cut.out));
+        assert_eq!(rt;
+            (cut.status, is_front, cut.told, cut.read),
+            (Status::WriteFault, true, told, read),
             "{written}"
         );
-        assert_eq!(rt; cut.told, told_behind(&cut.out));
-        assert_eq!(rt; cut.read, size_of_lines(line_of_cut(&cut.out)));
     }
     Ok(())
 }
@@ -187,9 +195,11 @@ fn a_sink_that_fails_has_a_front_of_the_text(rt: HostRuntime) -> Result<(), Fail
 #[test]
 fn one_byte_a_call_is_enough(rt: HostRuntime) -> Result<(), Fail> {
     let cut = cut_run(rt.alloc(), usize::MAX, usize::MAX)?;
-    assert_eq!(rt; cut.status, Status::Reported);
-    assert!(rt; cut.out.as_slice() == TWICE_TEXT.as_bytes());
-    assert_eq!(rt; cut.told, 4);
+    let is_whole = cut.out.as_slice() == TWICE_TEXT.as_bytes();
+    assert_eq!(rt;
+        (cut.status, is_whole, cut.told),
+        (Status::Reported, true, 4)
+    );
     Ok(())
 }
 
@@ -236,13 +246,21 @@ fn pieces_of<S: Source>(alloc: Global, trace: &mut S) -> Result<usize, Fail> {
     Ok(out.inner.pieces)
 }
 
+fn pieces_of_slow(alloc: Global) -> Result<usize, Fail> {
+    let mut slow = source_at(alloc, usize::MAX)?;
+    pieces_of(alloc, &mut slow)
+}
+
+fn pieces_of_whole(alloc: Global) -> Result<usize, Fail> {
+    let mut whole = MemSource::new(Vec::from_slice(alloc, TWICE.as_bytes())?, Vec::new(alloc));
+    pieces_of(alloc, &mut whole)
+}
+
 // Seven events of the trace write something, and the end line is one piece more. Where the source gives all at once, all lines are one.
 #[test]
 fn nothing_is_held_back_while_the_source_may_wait(rt: HostRuntime) -> Result<(), Fail> {
-    let alloc = rt.alloc();
-    let mut slow = source_at(alloc, usize::MAX)?;
-    assert_eq!(rt; pieces_of(alloc, &mut slow)?, 8);
-    let mut whole = MemSource::new(Vec::from_slice(alloc, TWICE.as_bytes())?, Vec::new(alloc));
-    assert_eq!(rt; pieces_of(alloc, &mut whole)?, 2);
+    let slow = pieces_of_slow(rt.alloc())?;
+    let whole = pieces_of_whole(rt.alloc())?;
+    assert_eq!(rt; [slow, whole], [8, 2]);
     Ok(())
 }

@@ -243,36 +243,51 @@ fn without_end(text: &[u8]) -> &[u8] {
     &text[..kept.min(text.len())]
 }
 
-// The output is whole lines. Where the run came to its end, the end line is the last one, and it counts the returns, the skipped calls
-// and the reports above it; otherwise there is none, and one line is said.
-fn is_whole(rt: &impl Abort, alloc: Global, came: &Came, trace: &[u8]) -> Result<(), Fail> {
+// Whether the one end line is the last line, and counts the returns, the skipped calls and these reports.
+fn ends_counted(alloc: Global, out: &[u8], reports: usize) -> Result<bool, AllocError> {
+    let calls = lines_with(out, b"ret ");
+    let skipped = skipped_in(out);
+    let end = format!(in alloc; "end calls={calls} skipped={skipped} reports={reports}\n")?;
+    Ok(lines_with(out, b"end ") == 1 && out.ends_with(end.as_bytes()))
+}
+
+// Whether the output ends as it must, whether the status is that of the reports, and whether what is said is right: where the run came
+// to its end, the end line is the last one and nothing is said; otherwise there is no end line, and one line is said.
+fn ends_by_status(alloc: Global, came: &Came) -> Result<[bool; 3], AllocError> {
     let out = came.out.bytes();
     let said = came.errs.bytes();
-    assert!(rt; out.is_empty() || out.ends_with(b"\n"), "{trace:?}");
     let reports = lines_with(out, b"report ");
-    if came.status == Status::Clean || came.status == Status::Reported {
-        let calls = lines_with(out, b"ret ");
-        let skipped = skipped_in(out);
-        let end = format!(in alloc; "end calls={calls} skipped={skipped} reports={reports}\n")?;
-        assert!(rt; lines_with(out, b"end ") == 1, "{trace:?}");
-        assert!(rt; out.ends_with(end.as_bytes()), "{trace:?}");
-        assert!(rt;
+    match came.status {
+        Status::Clean | Status::Reported => Ok([
+            ends_counted(alloc, out, reports)?,
             (came.status == Status::Clean) == (reports == 0),
-            "{trace:?}"
-        );
-        assert!(rt; said.is_empty(), "{trace:?}");
-    } else {
-        assert!(rt; lines_with(out, b"end ") == 0, "{trace:?}");
-        assert!(rt; lines_with(said, b"vkreplay: ") == 1, "{trace:?}");
+            said.is_empty(),
+        ]),
+        _ => Ok([
+            lines_with(out, b"end ") == 0,
+            true,
+            lines_with(said, b"vkreplay: ") == 1,
+        ]),
     }
+}
+
+// The output is whole lines, and ends by the run's status.
+fn is_whole(rt: &impl Abort, alloc: Global, came: &Came, trace: &[u8]) -> Result<(), Fail> {
+    let out = came.out.bytes();
+    let has_lines = out.is_empty() || out.ends_with(b"\n");
+    let ends = ends_by_status(alloc, came)?;
+    assert_eq!(rt; (has_lines, ends), (true, [true, true, true]), "{trace:?}");
     Ok(())
 }
 
 // Another run came to the same.
 fn is_same(rt: &impl Abort, one: &Came, other: &Came, trace: &[u8]) {
-    assert_eq!(rt; one.status, other.status);
-    assert!(rt; one.out.bytes() == other.out.bytes(), "{trace:?}");
-    assert!(rt; one.errs.bytes() == other.errs.bytes(), "{trace:?}");
+    let same = [
+        one.status == other.status,
+        one.out.bytes() == other.out.bytes(),
+        one.errs.bytes() == other.errs.bytes(),
+    ];
+    assert_eq!(rt; same, [true, true, true], "{trace:?}");
 }
 
 fn answers_make_no_difference(
@@ -290,6 +305,16 @@ fn answers_make_no_difference(
     Ok(())
 }
 
+// The first lines of a trace.
+fn front_of(alloc: Global, trace: &[u8], count: usize) -> Result<Vec<u8>, AllocError> {
+    let mut front = Vec::new(alloc);
+    for line in trace.split(|byte| *byte == b'\n').take(count) {
+        front.extend_from_slice(line)?;
+        front.push(b'\n')?;
+    }
+    Ok(front)
+}
+
 // The lines of a front of a trace, and what they come to: a front of what the whole comes to.
 fn front_comes_first(
     rt: &impl Abort,
@@ -300,11 +325,7 @@ fn front_comes_first(
 ) -> Result<(), Fail> {
     let trace = given.trace.as_slice();
     let count = dice.below(lines_with(trace, b""));
-    let mut front = Vec::new(alloc);
-    for line in trace.split(|byte| *byte == b'\n').take(count) {
-        front.extend_from_slice(line)?;
-        front.push(b'\n')?;
-    }
+    let front = front_of(alloc, trace, count)?;
     let cut = came_under(alloc, &front, given, &mut ModelDriver::new(alloc))?;
     assert!(rt;
         came.out.bytes().starts_with(without_end(cut.out.bytes())),
@@ -313,16 +334,26 @@ fn front_comes_first(
     Ok(())
 }
 
+fn comes_again(rt: &impl Abort, alloc: Global, came: &Came, given: &Given) -> Result<(), Fail> {
+    let again = came_under(alloc, &given.trace, given, &mut ModelDriver::new(alloc))?;
+    is_same(rt, came, &again, &given.trace);
+    Ok(())
+}
+
+// Another run comes to the same, whatever its driver answers.
+fn others_are_same(rt: &impl Abort, alloc: Global, came: &Came, given: &Given) -> Result<(), Fail> {
+    const M: u64 = u64::MAX;
+    comes_again(rt, alloc, came, given)?;
+    answers_make_no_difference(rt, alloc, came, given, &[])?;
+    answers_make_no_difference(rt, alloc, came, given, &[M, M, M, M, M, M, M, M, M])?;
+    answers_make_no_difference(rt, alloc, came, given, &[2, 1, 4, 3, 6, 5, 8, 7, 9])
+}
+
 // All that holds of any run.
 fn holds(rt: &impl Abort, alloc: Global, dice: &mut Dice, given: &Given) -> Result<(), Fail> {
-    const M: u64 = u64::MAX;
     let came = came_under(alloc, &given.trace, given, &mut ModelDriver::new(alloc))?;
     is_whole(rt, alloc, &came, &given.trace)?;
-    let again = came_under(alloc, &given.trace, given, &mut ModelDriver::new(alloc))?;
-    is_same(rt, &came, &again, &given.trace);
-    answers_make_no_difference(rt, alloc, &came, given, &[])?;
-    answers_make_no_difference(rt, alloc, &came, given, &[M, M, M, M, M, M, M, M, M])?;
-    answers_make_no_difference(rt, alloc, &came, given, &[2, 1, 4, 3, 6, 5, 8, 7, 9])?;
+    others_are_same(rt, alloc, &came, given)?;
     front_comes_first(rt, alloc, dice, &came, given)
 }
 

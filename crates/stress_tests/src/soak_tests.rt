@@ -87,27 +87,35 @@ fn done_over(
     })
 }
 
+// Whether this is all that is written, and nothing is said.
+fn is_all(done: &Done, text: &str) -> bool {
+    done.out.bytes() == text.as_bytes() && done.errs.bytes().is_empty()
+}
+
 #[test]
 fn a_generated_trace_is_written(rt: HostRuntime) -> Result<(), Fail> {
-    let alloc = rt.alloc();
-    let done = done_over(alloc, "gen --number 0 --calls 3", &[], &[], 4096)?;
-    assert_eq!(rt; done.status, Status::Clean);
-    assert!(rt; done.out.bytes() == MADE.as_bytes());
-    assert!(rt; done.errs.bytes().is_empty());
-    assert_eq!(rt; done.told, 0);
-    assert_eq!(rt; done.comes_back, false);
+    let done = done_over(rt.alloc(), "gen --number 0 --calls 3", &[], &[], 4096)?;
+    assert_eq!(rt;
+        (done.status, is_all(&done, MADE), done.told, done.comes_back),
+        (Status::Clean, true, 0, false)
+    );
     Ok(())
 }
 
 #[test]
 fn a_generated_trace_is_replayed(rt: HostRuntime) -> Result<(), Fail> {
-    let alloc = rt.alloc();
-    let done = done_over(alloc, "soak --calls=3 --number=0", &[], &[DRIVER], 4096)?;
-    assert_eq!(rt; done.status, Status::Clean);
-    assert!(rt; done.out.bytes() == b"end calls=10 skipped=0 reports=0\n".as_slice());
-    assert!(rt; done.errs.bytes().is_empty());
-    assert_eq!(rt; done.told, 10);
-    assert!(rt; done.comes_back);
+    let done = done_over(
+        rt.alloc(),
+        "soak --calls=3 --number=0",
+        &[],
+        &[DRIVER],
+        4096,
+    )?;
+    let is_all = is_all(&done, "end calls=10 skipped=0 reports=0\n");
+    assert_eq!(rt;
+        (done.status, is_all, done.told, done.comes_back),
+        (Status::Clean, true, 10, true)
+    );
     Ok(())
 }
 
@@ -115,9 +123,11 @@ fn a_generated_trace_is_replayed(rt: HostRuntime) -> Result<(), Fail> {
 #[test]
 fn a_generated_trace_is_replayed_without_a_driver(rt: HostRuntime) -> Result<(), Fail> {
     let done = done_over(rt.alloc(), "soak --number 0 --calls 3", &[], &[], 4096)?;
-    assert_eq!(rt; done.status, Status::Reported);
-    assert!(rt; done.out.bytes() == b"end calls=10 skipped=10 reports=9\n".as_slice());
-    assert_eq!(rt; done.told, 0);
+    let is_all = is_all(&done, "end calls=10 skipped=10 reports=9\n");
+    assert_eq!(rt;
+        (done.status, is_all, done.told),
+        (Status::Reported, true, 0)
+    );
     Ok(())
 }
 
@@ -125,10 +135,15 @@ fn a_generated_trace_is_replayed_without_a_driver(rt: HostRuntime) -> Result<(),
 fn broken(rt: &impl Abort, alloc: Global, words: &str, text: &str) -> Result<(), Fail> {
     for room in 0..text.len() {
         let done = done_over(alloc, words, &[], &[DRIVER], room)?;
-        assert_eq!(rt; done.status, Status::WriteFault);
-        assert!(rt; done.out.bytes() == &text.as_bytes()[..room], "{room}");
-        assert!(rt; done.errs.bytes() == b"vkreplay: write fault\n".as_slice());
-        assert_eq!(rt; done.comes_back, false);
+        let shown = [
+            done.out.bytes() == &text.as_bytes()[..room],
+            done.errs.bytes() == b"vkreplay: write fault\n".as_slice(),
+        ];
+        assert_eq!(rt;
+            (done.status, done.comes_back, shown),
+            (Status::WriteFault, false, [true, true]),
+            "{room}"
+        );
     }
     Ok(())
 }
@@ -149,24 +164,35 @@ fn begins_in(text: &[u8]) -> Result<usize, Fail> {
     Ok(count)
 }
 
+// How many calls the trace of ten thousand turns has.
+fn calls_made(alloc: Global) -> Result<usize, Fail> {
+    let made = done_over(alloc, "gen --number 7 --calls 10000", &[], &[], 1 << 20)?;
+    begins_in(made.out.bytes())
+}
+
+fn has_no_report(rt: &impl Abort, alloc: Global, calls: usize) -> Result<(), Fail> {
+    let wanted = format!(in alloc; "end calls={calls} skipped=0 reports=0\n")?;
+    let done = done_over(
+        alloc,
+        "soak --number 7 --calls 10000",
+        &[HOME, SET],
+        &[DRIVER, VALIDATION],
+        4096,
+    )?;
+    let is_written = done.out.bytes() == wanted.as_bytes();
+    assert_eq!(rt;
+        (done.status, is_written, done.told),
+        (Status::Clean, true, calls)
+    );
+    Ok(())
+}
+
 // Ten thousand turns through the validation layer, twice: no report, and as many calls as the trace has begins.
 #[test]
 fn a_long_generated_trace_has_no_report(rt: HostRuntime) -> Result<(), Fail> {
-    let alloc = rt.alloc();
-    let made = done_over(alloc, "gen --number 7 --calls 10000", &[], &[], 1 << 20)?;
-    let calls = begins_in(made.out.bytes())?;
-    let wanted = format!(in alloc; "end calls={calls} skipped=0 reports=0\n")?;
+    let calls = calls_made(rt.alloc())?;
     for _ in 0..2 {
-        let done = done_over(
-            alloc,
-            "soak --number 7 --calls 10000",
-            &[HOME, SET],
-            &[DRIVER, VALIDATION],
-            4096,
-        )?;
-        assert_eq!(rt; done.status, Status::Clean);
-        assert!(rt; done.out.bytes() == wanted.as_bytes());
-        assert_eq!(rt; done.told, calls);
+        has_no_report(&rt, rt.alloc(), calls)?;
     }
     Ok(())
 }
@@ -199,8 +225,16 @@ impl Sink for HoldsBack {
     }
 }
 
-// What is said by each command whose sink fails at its end.
-fn fails_at_its_end(rt: &impl Abort, alloc: Global, words: &str, text: &str) -> Result<(), Fail> {
+// What a command comes to whose sink fails at its end.
+#[derive(Drop)]
+struct Ended {
+    status: Status,
+    comes_back: bool,
+    out: HoldsBack,
+    errs: MemSink,
+}
+
+fn ended_of(alloc: Global, words: &str) -> Result<Ended, Fail> {
     let words = words_of(alloc, words)?;
     let mut tree = tree_of(alloc, &[DRIVER])?;
     let mut trace = MemSource::new(Vec::from_slice(alloc, b"vktrace 1\nx")?, Vec::new(alloc));
@@ -223,11 +257,26 @@ fn fails_at_its_end(rt: &impl Abort, alloc: Global, words: &str, text: &str) -> 
         &mut errs,
         &mut driver,
     );
-    assert_eq!(rt; outcome.status, Status::WriteFault);
-    assert_eq!(rt; outcome.comes_back, false);
-    assert!(rt; out.bytes.as_slice() == text.as_bytes());
-    assert_eq!(rt; out.flushed, 1);
-    assert!(rt; errs.bytes() == b"vkreplay: write fault\n".as_slice());
+    Ok(Ended {
+        status: outcome.status,
+        comes_back: outcome.comes_back,
+        out,
+        errs,
+    })
+}
+
+// What is said by each command whose sink fails at its end.
+fn fails_at_its_end(rt: &impl Abort, alloc: Global, words: &str, text: &str) -> Result<(), Fail> {
+    let ended = ended_of(alloc, words)?;
+    let shown = [
+        ended.out.bytes.as_slice() == text.as_bytes(),
+        ended.errs.bytes() == b"vkreplay: write fault\n".as_slice(),
+    ];
+    assert_eq!(rt;
+        (ended.status, ended.comes_back, ended.out.flushed, shown),
+        (Status::WriteFault, false, 1, [true, true]),
+        "{words}"
+    );
     Ok(())
 }
 

@@ -8,16 +8,21 @@ use std::alloc::Global;
 use std::process::Abort;
 use std::test::Fail;
 
-#[test]
-fn one_entry_in_its_room(rt: HostRuntime) -> Result<(), Fail> {
-    let mut map: HandleMap<64> = HandleMap::new(rt.alloc());
-    assert_eq!(rt; map.next_id(), 1);
+fn put_in_room(map: &mut HandleMap<64>) -> Result<(), Fail> {
     map.reserve(1, 1).ok().ok_or("memory")?;
     map.insert(ObjectType::Buffer, 1, &[7])
         .ok()
         .ok_or("memory")?;
-    assert_eq!(rt; map.get(ObjectType::Buffer, 1), Some([7].as_slice()));
-    assert_eq!(rt; map.len(), 1);
+    Ok(())
+}
+
+#[test]
+fn one_entry_in_its_room(rt: HostRuntime) -> Result<(), Fail> {
+    let mut map: HandleMap<64> = HandleMap::new(rt.alloc());
+    let first = map.next_id();
+    put_in_room(&mut map)?;
+    let entry = map.get(ObjectType::Buffer, 1);
+    assert_eq!(rt; (first, entry, map.len()), (1, Some([7].as_slice()), 1));
     Ok(())
 }
 
@@ -202,8 +207,11 @@ fn fill_apart(map: &mut HandleMap<1>, twice: bool) -> Result<(), Fail> {
 fn are_apart(rt: &impl Abort, map: &HandleMap<1>, twice: bool) {
     for k in 1..1001u64 {
         let id = if twice { k * 2 } else { k };
-        assert_eq!(rt; first_of(map, ObjectType::Buffer, id), Some(k));
-        assert_eq!(rt; first_of(map, ObjectType::Queue, k), Some(k + 5000));
+        let found = [
+            first_of(map, ObjectType::Buffer, id),
+            first_of(map, ObjectType::Queue, k),
+        ];
+        assert_eq!(rt; found, [Some(k), Some(k + 5000)]);
     }
 }
 
@@ -340,14 +348,18 @@ fn copy_of_set(rt: &impl Abort, set: &HandleSet<64>) -> Result<(), Fail> {
 }
 
 // Pairs of two types, of which each is added twice, and a copy that goes on by itself.
+fn fill_set(rt: &impl Abort, set: &mut HandleSet<64>) -> Result<(), Fail> {
+    add_twice(set)?;
+    has_both(rt, set);
+    copy_of_set(rt, set)
+}
+
 #[test]
 fn a_set_of_pairs(rt: HostRuntime) -> Result<(), Fail> {
     let mut set: HandleSet<64> = HandleSet::new(rt.alloc());
-    assert!(rt; set.is_empty());
-    assert_eq!(rt; set.next_id(), 1);
-    add_twice(&mut set)?;
-    has_both(&rt, &set);
-    copy_of_set(&rt, &set)?;
-    assert!(rt; !set.contains(ObjectType::Image, 1));
+    let empty = (set.is_empty(), set.next_id());
+    fill_set(&rt, &mut set)?;
+    let of_copy = set.contains(ObjectType::Image, 1);
+    assert_eq!(rt; (empty, of_copy), ((true, 1), false));
     Ok(())
 }

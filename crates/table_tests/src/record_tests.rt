@@ -144,6 +144,8 @@ enum Step {
     Children(Object, usize),
     // The sets of a pool that are listed as living, behind the device.
     LivingSets(Object, &'static [Object]),
+    // The sets that a pool owns, dead or not, behind the device.
+    OwnedSets(Object, &'static [Object]),
     // The queues of a device, dead or not.
     Queues(Object, &'static [Object]),
 }
@@ -159,6 +161,22 @@ fn is_listed(
     listed.push(DEVICE)?;
     records
         .list_living(ObjectType::DescriptorSet, pool, &mut listed)
+        .ok()
+        .ok_or("memory")?;
+    Ok(listed.first() == Some(&DEVICE) && &listed[1..] == sets)
+}
+
+// What of a pool's sets is listed as owned, behind the device.
+fn is_owned(
+    alloc: Global,
+    records: &ObjectRecords,
+    pool: Object,
+    sets: &[Object],
+) -> Result<bool, Fail> {
+    let mut listed = Vec::new(alloc);
+    listed.push(DEVICE)?;
+    records
+        .list_owned(ObjectType::DescriptorSet, pool, &mut listed)
         .ok()
         .ok_or("memory")?;
     Ok(listed.first() == Some(&DEVICE) && &listed[1..] == sets)
@@ -185,6 +203,7 @@ fn goes(alloc: Global, records: &mut ObjectRecords, step: Step) -> Result<bool, 
         Step::BearsSets => bear_sets(alloc, records)?,
         Step::Ends(cmd, params) => end(alloc, records, cmd, params)?,
         Step::LivingSets(pool, sets) => return is_listed(alloc, records, pool, sets),
+        Step::OwnedSets(pool, sets) => return is_owned(alloc, records, pool, sets),
         Step::Queues(device, queues) => return has_queues(alloc, records, device, queues),
         said => return Ok(holds(records, said)),
     }
@@ -214,20 +233,40 @@ fn tell(
     story: &[Step],
 ) -> Result<(), Fail> {
     for (k, step) in story.iter().enumerate() {
-        assert!(rt; goes(alloc, records, *step)?, "step {k}");
+        assert!(rt; goes(alloc, records, *step)?, "step {k} of {}", story.len());
     }
     Ok(())
 }
 
-// The records behind a story, which must have no more to say than its calls.
-fn records_of(alloc: Global, story: &[Step]) -> Result<ObjectRecords, Fail> {
-    let mut records = ObjectRecords::new(alloc);
-    for step in story {
-        if !goes(alloc, &mut records, *step)? {
-            return Err("a step of the world".into());
-        }
+// Goes through stories, one behind the other.
+fn tell_all(
+    rt: &impl Abort,
+    alloc: Global,
+    records: &mut ObjectRecords,
+    stories: &[&[Step]],
+) -> Result<(), Fail> {
+    for story in stories {
+        tell(rt, alloc, records, story)?;
     }
-    Ok(records)
+    Ok(())
+}
+
+// Goes through a story behind those of a world.
+fn tell_behind(
+    rt: &impl Abort,
+    alloc: Global,
+    records: &mut ObjectRecords,
+    world: &[&[Step]],
+    story: &[Step],
+) -> Result<(), Fail> {
+    tell_all(rt, alloc, records, world)?;
+    tell(rt, alloc, records, story)
+}
+
+// The same on new records.
+fn tell_in(rt: &impl Abort, alloc: Global, world: &[&[Step]], story: &[Step]) -> Result<(), Fail> {
+    let mut records = ObjectRecords::new(alloc);
+    tell_behind(rt, alloc, &mut records, world, story)
 }
 
 // The results of the first three calls.
@@ -237,9 +276,7 @@ const WITH_DEVICE: &[Step] = &[
     Step::Bears(CommandId::CreateDevice, &[&[2]], 3),
 ];
 
-fn with_device(alloc: Global) -> Result<ObjectRecords, Fail> {
-    records_of(alloc, WITH_DEVICE)
-}
+const ONE_DEVICE: &[&[Step]] = &[WITH_DEVICE];
 
 // Besides, a pool with two sets.
 const POOL_WITH_SETS: &[Step] = &[
@@ -247,11 +284,7 @@ const POOL_WITH_SETS: &[Step] = &[
     Step::BearsSets,
 ];
 
-fn small_history(rt: &impl Abort, alloc: Global) -> Result<ObjectRecords, Fail> {
-    let mut records = with_device(alloc)?;
-    tell(rt, alloc, &mut records, POOL_WITH_SETS)?;
-    Ok(records)
-}
+const SMALL_HISTORY: &[&[Step]] = &[WITH_DEVICE, POOL_WITH_SETS];
 
 // Besides, a second device of the same physical device, with a pool and one set.
 const SECOND_DEVICE: &[Step] = &[
@@ -260,11 +293,7 @@ const SECOND_DEVICE: &[Step] = &[
     Step::Bears(CommandId::AllocateDescriptorSets, &[&[7], &[8], &[6]], 9),
 ];
 
-fn two_devices(rt: &impl Abort, alloc: Global) -> Result<ObjectRecords, Fail> {
-    let mut records = small_history(rt, alloc)?;
-    tell(rt, alloc, &mut records, SECOND_DEVICE)?;
-    Ok(records)
-}
+const TWO_DEVICES: &[&[Step]] = &[WITH_DEVICE, POOL_WITH_SETS, SECOND_DEVICE];
 
 const SMALL: &[Step] = &[
     Step::LiveCount(6),
@@ -285,24 +314,14 @@ const SMALL: &[Step] = &[
 
 #[test]
 fn what_is_kept_of_each_object(rt: HostRuntime) -> Result<(), Fail> {
-    let mut records = small_history(&rt, rt.alloc())?;
-    tell(&rt, rt.alloc(), &mut records, SMALL)
+    tell_in(&rt, rt.alloc(), SMALL_HISTORY, SMALL)
 }
+
+const OWNED_SETS: &[Step] = &[Step::OwnedSets(POOL, &[FIRST_SET, SECOND_SET])];
 
 #[test]
 fn what_an_object_owns_is_listed_behind_the_rest(rt: HostRuntime) -> Result<(), Fail> {
-    let records = small_history(&rt, rt.alloc())?;
-    let mut owned = Vec::new(rt.alloc());
-    owned.push(DEVICE)?;
-    records
-        .list_owned(ObjectType::DescriptorSet, POOL, &mut owned)
-        .ok()
-        .ok_or("memory")?;
-    assert_eq!(rt;
-        owned.as_slice(),
-        [DEVICE, FIRST_SET, SECOND_SET].as_slice()
-    );
-    Ok(())
+    tell_in(&rt, rt.alloc(), SMALL_HISTORY, OWNED_SETS)
 }
 
 const LIVING_SETS: &[Step] = &[
@@ -318,8 +337,7 @@ const LIVING_SETS: &[Step] = &[
 
 #[test]
 fn the_living_sets_of_a_pool_are_listed(rt: HostRuntime) -> Result<(), Fail> {
-    let mut records = small_history(&rt, rt.alloc())?;
-    tell(&rt, rt.alloc(), &mut records, LIVING_SETS)
+    tell_in(&rt, rt.alloc(), SMALL_HISTORY, LIVING_SETS)
 }
 
 const SETS_OF_NOTHING: &[Step] = &[
@@ -333,8 +351,7 @@ const SETS_OF_NOTHING: &[Step] = &[
 // A pool that wasn't born has no record, so its sets are looked for among all.
 #[test]
 fn the_living_sets_of_a_pool_that_nothing_gave_are_listed(rt: HostRuntime) -> Result<(), Fail> {
-    let mut records = with_device(rt.alloc())?;
-    tell(&rt, rt.alloc(), &mut records, SETS_OF_NOTHING)
+    tell_in(&rt, rt.alloc(), ONE_DEVICE, SETS_OF_NOTHING)
 }
 
 const RESET: &[Step] = &[
@@ -347,8 +364,7 @@ const RESET: &[Step] = &[
 
 #[test]
 fn a_reset_ends_the_sets_alone(rt: HostRuntime) -> Result<(), Fail> {
-    let mut records = small_history(&rt, rt.alloc())?;
-    tell(&rt, rt.alloc(), &mut records, RESET)
+    tell_in(&rt, rt.alloc(), SMALL_HISTORY, RESET)
 }
 
 const FREE: &[Step] = &[
@@ -359,8 +375,7 @@ const FREE: &[Step] = &[
 
 #[test]
 fn a_free_ends_what_it_names(rt: HostRuntime) -> Result<(), Fail> {
-    let mut records = small_history(&rt, rt.alloc())?;
-    tell(&rt, rt.alloc(), &mut records, FREE)
+    tell_in(&rt, rt.alloc(), SMALL_HISTORY, FREE)
 }
 
 const END_OF_ALL: &[Step] = &[
@@ -370,24 +385,28 @@ const END_OF_ALL: &[Step] = &[
 
 #[test]
 fn an_instance_takes_all_with_it(rt: HostRuntime) -> Result<(), Fail> {
-    let mut records = small_history(&rt, rt.alloc())?;
-    tell(&rt, rt.alloc(), &mut records, END_OF_ALL)
+    tell_in(&rt, rt.alloc(), SMALL_HISTORY, END_OF_ALL)
 }
 
 // What frees the second set.
 const FREED: &[&[u64]] = &[&[3], &[4], &[0, 6]];
 
+fn places_are_read(rt: &impl Abort, call: &LayerCall)
+    requires { HasParams call.now }
+{
+    for k in 0..count_places(call, 2) {
+        let known = argument_at(call, 2, k);
+        assert!(rt; known == Argument::Null || known == Argument::The(SECOND_SET));
+    }
+}
+
 #[test]
 fn a_call_is_read_by_its_handles(rt: HostRuntime) -> Result<(), Fail> {
     let call = call_of(rt.alloc(), CommandId::FreeDescriptorSets, FREED)?;
-    assert_eq!(rt; count_places(&call, 2), 2);
-    assert_eq!(rt; count_places(&call, 3), 0);
-    assert_eq!(rt; first_argument(&call, 0), Some(DEVICE));
-    assert_eq!(rt; first_argument(&call, 2), None);
-    for k in 0..count_places(&call, 2) {
-        let known = argument_at(&call, 2, k);
-        assert!(rt; known == Argument::Null || known == Argument::The(SECOND_SET));
-    }
+    let counts = [count_places(&call, 2), count_places(&call, 3)];
+    let firsts = [first_argument(&call, 0), first_argument(&call, 2)];
+    assert_eq!(rt; (counts, firsts), ([2, 0], [Some(DEVICE), None]));
+    places_are_read(&rt, &call);
     Ok(())
 }
 
@@ -403,8 +422,7 @@ const LONE_POOL: &[Step] = &[
 
 #[test]
 fn what_owns_nothing_ends_alone(rt: HostRuntime) -> Result<(), Fail> {
-    let mut records = with_device(rt.alloc())?;
-    tell(&rt, rt.alloc(), &mut records, LONE_POOL)
+    tell_in(&rt, rt.alloc(), ONE_DEVICE, LONE_POOL)
 }
 
 const LATE_OWNER: &[Step] = &[
@@ -417,8 +435,7 @@ const LATE_OWNER: &[Step] = &[
 
 #[test]
 fn a_later_birth_of_an_owner_ends_what_names_it(rt: HostRuntime) -> Result<(), Fail> {
-    let mut records = ObjectRecords::new(rt.alloc());
-    tell(&rt, rt.alloc(), &mut records, LATE_OWNER)
+    tell_in(&rt, rt.alloc(), &[], LATE_OWNER)
 }
 
 const FIRST_DEVICE_ENDS: &[Step] = &[
@@ -437,8 +454,7 @@ const FIRST_DEVICE_ENDS: &[Step] = &[
 
 #[test]
 fn a_device_takes_what_it_owns_and_nothing_else(rt: HostRuntime) -> Result<(), Fail> {
-    let mut records = two_devices(&rt, rt.alloc())?;
-    tell(&rt, rt.alloc(), &mut records, FIRST_DEVICE_ENDS)
+    tell_in(&rt, rt.alloc(), TWO_DEVICES, FIRST_DEVICE_ENDS)
 }
 
 const FREE_TWICE: &[Step] = &[
@@ -452,8 +468,7 @@ const FREE_TWICE: &[Step] = &[
 
 #[test]
 fn a_free_passes_over_nulls_and_repeats(rt: HostRuntime) -> Result<(), Fail> {
-    let mut records = two_devices(&rt, rt.alloc())?;
-    tell(&rt, rt.alloc(), &mut records, FREE_TWICE)
+    tell_in(&rt, rt.alloc(), TWO_DEVICES, FREE_TWICE)
 }
 
 // What a device owned besides its queues.
@@ -474,20 +489,17 @@ const TWO_QUEUES: &[Step] = &[
 ];
 
 // The first device has a queue, so many dead buffers and a further queue; the second has one queue between these two.
-fn with_queues(rt: &impl Abort, alloc: Global, buffers: u32) -> Result<ObjectRecords, Fail> {
-    let mut records = two_devices(rt, alloc)?;
-    tell(rt, alloc, &mut records, TWO_QUEUES)?;
+fn add_queues(
+    rt: &impl Abort,
+    alloc: Global,
+    records: &mut ObjectRecords,
+    buffers: u32,
+) -> Result<(), Fail> {
+    tell(rt, alloc, records, TWO_QUEUES)?;
     for i in 0..buffers {
-        pass_buffer(alloc, &mut records, 20 + u64::from(i))?;
+        pass_buffer(alloc, records, 20 + u64::from(i))?;
     }
-    bear(
-        alloc,
-        &mut records,
-        CommandId::GetDeviceQueue,
-        OF_DEVICE,
-        11,
-    )?;
-    Ok(records)
+    bear(alloc, records, CommandId::GetDeviceQueue, OF_DEVICE, 11)
 }
 
 const QUEUES: &[Step] = &[
@@ -500,11 +512,22 @@ const QUEUES: &[Step] = &[
     Step::Alive(OTHER_QUEUE),
 ];
 
+fn lists_queues(
+    rt: &impl Abort,
+    alloc: Global,
+    records: &mut ObjectRecords,
+    buffers: u32,
+) -> Result<(), Fail> {
+    tell_all(rt, alloc, records, TWO_DEVICES)?;
+    add_queues(rt, alloc, records, buffers)?;
+    tell(rt, alloc, records, QUEUES)
+}
+
 #[test]
 fn the_queues_of_a_device_are_listed_whatever_else_it_owned(rt: HostRuntime) -> Result<(), Fail> {
     for i in 0..DEAD_BUFFERS.len() {
-        let mut records = with_queues(&rt, rt.alloc(), DEAD_BUFFERS[i])?;
-        tell(&rt, rt.alloc(), &mut records, QUEUES)?;
+        let mut records = ObjectRecords::new(rt.alloc());
+        lists_queues(&rt, rt.alloc(), &mut records, DEAD_BUFFERS[i])?;
     }
     Ok(())
 }
@@ -532,16 +555,30 @@ const AT_DEPTHS: &[Ended] = &[
     ),
 ];
 
-fn lives_as(rt: &impl Abort, alloc: Global, row: &Ended) -> Result<bool, Fail> {
-    let mut records = small_history(rt, alloc)?;
-    end(alloc, &mut records, row.0, row.1)?;
+fn is_left(records: &ObjectRecords, wanted: [bool; 4]) -> bool {
     let alive = [
         records.is_alive(INSTANCE),
         records.is_alive(DEVICE),
         records.is_alive(POOL),
         records.is_alive(FIRST_SET),
     ];
-    Ok(alive == row.2 && records.is_alive(FIRST_SET) == records.is_alive(SECOND_SET))
+    alive == wanted && records.is_alive(FIRST_SET) == records.is_alive(SECOND_SET)
+}
+
+fn ends_as(
+    rt: &impl Abort,
+    alloc: Global,
+    records: &mut ObjectRecords,
+    row: &Ended,
+) -> Result<bool, Fail> {
+    tell_all(rt, alloc, records, SMALL_HISTORY)?;
+    end(alloc, records, row.0, row.1)?;
+    Ok(is_left(records, row.2))
+}
+
+fn lives_as(rt: &impl Abort, alloc: Global, row: &Ended) -> Result<bool, Fail> {
+    let mut records = ObjectRecords::new(alloc);
+    ends_as(rt, alloc, &mut records, row)
 }
 
 #[test]
@@ -556,15 +593,6 @@ const PARAMETERS_OF_POOL: &[&[u64]] = &[&[3], &[4]];
 
 const PARAMETERS_OF_SET: &[&[u64]] = &[&[3], &[4], &[7]];
 
-#[test]
-fn each_reset_ends_the_sets_born_since_the_last(rt: HostRuntime) -> Result<(), Fail> {
-    let mut records = small_history(&rt, rt.alloc())?;
-    for handle in 10..13u64 {
-        resets_once(&rt, rt.alloc(), &mut records, handle)?;
-    }
-    Ok(())
-}
-
 // A reset ends the one set there is, and a set with this handle is born.
 fn resets_once(
     rt: &impl Abort,
@@ -572,18 +600,32 @@ fn resets_once(
     records: &mut ObjectRecords,
     handle: u64,
 ) -> Result<(), Fail> {
-    end(
-        alloc,
-        records,
-        CommandId::ResetDescriptorPool,
-        PARAMETERS_OF_POOL,
-    )?;
-    assert_eq!(rt; records.live_count(), 4);
+    let reset = CommandId::ResetDescriptorPool;
+    end(alloc, records, reset, PARAMETERS_OF_POOL)?;
+    let behind_reset = records.live_count();
     let allocate = CommandId::AllocateDescriptorSets;
     bear(alloc, records, allocate, PARAMETERS_OF_SET, handle)?;
-    assert_eq!(rt; records.live_count(), 5);
-    assert_eq!(rt; records.count_children(POOL), 1);
+    let counts = (
+        behind_reset,
+        records.live_count(),
+        records.count_children(POOL),
+    );
+    assert_eq!(rt; counts, (4, 5, 1), "set {handle}");
     Ok(())
+}
+
+fn resets(rt: &impl Abort, alloc: Global, records: &mut ObjectRecords) -> Result<(), Fail> {
+    tell_all(rt, alloc, records, SMALL_HISTORY)?;
+    for handle in 10..13u64 {
+        resets_once(rt, alloc, records, handle)?;
+    }
+    Ok(())
+}
+
+#[test]
+fn each_reset_ends_the_sets_born_since_the_last(rt: HostRuntime) -> Result<(), Fail> {
+    let mut records = ObjectRecords::new(rt.alloc());
+    resets(&rt, rt.alloc(), &mut records)
 }
 
 const BELOW_THE_DEAD: &[Step] = &[
@@ -598,8 +640,7 @@ const BELOW_THE_DEAD: &[Step] = &[
 
 #[test]
 fn what_is_born_below_a_dead_pool_ends_with_the_device(rt: HostRuntime) -> Result<(), Fail> {
-    let mut records = small_history(&rt, rt.alloc())?;
-    tell(&rt, rt.alloc(), &mut records, BELOW_THE_DEAD)
+    tell_in(&rt, rt.alloc(), SMALL_HISTORY, BELOW_THE_DEAD)
 }
 
 // The copy ends its device behind a further buffer.
@@ -624,9 +665,20 @@ fn has_buffers(rt: &impl Abort, records: &ObjectRecords, buffers: u32) {
         records.live_count() as u64,
         records.count_children(DEVICE) as u64,
     ];
-    assert_eq!(rt; counts, [u64::from(buffers) + 3, u64::from(buffers)]);
-    assert_eq!(rt; records.owner(DEVICE), Some(INSTANCE));
-    assert!(rt; records.is_alive(DEVICE));
+    let device = (records.owner(DEVICE), records.is_alive(DEVICE));
+    let wanted = [u64::from(buffers) + 3, u64::from(buffers)];
+    assert_eq!(rt; (counts, device), (wanted, (Some(INSTANCE), true)));
+}
+
+fn goes_on(
+    rt: &impl Abort,
+    alloc: Global,
+    copy: &mut ObjectRecords,
+    buffers: u32,
+) -> Result<(), Fail> {
+    copy.reserve(1).ok().ok_or("memory")?;
+    has_buffers(rt, copy, buffers);
+    tell(rt, alloc, copy, COPY)
 }
 
 // A copy, which goes on by itself.
@@ -637,18 +689,26 @@ fn copy_goes_on(
     buffers: u32,
 ) -> Result<(), Fail> {
     let mut copy = records.copy().ok().ok_or("memory")?;
-    copy.reserve(1).ok().ok_or("memory")?;
-    has_buffers(rt, &copy, buffers);
-    tell(rt, alloc, &mut copy, COPY)
+    goes_on(rt, alloc, &mut copy, buffers)
+}
+
+fn go_apart(
+    rt: &impl Abort,
+    alloc: Global,
+    records: &mut ObjectRecords,
+    buffers: u32,
+) -> Result<(), Fail> {
+    tell(rt, alloc, records, WITH_DEVICE)?;
+    bear_buffers(alloc, records, buffers)?;
+    copy_goes_on(rt, alloc, records, buffers)?;
+    has_buffers(rt, records, buffers);
+    Ok(())
 }
 
 // Records with so many buffers stay as they are beside their copy.
 fn goes_on_alone(rt: &impl Abort, alloc: Global, buffers: u32) -> Result<(), Fail> {
-    let mut records = with_device(alloc)?;
-    bear_buffers(alloc, &mut records, buffers)?;
-    copy_goes_on(rt, alloc, &records, buffers)?;
-    has_buffers(rt, &records, buffers);
-    Ok(())
+    let mut records = ObjectRecords::new(alloc);
+    go_apart(rt, alloc, &mut records, buffers)
 }
 
 #[test]

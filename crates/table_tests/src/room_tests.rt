@@ -69,12 +69,11 @@ fn room_for_places(rt: HostRuntime) -> Result<(), Fail> {
 
 // One name stands, and not another.
 fn has_one_name(rt: &impl Abort, table: &NamedTable) {
-    assert_eq!(rt; table.len(), 1);
     let found = [
         table.object_named(name(2, 1)),
         table.object_named(name(1, 1)),
     ];
-    assert_eq!(rt; found, [Some(device()), None]);
+    assert_eq!(rt; (table.len(), found), (1, [Some(device()), None]));
 }
 
 fn names_in_room(rt: &impl Abort, table: &mut NamedTable, count: u32) -> Result<(), Fail> {

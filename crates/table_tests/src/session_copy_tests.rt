@@ -115,10 +115,10 @@ fn go_apart(
     count: u32,
 ) -> Result<(), Fail> {
     copy.put(buffer(count), 7)?;
-    assert_eq!(rt; places.get(buffer(count)), None);
+    let of_copy = places.get(buffer(count));
     places.put(image(count), 8)?;
-    assert_eq!(rt; copy.get(image(count)), None);
-    assert_eq!(rt; copy.get(buffer(count)), Some(7));
+    let found = [of_copy, copy.get(image(count)), copy.get(buffer(count))];
+    assert_eq!(rt; found, [None, None, Some(7)]);
     Ok(())
 }
 
@@ -165,13 +165,14 @@ pub(crate) fn has_names(rt: &impl Abort, table: &NamedTable, count: u32) {
 // A further name in one of them isn't in the other.
 fn name_apart(rt: &impl Abort, table: &mut NamedTable, copy: &mut NamedTable) -> Result<(), Fail> {
     copy.push(further(buffer(8)))?;
-    assert_eq!(rt; table.object_named(name(2, 1)), None);
+    let of_copy = table.object_named(name(2, 1));
     table.push(further(buffer(9)))?;
     let found = [
+        of_copy,
         table.object_named(name(2, 1)),
         copy.object_named(name(2, 1)),
     ];
-    assert_eq!(rt; found, [Some(buffer(9)), Some(buffer(8))]);
+    assert_eq!(rt; found, [None, Some(buffer(9)), Some(buffer(8))]);
     Ok(())
 }
 
@@ -228,8 +229,8 @@ pub(crate) fn has_births(rt: &impl Abort, births: &BirthTable, count: u32) {
             "buffer {k}"
         );
     }
-    assert_eq!(rt; births.owners_of(device()), [instance()].as_slice());
-    assert!(rt; births.is_created(device()));
+    let of_device = (births.owners_of(device()), births.is_created(device()));
+    assert_eq!(rt; of_device, ([instance()].as_slice(), true));
 }
 
 pub(crate) fn has_buffers(rt: &impl Abort, table: &ObjectTable, count: u32) {
@@ -345,12 +346,16 @@ fn retrieve_one(
     Ok(())
 }
 
+fn goes_on(rt: &impl Abort, copy: &mut RetrievedTable, count: u32) -> Result<(), Fail> {
+    finds_all(rt, copy, count);
+    let queue = object(ObjectType::Queue, name(3, 1));
+    retrieve_one(rt, copy, buffer(1), None)?;
+    retrieve_one(rt, copy, queue, Some(queue))
+}
+
 fn copy_of_retrieved(rt: &impl Abort, table: &RetrievedTable, count: u32) -> Result<(), Fail> {
     let mut copy = table.copy()?;
-    finds_all(rt, &copy, count);
-    let queue = object(ObjectType::Queue, name(3, 1));
-    retrieve_one(rt, &mut copy, buffer(1), None)?;
-    retrieve_one(rt, &mut copy, queue, Some(queue))?;
+    goes_on(rt, &mut copy, count)?;
     assert_eq!(rt; queue_by(table, b"last"), None);
     Ok(())
 }
@@ -393,8 +398,8 @@ fn push_three(table: &mut RetrievedTable, first: Object, second: Object) -> Resu
 
 fn copy_keeps(rt: &impl Abort, table: &RetrievedTable, first: Object) -> Result<(), Fail> {
     let copy = table.copy()?;
-    assert_eq!(rt; image_at(&copy, 0), Some(first));
-    assert_eq!(rt; image_at(&copy, 1), None);
+    let found = [image_at(&copy, 0), image_at(&copy, 1)];
+    assert_eq!(rt; found, [Some(first), None]);
     Ok(())
 }
 

@@ -25,25 +25,26 @@ pub(crate) fn object(ty: ObjectType, name: Name) -> Object {
     }
 }
 
+fn named(name: Name, object: Object) -> Named {
+    Named { name, object }
+}
+
+// Fences with many names, and an instance with the first of these and with the last of all.
+fn push_names(table: &mut NamedTable, first: Object) -> Result<(), Fail> {
+    for number in 1..10_001 {
+        let name = name(1, number);
+        table.push(named(name, object(ObjectType::Fence, name)))?;
+    }
+    table.push(named(name(1, 1), first))?;
+    table.push(named(name(LAST_THREAD, LAST_NUMBER), first))?;
+    Ok(())
+}
+
 #[test]
 fn names(rt: HostRuntime) -> Result<(), Fail> {
     let mut table = NamedTable::new(rt.alloc());
     let first = object(ObjectType::Instance, name(1, 1));
-    for number in 1..10_001 {
-        let named = Named {
-            name: name(1, number),
-            object: object(ObjectType::Fence, name(1, number)),
-        };
-        table.push(named)?;
-    }
-    table.push(Named {
-        name: name(1, 1),
-        object: first,
-    })?;
-    table.push(Named {
-        name: name(LAST_THREAD, LAST_NUMBER),
-        object: first,
-    })?;
+    push_names(&mut table, first)?;
     let told = [
         table.object_named(name(1, 1)),
         table.object_named(name(1, 10_000)),
@@ -101,8 +102,7 @@ fn objects_in_a_row(rt: HostRuntime) -> Result<(), Fail> {
     list.reserve(10_000)?;
     list.push(last)?;
     list.push(greatest)?;
-    assert_eq!(rt; list.at(0), last);
-    assert_eq!(rt; list.at(1), greatest);
+    assert_eq!(rt; [list.at(0), list.at(1)], [last, greatest]);
     Ok(())
 }
 
@@ -195,12 +195,16 @@ fn bear_in_pool(alloc: Global, objects: &mut ObjectTable, names: &[Name]) -> Res
 fn has_last(rt: &impl Abort, objects: &ObjectTable) {
     let buffer = object(ObjectType::CommandBuffer, name(2, 1_024));
     let last = object(ObjectType::Fence, name(LAST_THREAD, LAST_NUMBER));
+    let owners = objects.births().owners_of(buffer);
+    let living = [objects.is_living(buffer), objects.is_living(last)];
     assert_eq!(rt;
-        objects.births().owners_of(buffer),
-        [pool(), device(), instance()].as_slice()
+        (owners, living, objects.len()),
+        (
+            [pool(), device(), instance()].as_slice(),
+            [true, true],
+            1_028
+        )
     );
-    assert!(rt; objects.is_living(buffer) && objects.is_living(last));
-    assert_eq!(rt; objects.len(), 1_028);
 }
 
 // What lives already isn't born again.

@@ -51,14 +51,16 @@ fn check_events(
     Ok(())
 }
 
-#[test]
-fn a_file_of_two_streams_is_read(rt: HostRuntime) -> Result<(), Fail> {
-    let alloc = rt.alloc();
+// The file of two streams.
+fn two_streams(alloc: Global) -> Result<StreamFile, Fail> {
     let text = format!(in alloc; "{STARTED}{TWO_STREAMS}")?;
-    let file = match read_over(alloc, &text, &[])? {
-        Ok(file) => file,
-        Err(_) => return Err("the file wasn't read")?,
-    };
+    match read_over(alloc, &text, &[])? {
+        Ok(file) => Ok(file),
+        Err(_) => Err(Fail::from("the file wasn't read")),
+    }
+}
+
+fn check_sections(rt: &impl Abort, alloc: Global, file: &StreamFile) -> Result<(), Fail> {
     let setup = [
         "b 1 vkCreateInstance = %1.1 VK_SUCCESS",
         "r 1",
@@ -67,14 +69,17 @@ fn a_file_of_two_streams_is_read(rt: HostRuntime) -> Result<(), Fail> {
         "b 1 vkCreateDevice %1.2 = %1.3 VK_SUCCESS",
         "r 1",
     ];
-    check_events(&rt, alloc, &file.setup, &setup)?;
+    check_events(rt, alloc, &file.setup, &setup)?;
     let teardown = [
         "b 1 vkDestroyBuffer %1.3 %1.4 void",
         "r 1",
         "b 1 vkDestroyFence %1.3 %2.1 void",
         "r 1",
     ];
-    check_events(&rt, alloc, &file.teardown, &teardown)?;
+    check_events(rt, alloc, &file.teardown, &teardown)
+}
+
+fn check_streams(rt: &impl Abort, alloc: Global, file: &StreamFile) -> Result<(), Fail> {
     let streams = [
         (1, ["b 1 vkCreateBuffer %1.3 = %1.4 VK_SUCCESS", "r 1"]),
         (2, ["b 2 vkCreateFence %1.3 = %2.1 VK_SUCCESS", "r 2"]),
@@ -82,9 +87,16 @@ fn a_file_of_two_streams_is_read(rt: HostRuntime) -> Result<(), Fail> {
     assert_eq!(rt; file.streams.len(), streams.len());
     for (stream, (thread, lines)) in file.streams.iter().zip(&streams) {
         assert_eq!(rt; stream.0, *thread);
-        check_events(&rt, alloc, &stream.1, lines)?;
+        check_events(rt, alloc, &stream.1, lines)?;
     }
     Ok(())
+}
+
+#[test]
+fn a_file_of_two_streams_is_read(rt: HostRuntime) -> Result<(), Fail> {
+    let file = two_streams(rt.alloc())?;
+    check_sections(&rt, rt.alloc(), &file)?;
+    check_streams(&rt, rt.alloc(), &file)
 }
 
 #[test]
@@ -217,25 +229,56 @@ fn long_line(alloc: Global, count: u32) -> Result<String, AllocError> {
     Ok(text)
 }
 
+// Why these texts behind another aren't read, for each that isn't.
+fn errors_behind(
+    alloc: Global,
+    front: &str,
+    texts: [&str; 2],
+) -> Result<[Option<StreamError>; 2], AllocError> {
+    Ok([
+        error_behind(alloc, front, texts[0])?,
+        error_behind(alloc, front, texts[1])?,
+    ])
+}
+
+// There are 64 streams at most.
+fn check_streams_limit(rt: &impl Abort, alloc: Global) -> Result<(), AllocError> {
+    let file = streams(alloc, 64)?;
+    let found = errors_behind(alloc, &file, ["teardown\n", "stream 65\n"])?;
+    assert_eq!(rt; found, [None, Some(StreamError::Section { line: 67 })]);
+    Ok(())
+}
+
+// There are 16 devices at most.
+fn check_devices_limit(rt: &impl Abort, alloc: Global) -> Result<(), AllocError> {
+    let which = Which::Devices;
+    for (last, error) in [(18, None), (19, Some(StreamError::Limit { which }))] {
+        let file = devices(alloc, last)?;
+        assert_eq!(rt; error_behind(alloc, &file, "teardown\n")?, error, "{last}");
+    }
+    Ok(())
+}
+
+// A line has 65,536 bytes at most.
+fn check_line_limit(rt: &impl Abort, alloc: Global) -> Result<(), AllocError> {
+    let file = long_line(alloc, 65_536)?;
+    let found = errors_behind(alloc, &file, ["\n", "x\n"])?;
+    let which = Which::LineBytes;
+    assert_eq!(rt;
+        found,
+        [
+            Some(StreamError::Section { line: 2 }),
+            Some(StreamError::Limit { which })
+        ]
+    );
+    Ok(())
+}
+
 #[test]
 fn a_file_is_within_its_limits(rt: HostRuntime) -> Result<(), Fail> {
-    let alloc = rt.alloc();
-    let file = streams(alloc, 64)?;
-    assert_eq!(rt; error_behind(alloc, &file, "teardown\n")?, None);
-    let found = error_behind(alloc, &file, "stream 65\n")?;
-    assert_eq!(rt; found, Some(StreamError::Section { line: 67 }));
-    let file = devices(alloc, 18)?;
-    assert_eq!(rt; error_behind(alloc, &file, "teardown\n")?, None);
-    let file = devices(alloc, 19)?;
-    let found = error_behind(alloc, &file, "teardown\n")?;
-    let which = Which::Devices;
-    assert_eq!(rt; found, Some(StreamError::Limit { which }));
-    let file = long_line(alloc, 65_536)?;
-    let found = error_behind(alloc, &file, "\n")?;
-    assert_eq!(rt; found, Some(StreamError::Section { line: 2 }));
-    let found = error_behind(alloc, &file, "x\n")?;
-    let which = Which::LineBytes;
-    assert_eq!(rt; found, Some(StreamError::Limit { which }));
+    check_streams_limit(&rt, rt.alloc())?;
+    check_devices_limit(&rt, rt.alloc())?;
+    check_line_limit(&rt, rt.alloc())?;
     Ok(())
 }
 

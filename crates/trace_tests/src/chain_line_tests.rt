@@ -1,8 +1,8 @@
 // The lines of chains; the expected texts are written by hand.
 ghost use Rattle.std.specs.Prelude.{◌↔◌, ◌≤◌, ◌<◌, ◌^◌, All, IsTrue, length, map};
-ghost use Rattle.chain_build.specs.Answers.{chain_content};
+ghost use Rattle.chain_build.specs.Answers.{answer_content, chain_content};
 ghost use Rattle.chain_build.specs.Setup.{setup_content};
-ghost use Rattle.report_text.specs.Chains.{IsCounted};
+ghost use Rattle.report_text.specs.Chains.{IsCounted, IsPrintable};
 
 use chain_build::{Chain, ChainAnswer, ChainNote, PartKind, Setup, build};
 use env_filters::EnvList;
@@ -10,6 +10,7 @@ use layer_search::{Drivers, FoundDriver, FoundLayer, LayerList};
 use manifest_reader::{DriverEntry, LayerEntry};
 use report_text::chain_lines;
 use std::alloc::{AllocError, Global};
+use std::process::Abort;
 use std::test::Fail;
 
 fn text(alloc: Global, text: &str) -> Result<String, AllocError> {
@@ -82,48 +83,52 @@ fn shown(alloc: Global, call: u64, chain: Chain) -> Result<Vec<u8>, Fail> {
     Ok(out)
 }
 
+// Checks the line of what came of building no chain, behind a line that is there.
+fn check(
+    rt: &impl Abort,
+    alloc: Global,
+    call: u64,
+    answer: &ChainAnswer,
+    wanted: &str,
+) -> Result<(), Fail>
+    requires { IsPrintable (answer_content answer.now) }
+{
+    let mut out = Vec::from_slice(alloc, b"before\n")?;
+    chain_lines(call, answer, &mut out).ok().ok_or("memory")?;
+    assert_eq!(rt; out.as_slice(), wanted.as_bytes());
+    Ok(())
+}
+
 #[test]
 fn a_layer_is_not_present(rt: HostRuntime) -> Result<(), Fail> {
-    let alloc = rt.alloc();
-    let mut out = Vec::from_slice(alloc, b"before\n")?;
-    let name = text(alloc, "VK_LAYER_none")?;
-    chain_lines(0, &ChainAnswer::LayerNotPresent { name }, &mut out)
-        .ok()
-        .ok_or("memory")?;
-    assert_eq!(rt;
-        out.as_slice(),
-        "before\nchain 0 layer-not-present VK_LAYER_none\n".as_bytes()
-    );
-    Ok(())
+    let name = text(rt.alloc(), "VK_LAYER_none")?;
+    let wanted = "before\nchain 0 layer-not-present VK_LAYER_none\n";
+    check(
+        &rt,
+        rt.alloc(),
+        0,
+        &ChainAnswer::LayerNotPresent { name },
+        wanted,
+    )
 }
 
 #[test]
 fn there_is_no_driver(rt: HostRuntime) -> Result<(), Fail> {
-    let alloc = rt.alloc();
-    let mut out = Vec::from_slice(alloc, b"before\n")?;
-    chain_lines(18_446_744_073_709_551_615, &ChainAnswer::NoDriver, &mut out)
-        .ok()
-        .ok_or("memory")?;
-    assert_eq!(rt;
-        out.as_slice(),
-        "before\nchain 18446744073709551615 no-driver\n".as_bytes()
-    );
-    Ok(())
+    let wanted = "before\nchain 18446744073709551615 no-driver\n";
+    check(&rt, rt.alloc(), u64::MAX, &ChainAnswer::NoDriver, wanted)
 }
 
 #[test]
 fn a_layer_is_unguarded(rt: HostRuntime) -> Result<(), Fail> {
-    let alloc = rt.alloc();
-    let mut out = Vec::from_slice(alloc, b"before\n")?;
-    let layer = text(alloc, "VK_LAYER_threads")?;
-    chain_lines(10, &ChainAnswer::Unguarded { layer }, &mut out)
-        .ok()
-        .ok_or("memory")?;
-    assert_eq!(rt;
-        out.as_slice(),
-        "before\nchain 10 unguarded VK_LAYER_threads\n".as_bytes()
-    );
-    Ok(())
+    let layer = text(rt.alloc(), "VK_LAYER_threads")?;
+    let wanted = "before\nchain 10 unguarded VK_LAYER_threads\n";
+    check(
+        &rt,
+        rt.alloc(),
+        10,
+        &ChainAnswer::Unguarded { layer },
+        wanted,
+    )
 }
 
 #[test]
@@ -157,16 +162,13 @@ fn add_layers(alloc: Global, chain: &mut Chain) -> Result<(), AllocError> {
     ] {
         chain.layers.push(layer(alloc, name, path)?)?;
     }
-    for part in [
+    chain.parts.extend_from_slice(&[
         (PartKind::Threads, 1),
         (PartKind::Lifetimes, 1),
         (PartKind::Unique, 1),
         (PartKind::Lifetimes, 3),
         (PartKind::Unique, 3),
-    ] {
-        chain.parts.push(part)?;
-    }
-    Ok(())
+    ])
 }
 
 // A library for each way in which its path may be written.
@@ -184,14 +186,18 @@ fn add_drivers(alloc: Global, chain: &mut Chain) -> Result<(), AllocError> {
     Ok(())
 }
 
-#[test]
-fn a_chain_of_three_layers(rt: HostRuntime) -> Result<(), Fail> {
-    let alloc = rt.alloc();
+fn three_layers(alloc: Global) -> Result<Chain, AllocError> {
     let mut chain = empty(alloc);
     add_notes(alloc, &mut chain)?;
     add_layers(alloc, &mut chain)?;
     add_drivers(alloc, &mut chain)?;
-    let lines = shown(alloc, 7, chain)?;
+    Ok(chain)
+}
+
+#[test]
+fn a_chain_of_three_layers(rt: HostRuntime) -> Result<(), Fail> {
+    let chain = three_layers(rt.alloc())?;
+    let lines = shown(rt.alloc(), 7, chain)?;
     let wanted = "before
 chain 7 ok layers=3 parts=5 drivers=6
 note EnvMissing none
@@ -221,9 +227,11 @@ driver 6 /d/f.json /d/lib/
 fn add_most_layers(alloc: Global, chain: &mut Chain) -> Result<(), AllocError> {
     for place in 1..65 {
         chain.layers.push(layer(alloc, "layer", "/l/m.json")?)?;
-        chain.parts.push((PartKind::Threads, place))?;
-        chain.parts.push((PartKind::Lifetimes, place))?;
-        chain.parts.push((PartKind::Unique, place))?;
+        chain.parts.extend_from_slice(&[
+            (PartKind::Threads, place),
+            (PartKind::Lifetimes, place),
+            (PartKind::Unique, place),
+        ])?;
     }
     Ok(())
 }
@@ -238,24 +246,26 @@ fn add_most_drivers(alloc: Global, chain: &mut Chain) -> Result<(), AllocError> 
     Ok(())
 }
 
-#[test]
-fn the_longest_chain(rt: HostRuntime) -> Result<(), Fail> {
-    let alloc = rt.alloc();
+static FIRST_LINES: &[u8] =
+    b"before\nchain 4294967296 ok layers=64 parts=192 drivers=4096\nlayer 1 layer /l/m.json\n";
+
+static LAST_LINES: &[u8] =
+    b"\ndriver 4095 /d/many.json /d/lib/many.so\ndriver 4096 /d/many.json /d/lib/many.so\n";
+
+fn longest_chain(alloc: Global) -> Result<Chain, AllocError> {
     let mut chain = empty(alloc);
     add_most_layers(alloc, &mut chain)?;
     add_most_drivers(alloc, &mut chain)?;
-    let lines = shown(alloc, 4_294_967_296, chain)?;
-    assert!(rt;
-        lines.starts_with(
-            b"before\nchain 4294967296 ok layers=64 parts=192 drivers=4096\nlayer 1 layer /l/m.json\n"
-        )
-    );
-    assert!(rt;
-        lines.ends_with(
-            b"\ndriver 4095 /d/many.json /d/lib/many.so\ndriver 4096 /d/many.json /d/lib/many.so\n"
-        )
-    );
-    assert_eq!(rt; lines.iter().filter(|byte| **byte == b'\n').count(), 4354);
+    Ok(chain)
+}
+
+#[test]
+fn the_longest_chain(rt: HostRuntime) -> Result<(), Fail> {
+    let chain = longest_chain(rt.alloc())?;
+    let lines = shown(rt.alloc(), 4_294_967_296, chain)?;
+    let count = lines.iter().filter(|byte| **byte == b'\n').count();
+    let ends = (lines.starts_with(FIRST_LINES), lines.ends_with(LAST_LINES));
+    assert_eq!(rt; (count, ends), (4354, (true, true)));
     Ok(())
 }
 
@@ -291,27 +301,32 @@ fn bare(alloc: Global) -> Setup {
     }
 }
 
-#[test]
-fn what_is_built_is_printed(rt: HostRuntime) -> Result<(), Fail> {
-    let alloc = rt.alloc();
-    let mut setup = bare(alloc);
-    setup
-        .drivers
-        .list
-        .push(driver(alloc, "/d/a.json", "./liba.so")?)?;
-    setup
-        .explicit
-        .list
-        .push(plain(alloc, "one", "/l/libVkLayer_unique_objects.so")?)?;
+// A driver, a layer that has a part, and a variable that names it.
+fn fill(alloc: Global, setup: &mut Setup) -> Result<(), Fail> {
+    let driver = driver(alloc, "/d/a.json", "./liba.so")?;
+    setup.drivers.list.push(driver)?;
+    let layer = plain(alloc, "one", "/l/libVkLayer_unique_objects.so")?;
+    setup.explicit.list.push(layer)?;
     setup
         .env
         .put("VK_INSTANCE_LAYERS", "none:one")
         .ok()
         .ok_or("memory")?;
+    Ok(())
+}
+
+fn lines_of(alloc: Global, setup: &mut Setup) -> Result<Vec<u8>, Fail> {
+    fill(alloc, setup)?;
     if setup.drivers.list.len() > 1 {
         return Err("too many".into());
     }
-    let lines = built(alloc, &setup, &[])?;
+    built(alloc, setup, &[])
+}
+
+#[test]
+fn what_is_built_is_printed(rt: HostRuntime) -> Result<(), Fail> {
+    let mut setup = bare(rt.alloc());
+    let lines = lines_of(rt.alloc(), &mut setup)?;
     let wanted = "chain 0 ok layers=1 parts=1 drivers=1
 note EnvMissing none
 layer 1 one /l/m.json

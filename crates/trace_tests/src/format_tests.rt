@@ -19,9 +19,8 @@ static FAULTS: [(TraceFault, u8, &str); 5] = [
 #[test]
 fn faults_are_printed_by_name(rt: HostRuntime) -> Result<(), Fail> {
     for (fault, number, name) in FAULTS.iter() {
-        assert_eq!(rt; *fault as u8, *number, "at {name}");
         let text = format!(in rt.alloc(); "{fault}")?;
-        assert_eq!(rt; text.as_str(), *name);
+        assert_eq!(rt; (*fault as u8, text.as_str()), (*number, *name));
     }
     Ok(())
 }
@@ -46,12 +45,23 @@ fn destroys(alloc: Global, number: u32) -> Result<Event, AllocError> {
     })
 }
 
+// Whether the begin of the destruction of buffer 1 is another event.
+fn differs(alloc: Global, other: &Event) -> Result<bool, AllocError> {
+    let event = destroys(alloc, 1)?;
+    Ok(event != *other)
+}
+
+fn differs_from_begin(alloc: Global, number: u32) -> Result<bool, AllocError> {
+    let other = destroys(alloc, number)?;
+    differs(alloc, &other)
+}
+
 #[test]
 fn events_are_compared(rt: HostRuntime) -> Result<(), Fail> {
-    let event = destroys(rt.alloc(), 1)?;
-    assert!(rt; event == destroys(rt.alloc(), 1)?);
-    assert!(rt; event != destroys(rt.alloc(), 2)?);
-    assert!(rt; event != Event::Return { thread: 1 });
+    let alloc = rt.alloc();
+    let by_name = (differs_from_begin(alloc, 1)?, differs_from_begin(alloc, 2)?);
+    let by_kind = differs(alloc, &Event::Return { thread: 1 })?;
+    assert_eq!(rt; (by_name, by_kind), ((false, true), true));
     Ok(())
 }
 
@@ -170,16 +180,34 @@ static PLACES: [(&str, Result<u64, AcceptError>); 12] = [
     ),
 ];
 
+fn are_placed(
+    rt: &impl Abort,
+    alloc: Global,
+    state: &mut TraceState,
+    rows: &[(&str, Result<u64, AcceptError>)],
+) -> Result<(), Fail> {
+    for row in rows {
+        is_placed(rt, alloc, state, row)?;
+    }
+    Ok(())
+}
+
+// The trace may end behind its last call's return alone.
+fn go_to_the_end(rt: &impl Abort, alloc: Global, state: &mut TraceState) -> Result<(), Fail> {
+    are_placed(rt, alloc, state, &PLACES)?;
+    let before = state.finish();
+    is_placed(rt, alloc, state, &("r 1024", Ok(3)))?;
+    assert_eq!(rt;
+        (before, state.finish()),
+        (Err(TraceFault::OpenAtEnd), Ok(()))
+    );
+    Ok(())
+}
+
 #[test]
 fn events_are_accepted_in_their_places(rt: HostRuntime) -> Result<(), Fail> {
     let mut state = TraceState::new(rt.alloc());
-    for row in PLACES.iter() {
-        is_placed(&rt, rt.alloc(), &mut state, row)?;
-    }
-    assert_eq!(rt; state.finish(), Err(TraceFault::OpenAtEnd));
-    is_placed(&rt, rt.alloc(), &mut state, &("r 1024", Ok(3)))?;
-    assert_eq!(rt; state.finish(), Ok(()));
-    Ok(())
+    go_to_the_end(&rt, rt.alloc(), &mut state)
 }
 
 // The begin of a call of thread 1 with so many results, the first of which has this number.
@@ -234,23 +262,32 @@ static BEHIND: [(&str, Result<u64, AcceptError>); 4] = [
     ("b 2 vkDeviceWaitIdle %2.3 VK_SUCCESS", Ok(4101)),
 ];
 
-#[test]
-fn a_trace_has_at_most_4194304_names(rt: HostRuntime) -> Result<(), Fail> {
-    let alloc = rt.alloc();
-    let mut state = TraceState::new(alloc);
-    for row in IN_FRONT.iter() {
-        is_placed(&rt, alloc, &mut state, row)?;
-    }
+// Calls with 1,024 results each.
+fn allocate_many(rt: &impl Abort, alloc: Global, state: &mut TraceState) -> Result<(), Fail> {
     for round in 0..4095u32 {
         let call = u64::from(round) + 5;
-        allocates(&rt, alloc, &mut state, round * 1024 + 1, 1024, Ok(call))?;
-        is_placed(&rt, alloc, &mut state, &("r 1", Ok(call)))?;
-    }
-    let names = Err(AcceptError::Names);
-    allocates(&rt, alloc, &mut state, 4_193_281, 1021, names)?;
-    allocates(&rt, alloc, &mut state, 4_193_281, 1020, Ok(4100))?;
-    for row in BEHIND.iter() {
-        is_placed(&rt, alloc, &mut state, row)?;
+        allocates(rt, alloc, state, round * 1024 + 1, 1024, Ok(call))?;
+        is_placed(rt, alloc, state, &("r 1", Ok(call)))?;
     }
     Ok(())
+}
+
+// One result too many is refused, and the last names are given.
+fn allocate_the_last(rt: &impl Abort, alloc: Global, state: &mut TraceState) -> Result<(), Fail> {
+    let names = Err(AcceptError::Names);
+    allocates(rt, alloc, state, 4_193_281, 1021, names)?;
+    allocates(rt, alloc, state, 4_193_281, 1020, Ok(4100))
+}
+
+fn name_all(rt: &impl Abort, alloc: Global, state: &mut TraceState) -> Result<(), Fail> {
+    are_placed(rt, alloc, state, &IN_FRONT)?;
+    allocate_many(rt, alloc, state)?;
+    allocate_the_last(rt, alloc, state)?;
+    are_placed(rt, alloc, state, &BEHIND)
+}
+
+#[test]
+fn a_trace_has_at_most_4194304_names(rt: HostRuntime) -> Result<(), Fail> {
+    let mut state = TraceState::new(rt.alloc());
+    name_all(&rt, rt.alloc(), &mut state)
 }

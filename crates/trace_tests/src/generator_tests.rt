@@ -72,8 +72,8 @@ fn check_sum(
     requires { calls ≤ MOST }
 {
     let sink = written(alloc, number, calls).ok_or("memory")?;
-    assert_eq!(rt; sink.bytes().len(), wanted.0);
-    assert_eq!(rt; sum_of(sink.bytes()), wanted.1);
+    let bytes = sink.bytes();
+    assert_eq!(rt; (bytes.len(), sum_of(bytes)), wanted);
     Ok(())
 }
 
@@ -85,12 +85,8 @@ fn traces_have_the_sums_that_were_computed_apart(rt: HostRuntime) -> Result<(), 
     check_sum(&rt, rt.alloc(), u64::MAX, 10_000, (489_236, 3_496_502_349))
 }
 
-#[test]
-fn a_source_gives_the_same_bytes(rt: HostRuntime) -> Result<(), Fail> {
-    let alloc = rt.alloc();
-    let sink = written(alloc, 7, 100).ok_or("memory")?;
-    let mut source = GenSource::new(alloc, 7, 100).ok().ok_or("memory")?;
-    let mut bytes = Vec::new(alloc);
+// Puts what a source gives to 100,000 reads, more than it has, behind the bytes.
+fn read_all(source: &mut GenSource, bytes: &mut Vec<u8>) -> Result<(), Fail> {
     let mut buf = [0u8; 7];
     for _ in 0..100_000 {
         let count = source
@@ -99,6 +95,22 @@ fn a_source_gives_the_same_bytes(rt: HostRuntime) -> Result<(), Fail> {
             .ok_or("a generated source failed")?;
         bytes.extend_from_slice(&buf[..count])?;
     }
+    Ok(())
+}
+
+fn bytes_read(alloc: Global, number: u64, calls: u32) -> Result<Vec<u8>, Fail>
+    requires { calls ≤ MOST }
+{
+    let mut source = GenSource::new(alloc, number, calls).ok().ok_or("memory")?;
+    let mut bytes = Vec::new(alloc);
+    read_all(&mut source, &mut bytes)?;
+    Ok(bytes)
+}
+
+#[test]
+fn a_source_gives_the_same_bytes(rt: HostRuntime) -> Result<(), Fail> {
+    let sink = written(rt.alloc(), 7, 100).ok_or("memory")?;
+    let bytes = bytes_read(rt.alloc(), 7, 100)?;
     assert!(rt; bytes.as_slice() == sink.bytes());
     Ok(())
 }
@@ -127,21 +139,24 @@ fn a_million_turns_are_read_by_lines(rt: HostRuntime) {
     );
 }
 
+// Checks that a trace can't be written to a sink with this room and these failures, and what the sink has then.
+fn check_front(
+    rt: &impl Abort,
+    alloc: Global,
+    room: usize,
+    fails: Vec<u64>,
+    wanted: &[u8],
+) -> Result<(), Fail> {
+    let mut sink = MemSink::new(alloc, room, fails).ok().ok_or("memory")?;
+    let answer = generate(alloc, 0, 3, &mut sink);
+    assert_eq!(rt; (answer, sink.bytes()), (Err(GenError::Write), wanted));
+    Ok(())
+}
+
 #[test]
 fn a_sink_that_fails_has_a_front_of_the_text(rt: HostRuntime) -> Result<(), Fail> {
     let alloc = rt.alloc();
-    let mut sink = MemSink::new(alloc, 1_000, vec![in alloc; 3]?)
-        .ok()
-        .ok_or("memory")?;
-    assert_eq!(rt; generate(alloc, 0, 3, &mut sink), Err(GenError::Write));
-    assert_eq!(rt;
-        sink.bytes(),
-        b"vktrace 1\nb 1 vkCreateInstance = %1.1 VK_SUCCESS\n".as_slice()
-    );
-    let mut sink = MemSink::new(alloc, 20, Vec::new(alloc))
-        .ok()
-        .ok_or("memory")?;
-    assert_eq!(rt; generate(alloc, 0, 3, &mut sink), Err(GenError::Write));
-    assert_eq!(rt; sink.bytes(), b"vktrace 1\nb 1 vkCrea".as_slice());
-    Ok(())
+    let whole_lines = b"vktrace 1\nb 1 vkCreateInstance = %1.1 VK_SUCCESS\n";
+    check_front(&rt, alloc, 1_000, vec![in alloc; 3]?, whole_lines)?;
+    check_front(&rt, alloc, 20, Vec::new(alloc), b"vktrace 1\nb 1 vkCrea")
 }

@@ -5,7 +5,8 @@ ghost use Rattle.layer_search.specs.declared.found.NoteKind.TheVariants as kind;
 use layer_search::{Note, NoteKind};
 use manifest_reader::{Key, ManifestFault};
 use report_text::note_line;
-use std::alloc::Global;
+use std::alloc::{AllocError, Global};
+use std::process::Abort;
 use std::test::Fail;
 
 // The line of a note behind a line that is there.
@@ -21,54 +22,59 @@ fn shown(alloc: Global, kind: NoteKind, path: &str) -> Result<Vec<u8>, Fail>
     Ok(out)
 }
 
-fn of_manifest(alloc: Global, fault: ManifestFault) -> Result<Vec<u8>, Fail>
+// Checks the line of a note behind a line that is there.
+fn check(
+    rt: &impl Abort,
+    alloc: Global,
+    kind: NoteKind,
+    path: &str,
+    wanted: &str,
+) -> Result<(), Fail>
+    requires { IsOfFile kind }
+{
+    let line = shown(alloc, kind, path)?;
+    assert_eq!(rt; line.as_slice(), wanted.as_bytes(), "{wanted}");
+    Ok(())
+}
+
+fn check_manifest(
+    rt: &impl Abort,
+    alloc: Global,
+    fault: ManifestFault,
+    wanted: &str,
+) -> Result<(), Fail>
     requires { IsOfFile (kind.Manifest fault) }
 {
-    shown(alloc, NoteKind::Manifest(fault), "/d/m.json")
+    check(rt, alloc, NoteKind::Manifest(fault), "/d/m.json", wanted)
 }
 
 #[test]
 fn faults_of_manifests(rt: HostRuntime) -> Result<(), Fail> {
     let alloc = rt.alloc();
-    let line = of_manifest(alloc, ManifestFault::NotJson)?;
-    assert_eq!(rt;
-        line.as_slice(),
-        "before\nnote NotJson /d/m.json\n".as_bytes()
-    );
-    let line = of_manifest(alloc, ManifestFault::NoVersion)?;
-    assert_eq!(rt;
-        line.as_slice(),
-        "before\nnote NoVersion /d/m.json\n".as_bytes()
-    );
-    let line = of_manifest(alloc, ManifestFault::BadVersion)?;
-    assert_eq!(rt;
-        line.as_slice(),
-        "before\nnote BadVersion /d/m.json\n".as_bytes()
-    );
-    let line = of_manifest(alloc, ManifestFault::OtherArch)?;
-    assert_eq!(rt;
-        line.as_slice(),
-        "before\nnote OtherArch /d/m.json\n".as_bytes()
-    );
-    Ok(())
+    let line = "before\nnote NotJson /d/m.json\n";
+    check_manifest(&rt, alloc, ManifestFault::NotJson, line)?;
+    let line = "before\nnote NoVersion /d/m.json\n";
+    check_manifest(&rt, alloc, ManifestFault::NoVersion, line)?;
+    let line = "before\nnote BadVersion /d/m.json\n";
+    check_manifest(&rt, alloc, ManifestFault::BadVersion, line)?;
+    let line = "before\nnote OtherArch /d/m.json\n";
+    check_manifest(&rt, alloc, ManifestFault::OtherArch, line)
 }
 
 #[test]
 fn faults_of_files(rt: HostRuntime) -> Result<(), Fail> {
     let alloc = rt.alloc();
-    let line = shown(alloc, NoteKind::Absent, "none.json")?;
-    assert_eq!(rt;
-        line.as_slice(),
-        "before\nnote Absent none.json\n".as_bytes()
-    );
-    let line = shown(alloc, NoteKind::TooLarge, "")?;
-    assert_eq!(rt; line.as_slice(), "before\nnote TooLarge \n".as_bytes());
-    let line = shown(alloc, NoteKind::DeviceType, "/a b/\u{e9}.json")?;
-    assert_eq!(rt;
-        line.as_slice(),
-        "before\nnote DeviceType /a b/\u{e9}.json\n".as_bytes()
-    );
-    Ok(())
+    let absent = "before\nnote Absent none.json\n";
+    check(&rt, alloc, NoteKind::Absent, "none.json", absent)?;
+    check(
+        &rt,
+        alloc,
+        NoteKind::TooLarge,
+        "",
+        "before\nnote TooLarge \n",
+    )?;
+    let device = "before\nnote DeviceType /a b/\u{e9}.json\n";
+    check(&rt, alloc, NoteKind::DeviceType, "/a b/\u{e9}.json", device)
 }
 
 // The keys as manifests spell them.
@@ -93,46 +99,57 @@ static KEYS: [(Key, &str); 17] = [
 ];
 
 // A line of a word and a key.
-fn wanted(alloc: Global, word: &str, key: &str) -> Result<String, Fail> {
-    let mut text = String::from_str(alloc, "before\nnote ")?;
-    text.push_str(word)?;
-    text.push_str(key)?;
-    text.push_str(" /d/m.json\n")?;
-    Ok(text)
+fn wanted(alloc: Global, word: &str, key: &str) -> Result<String, AllocError> {
+    format!(in alloc; "before\nnote {word}{key} /d/m.json\n")
+}
+
+fn check_key(
+    rt: &impl Abort,
+    alloc: Global,
+    fault: ManifestFault,
+    word: &str,
+    key: &str,
+) -> Result<(), Fail>
+    requires { IsOfFile (kind.Manifest fault) }
+{
+    let line = wanted(alloc, word, key)?;
+    check_manifest(rt, alloc, fault, line.as_str())
 }
 
 #[test]
 fn each_key_is_missing(rt: HostRuntime) -> Result<(), Fail> {
-    let alloc = rt.alloc();
     for (key, spelled) in KEYS.iter() {
-        let line = of_manifest(alloc, ManifestFault::Missing { key: *key })?;
-        let text = wanted(alloc, "Missing:", spelled)?;
-        assert_eq!(rt; line.as_slice(), text.as_bytes(), "{spelled}");
+        let fault = ManifestFault::Missing { key: *key };
+        check_key(&rt, rt.alloc(), fault, "Missing:", spelled)?;
     }
     Ok(())
 }
 
 #[test]
 fn each_key_has_a_wrong_value(rt: HostRuntime) -> Result<(), Fail> {
-    let alloc = rt.alloc();
     for (key, spelled) in KEYS.iter() {
-        let line = of_manifest(alloc, ManifestFault::WrongKind { key: *key })?;
-        let text = wanted(alloc, "WrongKind:", spelled)?;
-        assert_eq!(rt; line.as_slice(), text.as_bytes(), "{spelled}");
+        let fault = ManifestFault::WrongKind { key: *key };
+        check_key(&rt, rt.alloc(), fault, "WrongKind:", spelled)?;
     }
     Ok(())
 }
 
-#[test]
-fn a_path_of_many_bytes(rt: HostRuntime) -> Result<(), Fail> {
-    let alloc = rt.alloc();
+fn long_path(alloc: Global) -> Result<String, AllocError> {
     let mut path = String::new(alloc);
     for _ in 0..65_536 {
         path.push_str("/folder")?;
     }
-    let line = shown(alloc, NoteKind::Absent, path.as_str())?;
-    assert_eq!(rt; line.len(), 458_772);
-    assert!(rt; line.starts_with(b"before\nnote Absent /folder/folder"));
-    assert!(rt; line.ends_with(b"/folder/folder\n"));
+    Ok(path)
+}
+
+#[test]
+fn a_path_of_many_bytes(rt: HostRuntime) -> Result<(), Fail> {
+    let path = long_path(rt.alloc())?;
+    let line = shown(rt.alloc(), NoteKind::Absent, path.as_str())?;
+    let ends = (
+        line.starts_with(b"before\nnote Absent /folder/folder"),
+        line.ends_with(b"/folder/folder\n"),
+    );
+    assert_eq!(rt; (line.len(), ends), (458_772, (true, true)));
     Ok(())
 }
