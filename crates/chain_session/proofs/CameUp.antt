@@ -95,12 +95,12 @@ all_counted x o born lost_by lost is same there =
 -- where so many fit, fewer do, also when their handles have come
 pub settles : (c n d : ℕ) (a y : NamesRoom) → c ≤ n → y ≡ record a { handed = y.handed } → CanKeep n (n * d) a → CanSettle c (c * d) y
 settles c n d a y few is h = subst (λ (r : NamesRoom). CanSettle c (c * d) r) (sym is) (record {
-  names = omega (arith, few, h.names);
-  births = omega (arith, few, h.births);
-  links = omega (arith, few, h.links);
-  owners = h.owners;
-  retrieved = omega (arith, few, h.retrieved);
-  bytes = omega (arith, times_within c n d few, h.bytes);
+  names = omega (arith, few, h.settle.names);
+  births = omega (arith, few, h.settle.births);
+  links = omega (arith, few, h.settle.links);
+  owners = h.settle.owners;
+  retrieved = omega (arith, few, h.settle.retrieved);
+  bytes = omega (arith, times_within c n d few, h.settle.bytes);
 })
 
 -- results that were handed and settled take no more room than all
@@ -167,13 +167,15 @@ module _ (x : SessionParts) (e : BeginEvent) (call : CallContent) (held : HeldCa
   again_room many rooms room =
       let h : HasRoomToComeUp x o call many = subst (λ (p : Opened). HasRoomToComeUp x p call many) (sym is) room in
       let keep : CanKeep (length o.results) (key_bytes o (length o.results)) n.room = subst (λ (r : NamesRoom). CanKeep (length o.results) (key_bytes o (length o.results)) r) (sym rooms) (record {
-        names = h.names.names;
-        births = h.names.births;
-        links = h.names.links;
-        owners = h.names.owners;
+        settle = record {
+          names = h.names.settle.names;
+          births = h.names.settle.births;
+          links = h.names.settle.links;
+          owners = h.names.settle.owners;
+          retrieved = h.names.settle.retrieved;
+          bytes = h.names.settle.bytes;
+        };
         handed = h.names.handed;
-        retrieved = h.names.retrieved;
-        bytes = h.names.bytes;
       }) in
       subst (λ (k : NamesKept). HasRoomToComeUp (lent k) o call many) (sym same) (record { owners = h.owners; names = keep; parts = h.parts; ends = h.ends; results = h.results })
 

@@ -42,17 +42,7 @@ pub record TakesRoom (count key : ℕ) (old new : NamesRoom) : Type 0 where
   pub bytes : old.bytes ≤ new.bytes + key
   pub scratch : KeepsScratch old.scratch new.scratch
 
--- there is room for that
-pub record CanKeep (count key : ℕ) (room : NamesRoom) : Type 0 where
-  pub names : count ≤ room.names
-  pub births : count ≤ room.births
-  pub links : 3 * count ≤ room.links
-  pub owners : 3 ≤ room.owners
-  pub handed : count ≤ room.handed
-  pub retrieved : count ≤ room.retrieved
-  pub bytes : key ≤ room.bytes
-
--- besides what is handed, of which the handles come before
+-- there is room for that, besides for what is handed, of which the handles come before
 pub record CanSettle (count key : ℕ) (room : NamesRoom) : Type 0 where
   pub names : count ≤ room.names
   pub births : count ≤ room.births
@@ -60,6 +50,11 @@ pub record CanSettle (count key : ℕ) (room : NamesRoom) : Type 0 where
   pub owners : 3 ≤ room.owners
   pub retrieved : count ≤ room.retrieved
   pub bytes : key ≤ room.bytes
+
+-- and for the handles
+pub record CanKeep (count key : ℕ) (room : NamesRoom) : Type 0 where
+  pub settle : CanSettle count key room
+  pub handed : count ≤ room.handed
 
 -- nothing is kept yet
 abbrev pub no_names : NamesKept

@@ -97,11 +97,16 @@ pub record TakesResults (old : SessionParts) (o : Opened) (call : CallContent) (
   pub values : old.terminator.values ≤ new.terminator.values + length o.results * length (drivers_for old.terminator call)
   pub bytes : old.terminator.bytes ≤ new.terminator.bytes + length o.results * bytes_with call
 
--- so does that of an event's call, whatever is born; a skipped one takes none among the names
-abbrev pub TakesResultsWith : SessionParts → BeginEvent → CallContent → Bool → SessionParts → ℕ → Type 0
-TakesResultsWith old e call skip new count = TakesResults old (opened_again old e call) call new × (skip ≡ true → TakesRoom 0 0 old.names.room new.names.room)
+-- nothing is taken among the names, and the chain's end stays
+pub record TakesNothing (old new : SessionParts) : Type 0 where
+  pub names : TakesRoom 0 0 old.names.room new.names.room
+  pub terminator : new.terminator ≡ old.terminator
+
+-- a return of an event's call takes room for its results alone, whatever is born; that of a skipped one takes it in the parts alone
+abbrev pub TakesResultsWith : SessionParts → BeginEvent → CallContent → Bool → SessionParts → Type 0
+TakesResultsWith old e call skip new = TakesResults old (opened_again old e call) call new × (skip ≡ true → TakesNothing old new)
 
 -- the event is a begin, whose return takes that
-abbrev pub TakesResultsAt : SessionParts → TraceEvent → CallContent → Bool → SessionParts → ℕ → Type 0
-TakesResultsAt old (Begin e) call skip new count = TakesResultsWith old e call skip new count
-TakesResultsAt old (Return thread) call skip new count = Unit {0}
+abbrev pub TakesResultsAt : SessionParts → TraceEvent → CallContent → Bool → SessionParts → Type 0
+TakesResultsAt old (Begin e) call skip new = TakesResultsWith old e call skip new
+TakesResultsAt old (Return thread) call skip new = Unit {0}

@@ -221,7 +221,7 @@ impl SessionParts {
         requires table { table.now.rows ≡ kinds_of self.old.states.kept }
         requires can { CanLeave self.old (begin_content begin) (call_content call.now) held.now skipped (map reply_shown replies.now) }
         ensures ok { IfOk result (Leaves self.old (begin_content begin.entry) (call_content call.now) held.now skipped (map reply_shown replies.now) self.new) }
-        ensures takes { IfOk result (TakesResultsWith self.old (begin_content begin.entry) (call_content call.now) skipped self.new) }
+        ensures takes { OnOk result (TakesResultsWith self.old (begin_content begin.entry) (call_content call.now) skipped self.new) }
         ensures succeeds { HasRoomToLeave self.old (begin_content begin.entry) (call_content call.now) skipped (vec_capacity results.old) → IsOk result }
         ensures room { vec_capacity results.old ≤ vec_capacity results.new }
         ensures kinds { kinds_of self.new.states.kept ≡ kinds_of self.old.states.kept }
@@ -261,7 +261,7 @@ impl SessionParts {
         requires table { table.now.rows ≡ kinds_of self.old.states.kept }
         requires can { CanLeaveAt self.old (content event.now) (call_content call.now) held.now verdict.now.skip (map reply_shown replies.now) }
         ensures ok { IfOk result (LeavesAt self.old (content event.now) (call_content call.now) held.now verdict.now.skip (map reply_shown replies.now) self.new) }
-        ensures takes { IfOk result (TakesResultsAt self.old (content event.now) (call_content call.now) verdict.now.skip self.new) }
+        ensures takes { OnOk result (TakesResultsAt self.old (content event.now) (call_content call.now) verdict.now.skip self.new) }
         ensures succeeds { HasRoomToLeaveAt self.old (content event.now) (call_content call.now) verdict.now.skip (vec_capacity results.old) → IsOk result }
         ensures room { vec_capacity results.old ≤ vec_capacity results.new }
         ensures kinds { kinds_of self.new.states.kept ≡ kinds_of self.old.states.kept }

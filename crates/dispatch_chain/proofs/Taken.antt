@@ -72,13 +72,16 @@ same_or (suc i) (suc j) = elim (same_or i j) [ inl e ↦ inl (ap suc e) | inr f 
 
 -- the parts of the first so many entries have their room still, and each has lost room for so many births at most
 pub record AreTaken (es : List Entry) (i n : ℕ) (old new : List PartRoom) : Type 0 where
-  pub count : length new ≡ length old
   pub still : (k : ℕ) (d : Entry) → k < i → slice_get new ((get_or es k d).place - 1) ≡ slice_get old ((get_or es k d).place - 1)
   pub less : (j : ℕ) (q r : PartRoom) → slice_get old j ≡ Some q → slice_get new j ≡ Some r → q.births ≤ r.births + n
   pub uses : KeepUses old new
 
 pub none_taken : (es : List Entry) (i n : ℕ) (rooms : List PartRoom) → AreTaken es i n rooms rooms
-none_taken es i n rooms = record { count = refl; still = λ k d before. refl; less = λ j q r a b. let same = ap (λ (x : PartRoom). x.births) (same_Some q r (sym a ∙ b)) in omega (arith, same); uses = λ j q r a b. let same = ap (λ (x : PartRoom). x.uses) (same_Some q r (sym a ∙ b)) in omega (arith, same) }
+none_taken es i n rooms = record {
+  still = λ k d before. refl;
+  less = λ j q r a b. let same = ap (λ (x : PartRoom). x.births) (same_Some q r (sym a ∙ b)) in omega (arith, same);
+  uses = record { count = refl; each = λ j q r a b. let same = ap (λ (x : PartRoom). x.uses) (same_Some q r (sym a ∙ b)) in omega (arith, same) };
+}
 
 -- one part further up
 pub taken_more : (es : List Entry) (i n m : ℕ) (d : Entry) (old mid new : List PartRoom) → ArePlacesRising 0 es → 0 < i → i ≤ length es → m ≡ n → AreTaken es i n old mid → length new ≡ length mid
@@ -87,13 +90,12 @@ pub taken_more : (es : List Entry) (i n m : ℕ) (d : Entry) (old mid new : List
     → ((q r : PartRoom) → slice_get mid ((get_or es (i - 1) d).place - 1) ≡ Some q → slice_get new ((get_or es (i - 1) d).place - 1) ≡ Some r → q.uses ≤ r.uses)
     → AreTaken es (i - 1) n old new
 taken_more es i n m d old mid new rising some within size taken long others one uses = record {
-  count = long ∙ taken.count;
   still = λ k f before.
       let lower : (get_or es k f).place < (get_or es (i - 1) d).place = rise 0 es k (i - 1) f d rising before (omega (arith, some, within)) in
       let first : 0 < (get_or es k f).place = above 0 es k f rising (omega (arith, before, within)) in
       others ((get_or es k f).place - 1) (λ e. absurd (omega (arith, e, lower, first))) ∙ taken.still k f (omega (arith, before));
   less = λ j q r a b. at j q r a b (same_or j ((get_or es (i - 1) d).place - 1));
-  uses = λ j q r a b. used j q r a b (same_or j ((get_or es (i - 1) d).place - 1));
+  uses = record { count = long ∙ taken.uses.count; each = λ j q r a b. used j q r a b (same_or j ((get_or es (i - 1) d).place - 1)) };
 }
   where
     at : (j : ℕ) (q r : PartRoom) → slice_get old j ≡ Some q → slice_get new j ≡ Some r → (j ≡ (get_or es (i - 1) d).place - 1) ⊎ (j ≡ (get_or es (i - 1) d).place - 1 → ⊥) → q.births ≤ r.births + n
@@ -106,7 +108,7 @@ taken_more es i n m d old mid new rising some within size taken long others one 
     used j q r a b (inl e) =
         let was = taken.still (i - 1) d (omega (arith, some)) in
         uses q r (was ∙ (ap (slice_get old) (sym e) ∙ a)) (ap (slice_get new) (sym e) ∙ b)
-    used j q r a b (inr f) = taken.uses j q r a (sym (others j f) ∙ b)
+    used j q r a b (inr f) = taken.uses.each j q r a (sym (others j f) ∙ b)
 
 births_at : (n : ℕ) (rooms : List PartRoom) (i : ℕ) → AllHaveBirths n rooms → HasBirthsAt n (slice_get rooms i)
 births_at n rooms i all = go (slice_get rooms i) refl
@@ -124,7 +126,7 @@ births_next es i n m d old new some size taken all =
 -- what is left
 pub births_after : (es : List Entry) (i n : ℕ) (old new : List PartRoom) → AreTaken es i n old new → (m : ℕ) → AllHaveBirths (m + n) old → AllHaveBirths m new
 births_after es i n old new taken m all j r here =
-    let within : j < length old = omega (arith, low new j r here, taken.count) in
+    let within : j < length old = omega (arith, low new j r here, taken.uses.count) in
     let there : slice_get old j ≡ Some (get_or old j r) = slice_get-get_or old j r within in
     let had = all j (get_or old j r) there in
     let lost = taken.less j (get_or old j r) r there here in omega (arith, had, lost)

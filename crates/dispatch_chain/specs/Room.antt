@@ -47,8 +47,9 @@ pub record KeepRooms (old new : List PartRoom) : Type 0 where
   pub each : (i : ℕ) (q r : PartRoom) → slice_get old i ≡ Some q → slice_get new i ≡ Some r → KeepsRoom q r
 
 -- no part loses room for uses
-abbrev pub KeepUses : List PartRoom → List PartRoom → Type 0
-KeepUses old new = (i : ℕ) (q r : PartRoom) → slice_get old i ≡ Some q → slice_get new i ≡ Some r → q.uses ≤ r.uses
+pub record KeepUses (old new : List PartRoom) : Type 0 where
+  pub count : length new ≡ length old
+  pub each : (i : ℕ) (q r : PartRoom) → slice_get old i ≡ Some q → slice_get new i ≡ Some r → q.uses ≤ r.uses
 
 -- each part has room for so many further births
 abbrev pub AllHaveBirths : ℕ → List PartRoom → Type 0

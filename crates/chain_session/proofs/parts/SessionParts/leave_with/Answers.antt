@@ -1,4 +1,4 @@
-use Rattle.std.proofs.Common.{◌≡◌, ◌∙◌, ◌≤◌, ◌<◌, ◌^◌, true, false, arith, length, rules, map, subst, sym}
+use Rattle.std.proofs.Common.{◌≡◌, ◌∙◌, ◌≤◌, ◌<◌, ◌^◌, true, false, arith, length, refl, rules, map, subst, sym}
 use Rattle.command_tables.specs.Calls.{call_content}
 use Rattle.model_driver.specs.Driver.{reply_shown}
 use Rattle.chain_session.specs.Leaving.{ComesUp, made_of, opened_again}
@@ -34,7 +34,7 @@ returns-in_err-count-clause-succeeds g c = λ room.
 pub returns-in_ok-raise_lost-clause-takes : goal.returns-in_ok-raise_lost-clause-takes
 returns-in_ok-raise_lost-clause-takes g c = (
   lost_takes c.args.self.now (opened_again c.args.self.now (begin_content c.args.begin) (call_content c.args.call.now)) (call_content c.args.call.now) c.raise_lost.new.states c.in_ok-raise_lost.ensures.births c.in_ok-raise_lost.ensures.uses,
-  (λ skipped. takes_none 0 0 c.args.self.now.names.room),
+  (λ skipped. record { names = takes_none 0 0 c.args.self.now.names.room; terminator = refl }),
 )
 
 pub returns-in_ok-count-clause-takes : goal.returns-in_ok-count-clause-takes
