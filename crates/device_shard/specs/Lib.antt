@@ -1,0 +1,11 @@
+pub mod Plans
+pub mod Shards
+pub mod Steps
+pub mod Lanes
+pub mod Turns
+pub mod Making
+pub mod Sets
+pub mod Refs
+pub mod Rooms
+pub mod Gathering
+pub mod Closing

@@ -1,0 +1,9 @@
+mod FewBorn
+mod Begins
+mod OneDriver
+mod Passed
+mod Reopened
+mod Pairs
+mod Sections
+mod Unused
+mod Starts
