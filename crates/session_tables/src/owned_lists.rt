@@ -15,6 +15,9 @@ use std::alloc::{AllocError, Global};
 /// The lists are no shorter than this when they are first made anew.
 const SHORTEST: usize = 8;
 
+/// So many places of owners are gone through, where lists are made anew, for each node that was added since.
+const PLACES_A_NODE: usize = 4;
+
 // A link, one more than a place, has 32 bits.
 const MOST: usize = 4294967295;
 
@@ -152,6 +155,13 @@ fn list_at_all(lists: &mut OwnedLists, owners: &[Object], object: Object) -> Res
     Ok(())
 }
 
+// At how many nodes lists that were just made are full: at twice as many, and not before so many were added as pay for going through the
+// places of the owners.
+fn next_full(lists: &OwnedLists) -> usize {
+    let listed = lists.nodes.len().saturating_mul(2).max(SHORTEST);
+    listed.max(lists.heads.extent() / PLACES_A_NODE)
+}
+
 // Lists of these births alone.
 fn relist(alloc: Global, births: &[Placed<BirthEntry>]) -> Result<OwnedLists, AllocError>
     ensures listed { IfOk result (λ lists. AreListed (births_shown births.now) (listed_in lists)) }
@@ -161,7 +171,7 @@ fn relist(alloc: Global, births: &[Placed<BirthEntry>]) -> Result<OwnedLists, Al
     for birth in births {
         list_at_all(&mut lists, birth.value.owners.as_slice(), birth.object)?;
     }
-    lists.full = lists.nodes.len().saturating_mul(2).max(SHORTEST);
+    lists.full = next_full(&lists);
     Ok(lists)
 }
 
