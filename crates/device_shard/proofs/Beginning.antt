@@ -18,9 +18,12 @@ use Rattle.stream_log.specs.Log.{last_from, last_time, line}
 use Rattle.stream_log.specs.declared.line.Line.{Line}
 use Rattle.trace_format.specs.Content.{Arg, BeginEvent, TraceEvent, Begin}
 use Rattle.terminator.specs.Calls.{drivers_for, targets_of}
+use Rattle.model_driver.specs.Driver.{HasShape}
 use Rattle.layer_model.specs.Ids.{IdMap}
 use Rattle.layer_model.specs.Terminator.{told_call}
 use Rattle.object_model.specs.Values.{Value}
+use Rattle.replay_model.specs.Past.{Opened, is_skipped}
+use Rattle.session_model.specs.Beginning.{begun_kept}
 use Rattle.stream_model.specs.FileParts.{StreamPart}
 use Rattle.stream_model.specs.Order.{is_on_no_device}
 use Rattle.chain_session.specs.declared.parts.SessionParts.{SessionParts}
@@ -33,7 +36,7 @@ use Rattle.shard_start.specs.Starting.{ArePairs, IsOnDevice, IsPassedOn, events_
 use Rattle.device_shard.specs.declared.lane.Lane.{Lane}
 use Rattle.device_shard.specs.Lanes.{EntersOne}
 use Rattle.device_shard.specs.Shards.{IsLane, IsSentFor, IsShard, KeepsCall, KeepsLast, LaneHasRoom, ShardKept, ShardName, due_to, last_made, sum_lanes, threads_of, to_come}
-use Rattle.device_shard.specs.Steps.{HasRoomForBegin}
+use Rattle.device_shard.specs.Steps.{HasRoomForBegin, IsToldOf}
 use Rattle.device_shard.specs.Turns.{CanBegin, HasBegun, IsNextAt, begun_then}
 use Rattle.device_shard.proofs.Beside.{LaneAt, lane_at, lanes_set, sum_set}
 use Rattle.device_shard.proofs.Given.{MayBegin, OneDriver, PartsStay, Passed, ReplaysBegin, RoomEnters, RoomStays, TellsBegin, ThreadStays}
@@ -41,6 +44,7 @@ use Rattle.device_shard.proofs.Lists.{all_at, all_set, among, part_fits, within}
 use Rattle.device_shard.proofs.Others.{beside_more, lane_stays}
 use Rattle.device_shard.proofs.Past.{step_more}
 use Rattle.device_shard.proofs.Planned.{due_at_begin, last_before, less_to_come, next_at}
+use Rattle.device_shard.proofs.Sent.{held_code, told_all}
 use Rattle.device_shard.proofs.Steps.{next_turned, steps_of}
 use Rattle.device_shard.proofs.Told.{begin_gapped}
 
@@ -196,6 +200,19 @@ module _ (n : ShardName) (counts : TableId) (x : ShardKept) (is : IsShard n coun
 
     pub told : TellsBegin → Tells n.start streams entries b new.verdict.skip (told_by y (call_content new.call) new.verdict.skip)
     told tells = tells n.start streams entries x.parts y is.opens b (call_content new.call) new.held new.verdict is.replay is.follows turned on_instance none enters_so
+
+    pub sent_so : MayBegin → Passed → new.verdict.skip ≡ false → AllByRecursion (IsToldOf b) (told_by y (call_content new.call) new.verdict.skip)
+    sent_so may passes goes =
+        let call : CallContent = call_content new.call in
+        let passed = passes n.start streams entries x.parts y is.opens b call new.held new.verdict is.starts is.replay is.follows turned none on_device enters_so goes in
+        let can : CanEnter x.parts (x.calls + 1) b = can_enter may in
+        let entered = has.enters can.setup can.kept can.shows can.counted can.allowed in
+        let o : Opened = (begun_kept can.setup can.kept b).opened in
+        let sends : is_skipped o ≡ false = sym entered.leaves.skips ∙ goes in
+        let code : call.code ≡ b.code = ap (λ (c : CallContent). c.code) (entered.leaves.bottom sends) ∙ (held_code can.kept b o ∙ entered.leaves.code) in
+        let plain : same_command call.cmd cmd.EnumeratePhysicalDevices ≡ false = ap (λ c. same_command c cmd.EnumeratePhysicalDevices) passed.cmd ∙ asked_on b.cmd on_device in
+        let shapes : AllByRecursion HasShape (targets_of y.terminator call) = subst (λ (cs : List DriverCallContent). AllByRecursion HasShape cs) (sym (entered.told goes)) can.steps.shapes in
+        subst (λ (u : Bool). AllByRecursion (IsToldOf b) (cond u [] (targets_of y.terminator call))) (sym goes) (told_all b call y.terminator.ids passed code plain (drivers_for y.terminator call) shapes)
 
     abbrev added : OpenStep
     added = open_step b (call_content new.call) new.held new.verdict y

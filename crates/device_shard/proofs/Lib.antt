@@ -8,6 +8,7 @@ pub mod Given
 pub mod Told
 pub mod Streams
 pub mod Stepping
+pub mod Sent
 pub mod Beginning
 pub mod Returned
 pub mod Measured

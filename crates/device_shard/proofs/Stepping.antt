@@ -1,6 +1,8 @@
 -- A begin and a return by the event that comes next.
-use Rattle.std.proofs.Common.{◌≡◌, ◌<◌, ◌≤◌, ◌+◌, ◌-◌, ◌^◌, ℕ, Bool, true, false, Some, List, [], ◌∷◌, ◌++◌, length, refl, sym, ◌∙◌, ap, subst, arith}
+use Rattle.std.proofs.Common.{◌≡◌, ◌<◌, ◌≤◌, ◌+◌, ◌-◌, ◌^◌, ℕ, Bool, true, false, Option, Some, None, List, [], ◌∷◌, ◌++◌, length, refl, sym, ◌∙◌, ap, subst, arith}
 use Rattle.std.specs.Prelude.{reverse, slice_get, slice_index_or, slice_set, vec_capacity}
+use Rattle.std.specs.List.{AllByRecursion}
+use Rattle.std.specs.Option.{is_none}
 use Rattle.std.proofs.lemmas.List.{length-append}
 use Rattle.std.proofs.lemmas.Option.{get_or_from_slice_get, slice_get_within}
 use Rattle.atomic_table.specs.Seated.{TableId}
@@ -22,7 +24,7 @@ use Rattle.shard_model.specs.Replays.{Tells, told_by}
 use Rattle.device_shard.specs.declared.lane.Lane.{Lane}
 use Rattle.device_shard.specs.Lanes.{EntersOne}
 use Rattle.device_shard.specs.Shards.{IsShard, ShardKept, ShardName}
-use Rattle.device_shard.specs.Steps.{HasRoomForBegin, IsReplied, OfBegin}
+use Rattle.device_shard.specs.Steps.{HasRoomForBegin, IsReplied, IsToldOf, OfBegin, told_as}
 use Rattle.device_shard.specs.Turns.{CanBegin, CanReturn, HasBegun, IsNextAt, begun_then, results_read}
 use Rattle.device_shard.proofs.Lists.{one}
 use Rattle.device_shard.proofs.Steps.{next_past}
@@ -112,6 +114,16 @@ TellsLaw =
     (n : ShardName) (counts : TableId) (x : ShardKept) (b : BeginEvent) (i : ℕ) (s : StreamPart) (l new : Lane) (y : SessionParts) → IsShard n counts x → IsNextAt n x.owner.list b.thread (Begin b) i s → HasBegun x b i l new y →
     Tells n.start n.plan.streams (reverse x.owner.list) b new.verdict.skip (told_by y (call_content new.call) new.verdict.skip)
 
+abbrev pub ToldLaw : Type 0
+ToldLaw =
+    (n : ShardName) (counts : TableId) (x : ShardKept) (b : BeginEvent) (i : ℕ) (s : StreamPart) (l new : Lane) (y : SessionParts) → IsShard n counts x → IsNextAt n x.owner.list b.thread (Begin b) i s → HasBegun x b i l new y →
+    new.verdict.skip ≡ false → AllByRecursion (IsToldOf b) (told_by y (call_content new.call) new.verdict.skip)
+
+-- of the one driver that is told
+pub one_told : (b : BeginEvent) (driver : Option ℕ) (call : DriverCallContent) → is_none driver ≡ false → AllByRecursion (IsToldOf b) (told_as driver call) → IsToldOf b call
+one_told b None call goes all = cc goes
+one_told b (Some driver) call goes all = all.0
+
 -- what is kept then
 abbrev pub stepped_then : ShardKept → ℕ → ℕ → Lane → SessionParts → ℕ → ShardKept
 stepped_then x thread i new y time =
@@ -132,6 +144,12 @@ module _ (n : ShardName) (counts : TableId) (x : ShardKept) (body : LayerCall) (
       subst (λ (u : Bool). Tells n.start n.plan.streams (reverse x.owner.list) b u told) (sym skips)
       (subst (λ (cs : List DriverCallContent). Tells n.start n.plan.streams (reverse x.owner.list) b new.verdict.skip cs) (sym tells) (law n counts x b i s m.lane new y is comes (begun b m h)))
   step_tells law (Return t) m skip told comes h skips tells = absurd m.can
+
+  pub step_told : ToldLaw → (e : TraceEvent) (m : MayStep x body e i) (driver : Option ℕ) (call : DriverCallContent) → IsNextAt n x.owner.list (event_thread e) e i s → HasStepped x e m.lane new y → is_none driver ≡ new.verdict.skip
+      → told_as driver call ≡ told_by y (call_content new.call) new.verdict.skip → is_none driver ≡ false → OfBegin (λ b. IsToldOf b call) e
+  step_told law (Begin b) m driver call comes h skips tells goes =
+      let all = law n counts x b i s m.lane new y is comes (begun b m h) (sym skips ∙ goes) in one_told b driver call goes (subst (λ (cs : List DriverCallContent). AllByRecursion (IsToldOf b) cs) (sym tells) all)
+  step_told law (Return t) m driver call comes h skips tells goes = absurd m.can
 
 -- ---- a return
 

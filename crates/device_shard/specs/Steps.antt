@@ -1,11 +1,12 @@
 -- What a step of a thread at a device's lock says and asks for. Source: this project.
-use Rattle.std.specs.Prelude.{◌≡◌, ◌≤◌, ⊤, ℕ, Bool, true, false, Option, Some, None, List, [], ◌∷◌, ◌++◌, length, reverse, vec_capacity}
+use Rattle.std.specs.Prelude.{◌≡◌, ◌≤◌, ⊤, ℕ, Bool, true, false, Option, Some, None, List, [], ◌∷◌, ◌++◌, length, map, reverse, vec_capacity}
 use Rattle.command_tables.specs.Calls.{DriverCallContent, ReplyContent}
 use Rattle.command_tables.specs.Handles.{HasRoom}
 use Rattle.command_tables.specs.declared.call.LayerCall.{LayerCall}
 use Rattle.stream_log.specs.declared.line.Line.{Line}
 use Rattle.stream_log.specs.Log.{SeenView}
-use Rattle.trace_format.specs.Content.{BeginEvent, TraceEvent, Begin, Return}
+use Rattle.trace_format.specs.Content.{Arg, BeginEvent, TraceEvent, Begin, Return}
+use Rattle.model_driver.specs.Driver.{HasShape}
 use Rattle.session_model.specs.Stands.{AreRepliesTo}
 use Rattle.shard_model.specs.Followed.{next_event}
 use Rattle.shard_model.specs.Replays.{Tells}
@@ -28,6 +29,15 @@ pub record HasRoomForBegin (call : LayerCall) (b : BeginEvent) : Type 0 where
 abbrev pub told_as : Option ℕ → DriverCallContent → List DriverCallContent
 told_as None call = []
 told_as (Some driver) call = call ∷ []
+
+-- what is told of a begin is the begin in other handles, as many at each parameter, and has its command's shape
+pub record IsToldOf (b : BeginEvent) (c : DriverCallContent) : Type 0 where
+  pub cmd : c.cmd ≡ b.cmd
+  pub code : c.code ≡ b.code
+  pub bytes : c.payload ≡ b.payload
+  pub asked : c.asked ≡ length b.results
+  pub sizes : map (λ (hs : List ℕ). length hs) c.args ≡ map (λ (a : Arg). length a.names) b.args
+  pub shape : HasShape c
 
 -- and that is the driver that is told
 abbrev pub IsDriverOf : Option ℕ → DriverCallContent → Type 0

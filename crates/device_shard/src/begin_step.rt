@@ -1,17 +1,18 @@
 //! The begin of a call at a device.
-ghost use Rattle.std.specs.Prelude.{◌≡◌, ◌+◌, ◌-◌, ◌<◌, [], ◌∷◌, ◌++◌, Some, true, reverse};
+ghost use Rattle.std.specs.Prelude.{◌≡◌, ◌+◌, ◌-◌, ◌<◌, [], ◌∷◌, ◌++◌, Some, false, true, reverse};
 ghost use Rattle.std.specs.Option.{is_none};
 ghost use Rattle.stream_log.specs.Clock.{tick_view};
-ghost use Rattle.stream_log.specs.Log.{last_time, line, seen_view};
+ghost use Rattle.stream_log.specs.Log.{IsPast, last_time, line, seen_view};
 ghost use Rattle.trace_format.specs.Content.{content};
 ghost use Rattle.model_driver.specs.Driver.{call_shown};
+ghost use Rattle.terminator.specs.Calls.{KeepsCallRoom};
 ghost use Rattle.dispatch_chain.specs.Seats.{kinds_of};
 ghost use Rattle.stream_model.specs.Order.{event_thread};
 ghost use Rattle.shard_model.specs.Followed.{next_event};
 ghost use Rattle.shard_model.specs.Replays.{Tells};
 ghost use Rattle.device_shard.specs.Plans.{plan_content};
 ghost use Rattle.device_shard.specs.Shards.{OfShard};
-ghost use Rattle.device_shard.specs.Steps.{HasRoomForBegin, IsDriverOf, OfBegin, told_as};
+ghost use Rattle.device_shard.specs.Steps.{HasRoomForBegin, IsDriverOf, IsToldOf, OfBegin, told_as};
 
 use crate::begun::Begun;
 use crate::draw::draw_time;
@@ -29,7 +30,7 @@ use trace_format::Event;
 impl<N: ShardNames, const K: usize> Shard<N, K> {
     /// The begin that the plan has next for the thread of a token enters: its time, which is above the log's last and above all that the worker's
     /// tick had seen, is that of its entry in the log. The driver is the one to be told what then stands in `out`; none where the call is
-    /// skipped. `table` is the session's; `plan`, `log` and `clock` are the shard's own. Takes no memory.
+    /// skipped. `table` is the session's; `plan`, `log` and `clock` are the shard's own. Takes no memory, and `out` loses no room.
     pub fn begin_step(
         &mut self,
         table: &DispatchTable,
@@ -52,8 +53,11 @@ impl<N: ShardNames, const K: usize> Shard<N, K> {
         ensures time { (last_time self.old < result.time) × (tick.old.seen < result.time) }
         ensures tick { tick.new ≡ tick_view clock.now (tick.old.left - 1) result.time }
         ensures entry { self.new ≡ self.old ++ line seen.thread result.time true [] ∷ [] }
+        ensures past { IsPast seen.thread seen.list self.old }
         ensures token { result.seen ≡ seen_view log.now seen.thread self.new }
+        ensures out { KeepsCallRoom out.old.body out.new.body }
         ensures driver { IsDriverOf result.driver (call_shown out.new) }
+        ensures told { is_none result.driver ≡ false → OfBegin (λ b. IsToldOf b (call_shown out.new)) (content event.now) }
         ensures tells { OfShard N.shards K (λ n. OfBegin (λ b. Tells n.start n.plan.streams (reverse self.old) b (is_none result.driver) (told_as result.driver (call_shown out.new))) (content event.now)) }
     {
         a_begin_is_a_step();

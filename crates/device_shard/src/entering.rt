@@ -4,6 +4,7 @@ ghost use Rattle.std.specs.Option.{is_none};
 ghost use Rattle.command_tables.specs.Calls.{call_content};
 ghost use Rattle.trace_format.specs.Content.{content};
 ghost use Rattle.model_driver.specs.Driver.{call_shown, reply_shown};
+ghost use Rattle.terminator.specs.Calls.{KeepsCallRoom};
 ghost use Rattle.dispatch_chain.specs.Seats.{kinds_of};
 ghost use Rattle.chain_session.specs.Entering.{CanEnterAt, EntersAt};
 ghost use Rattle.chain_session.specs.Leaving.{CanLeaveAt, LeavesAt};
@@ -39,6 +40,7 @@ pub(crate) fn enter_lane(
     ensures tells { told_as result (call_shown out.new) ≡ told_by parts.new (call_content lane.new.call) lane.new.verdict.skip }
     ensures driver { IsDriverOf result (call_shown out.new) }
     ensures skip { is_none result ≡ lane.new.verdict.skip }
+    ensures out { KeepsCallRoom out.old.body out.new.body }
     ensures kinds { kinds_of parts.new.states.kept ≡ kinds_of parts.old.states.kept }
     ensures steps { lane.new.steps ≡ lane.old.steps + 1 }
 {

@@ -4,7 +4,8 @@ ghost use Rattle.stream_log.specs.declared.line.Line.{Line};
 ghost use Rattle.stream_log.specs.Log.{IsPast};
 ghost use Rattle.stream_model.specs.FileParts.{StreamPart};
 ghost use Rattle.shard_model.specs.Followed.{next_event};
-ghost use Rattle.std.specs.Prelude.{◌≤◌, ◌<◌, Some, slice_get};
+ghost use Rattle.std.specs.Prelude.{◌≤◌, ◌<◌, Some, false, slice_get};
+ghost use Rattle.std.specs.List.{AllByRecursion};
 ghost use Rattle.std.specs.Option.{is_none};
 ghost use Rattle.atomic_table.specs.Seated.{TableId};
 ghost use Rattle.command_tables.specs.Calls.{ReplyContent, call_content};
@@ -14,7 +15,7 @@ ghost use Rattle.chain_session.specs.declared.parts.SessionParts.{SessionParts};
 ghost use Rattle.shard_model.specs.Replays.{Tells, told_by};
 ghost use Rattle.device_shard.specs.declared.lane.Lane.{Lane};
 ghost use Rattle.device_shard.specs.Shards.{IsShard, ShardKept, ShardName};
-ghost use Rattle.device_shard.specs.Steps.{AreResults, IsReplied};
+ghost use Rattle.device_shard.specs.Steps.{AreResults, IsReplied, IsToldOf};
 ghost use Rattle.device_shard.specs.Turns.{CanBegin, CanReturn, HasBegun, HasReturned, IsNextAt, begun_then, results_read, returned_then};
 
 use shard_model::{a_begin_goes_on, a_return_goes_on, open_calls_are_of_threads};
@@ -27,14 +28,16 @@ pub fn a_token_knows_what_comes_next()
     ensures order { (streams : List StreamPart) (thread : ℕ) (entries : List Line) → next_event streams thread (reverse entries) ≡ next_event streams thread entries }
 {}
 
-/// The begin that comes next for a thread can enter at the thread's lane. When it has, what is kept is that of the log with its entry, and what it
-/// tells is what every trace says in which it may stand so.
+/// The begin that comes next for a thread can enter at the thread's lane. When it has, what is kept is that of the log with its entry, what it
+/// tells is what every trace says in which it may stand so, and that is the begin in other handles.
 pub(crate) fn a_begin_is_a_step()
     ensures can { (n : ShardName) (counts : TableId) (x : ShardKept) (b : BeginEvent) (i : ℕ) (s : StreamPart) → IsShard n counts x → IsNextAt n x.owner.list b.thread (Begin b) i s → (l : Lane) × CanBegin x b i l }
     ensures stays { (n : ShardName) (counts : TableId) (x : ShardKept) (b : BeginEvent) (i : ℕ) (s : StreamPart) (l new : Lane) (y : SessionParts) (time : ℕ) → IsShard n counts x → IsNextAt n x.owner.list b.thread (Begin b) i s → HasBegun x b i l new y →
         last_time x.owner.list < time → IsShard n counts (begun_then x b i new y time) }
     ensures tells { (n : ShardName) (counts : TableId) (x : ShardKept) (b : BeginEvent) (i : ℕ) (s : StreamPart) (l new : Lane) (y : SessionParts) → IsShard n counts x → IsNextAt n x.owner.list b.thread (Begin b) i s → HasBegun x b i l new y →
         Tells n.start n.plan.streams (reverse x.owner.list) b new.verdict.skip (told_by y (call_content new.call) new.verdict.skip) }
+    ensures told { (n : ShardName) (counts : TableId) (x : ShardKept) (b : BeginEvent) (i : ℕ) (s : StreamPart) (l new : Lane) (y : SessionParts) → IsShard n counts x → IsNextAt n x.owner.list b.thread (Begin b) i s → HasBegun x b i l new y →
+        new.verdict.skip ≡ false → AllByRecursion (IsToldOf b) (told_by y (call_content new.call) new.verdict.skip) }
 {
     a_begin_goes_on();
     a_begin_has_room();

@@ -27,6 +27,7 @@ mod shard_ref;
 pub use begun::Begun;
 pub use laws::a_token_knows_what_comes_next;
 pub use names::ShardNames;
+pub use place::event_in;
 pub use plan::Plan;
 pub use set::ShardSet;
 pub use shard::Shard;

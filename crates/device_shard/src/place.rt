@@ -24,7 +24,7 @@ pub(crate) fn place_in(plan: &Plan, thread: u32) -> usize
 }
 
 /// The event with a number, from 0, of the stream in a place. There is one.
-pub(crate) fn event_in(plan: &Plan, place: usize, number: usize) -> &Event
+pub fn event_in(plan: &Plan, place: usize, number: usize) -> &Event
     requires { (s : StreamPart) × (slice_get (plan_content plan.now).streams place ≡ Some s) × (number < length s.events) }
     ensures { (s : StreamPart) × (slice_get (plan_content plan.now).streams place ≡ Some s) × (slice_get s.events number ≡ Some (content result.now)) }
 {

@@ -1,7 +1,7 @@
 //! The return of a call at a device.
 ghost use Rattle.std.specs.Prelude.{◌≡◌, ◌+◌, ◌-◌, ◌<◌, ℕ, List, [], ◌∷◌, ◌++◌, Some, false, reverse};
 ghost use Rattle.stream_log.specs.Clock.{tick_view};
-ghost use Rattle.stream_log.specs.Log.{last_time, line, seen_view};
+ghost use Rattle.stream_log.specs.Log.{IsPast, last_time, line, seen_view};
 ghost use Rattle.trace_format.specs.Content.{Return};
 ghost use Rattle.model_driver.specs.Driver.{reply_shown};
 ghost use Rattle.dispatch_chain.specs.Seats.{kinds_of};
@@ -47,6 +47,7 @@ impl<N: ShardNames, const K: usize> Shard<N, K> {
         ensures time { (last_time self.old < result.0) × (tick.old.seen < result.0) }
         ensures tick { tick.new ≡ tick_view clock.now (tick.old.left - 1) result.0 }
         ensures entry { (results : List ℕ) × (self.new ≡ self.old ++ line thread result.0 false results ∷ []) × OfShard N.shards K (λ n. AreResults n seen (reply_shown reply.now) results) }
+        ensures past { IsPast seen.thread seen.list self.old }
         ensures token { result.1 ≡ seen_view log.now thread self.new }
     {
         a_return_is_a_step();

@@ -1,5 +1,5 @@
 //! The locks of all plans.
-ghost use Rattle.std.specs.Prelude.{◌≡◌, ◌≤◌, [], ◌∷◌, is_some, length};
+ghost use Rattle.std.specs.Prelude.{◌≡◌, ◌≤◌, [], ◌∷◌, is_some, length, slice_get};
 ghost use Rattle.trace_format.specs.Accepting.{same_name};
 ghost use Rattle.device_shard.specs.Sets.{devices_of, held_of, logs_of};
 
@@ -52,8 +52,8 @@ impl<N: ShardNames> ShardSet<N> {
             .position(|other| is_same(*other, device))
     }
 
-    // The lock of the plan with this number.
-    fn lock_at(&self, number: usize) -> Option<ShardRef<'_, N>>
+    /// The lock of the plan with a number, from 0, in the variant with this number. None comes exactly for a number without a plan.
+    pub fn lock_at(&self, number: usize) -> Option<ShardRef<'_, N>>
         ensures { option_map number_at result ≡ (if nat_lt number (length N.shards) then Some number else None) }
     {
         match number {
@@ -83,6 +83,13 @@ impl<N: ShardNames> ShardSet<N> {
     {
         let number = self.place(device)?;
         self.lock_at(number)
+    }
+
+    /// The log of the plan with a number. None comes exactly for a number without a plan.
+    pub fn log_at(&self, number: usize) -> Option<&DeviceLog>
+        ensures { option_map (λ l. l.now) result ≡ slice_get (logs_of N.shards) number }
+    {
+        self.logs.get(number)
     }
 
     /// The log of a device's plan. None comes exactly for a device without a plan.

@@ -1,6 +1,6 @@
 -- Lists replaced place by place.
 use Rattle.std.proofs.Common.{◌≡◌, ◌<◌, ◌≤◌, ℕ, zero, suc, ◌+◌, List, [], ◌∷◌, length, map, get_or, refl, sym, ap, ◌∙◌, arith, add-one, slice_set}
-use Rattle.command_tables.specs.Handles.{list_at, put}
+use Rattle.command_tables.specs.Handles.{Handles, HasRoom, list_at, put}
 use Rattle.command_tables.specs.declared.types.ObjectType.{ObjectType}
 use Rattle.command_tables.specs.Table.{ParamSpec, seen_param}
 use Rattle.command_tables.specs.declared.types.Param.{Param}
@@ -91,3 +91,7 @@ entered_step m driver ps lists now new p d less is step =
     mapped_ty [] n = refl
     mapped_ty (x ∷ xs) zero = refl
     mapped_ty (x ∷ xs) (suc n) = mapped_ty xs n
+
+-- room that stayed twice has stayed
+pub kept_on : {a b : Handles} {slots room : ℕ} → HasRoom b a.slots a.room → HasRoom a slots room → HasRoom b slots room
+kept_on h g = record { slots = omega (arith, h.slots, g.slots); room = omega (arith, h.room, g.room) }

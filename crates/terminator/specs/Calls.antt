@@ -1,6 +1,8 @@
 -- What the terminator keeps, as contracts see it; the calls that it tells, and what it makes of their replies. Source: this project.
-use Rattle.std.specs.Prelude.{ℕ, Bool, true, not, ◌||◌, ◌==◌, Option, Some, None, List, map}
+use Rattle.std.specs.Prelude.{ℕ, Bool, true, not, ◌≤◌, ◌||◌, ◌==◌, Option, Some, None, List, map, vec_capacity}
 use Rattle.std.specs.List.{zip}
+use Rattle.command_tables.specs.declared.call.LayerCall.{LayerCall}
+use Rattle.command_tables.specs.Handles.{HasRoom}
 use Rattle.command_tables.specs.Calls.{CallContent, DriverCallContent, ReplyContent}
 use Rattle.command_tables.specs.Effects.{type_made}
 use Rattle.command_tables.specs.Table.{row_of}
@@ -57,3 +59,8 @@ pub record FitsCall (c : CallContent) : Type 0 where
 abbrev pub is_settled : List Routed → Option Object → Bool
 is_settled routes None = true
 is_settled routes (Some o) = same_type o.ty ty.Instance || has_route routes o
+
+-- what the one call could hold with no further memory, the other can
+pub record KeepsCallRoom (old new : LayerCall) : Type 0 where
+  pub handles : HasRoom new.args old.args.slots old.args.room
+  pub bytes : vec_capacity old.payload ≤ vec_capacity new.payload

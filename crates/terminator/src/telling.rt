@@ -1,12 +1,13 @@
 //! What a driver is told.
 ghost use Rattle.std.specs.Prelude.{◌≡◌, ◌<◌, [], map, length, unwrap_or, slice_set, IsOk, OnOk};
 ghost use Rattle.command_tables.specs.Calls.{HasRoomFor, call_content};
-ghost use Rattle.command_tables.specs.Handles.{list_at};
+ghost use Rattle.command_tables.specs.Handles.{HasRoom, list_at};
 ghost use Rattle.command_tables.specs.Table.{seen_param};
 ghost use Rattle.handle_map.specs.Pairs.{values_of};
 ghost use Rattle.layer_model.specs.Terminator.{told_call, told_handles, told_params};
 ghost use Rattle.model_driver.specs.Driver.{call_shown};
 ghost use Rattle.object_model.specs.Values.{asked_of_each, value_for};
+ghost use Rattle.terminator.specs.Calls.{KeepsCallRoom};
 
 use crate::answers::enumerates_devices;
 use crate::bare::is_bare;
@@ -19,6 +20,7 @@ use model_driver::DriverCall;
 fn replace(issued: &IssuedIds, driver: u32, ty: ObjectType, args: &mut HandleArgs<6>, p: usize)
     requires { p < length args.old.lists }
     ensures lists { args.new.lists ≡ slice_set args.old.lists p (map (λ h. value_for driver (unwrap_or (values_of issued.now.ids.entries ty h) [])) (list_at args.old.lists p)) }
+    ensures room { HasRoom args.new args.old.slots args.old.room }
 {
     for k in 0..args.param(p).len() {
         let handle = args.param(p)[k];
@@ -29,7 +31,8 @@ fn replace(issued: &IssuedIds, driver: u32, ty: ObjectType, args: &mut HandleArg
 // One parameter is told, where the terminator issues ids for its type.
 #[tactic(auto, using(crate::proofs::Places::own, crate::proofs::Places::set_beyond))]
 fn tell_param(issued: &IssuedIds, driver: u32, ty: ObjectType, args: &mut HandleArgs<6>, p: usize)
-    ensures { args.new.lists ≡ slice_set args.old.lists p (told_handles issued.now.ids driver ty (list_at args.old.lists p)) }
+    ensures lists { args.new.lists ≡ slice_set args.old.lists p (told_handles issued.now.ids driver ty (list_at args.old.lists p)) }
+    ensures room { HasRoom args.new args.old.slots args.old.room }
 {
     if p < args.len() && is_bare(ty) {
         replace(issued, driver, ty, args, p);
@@ -38,7 +41,8 @@ fn tell_param(issued: &IssuedIds, driver: u32, ty: ObjectType, args: &mut Handle
 
 // All parameters are.
 fn tell_params(issued: &IssuedIds, driver: u32, params: &[Param], args: &mut HandleArgs<6>)
-    ensures { args.new.lists ≡ told_params issued.now.ids driver (map seen_param params.now) args.old.lists }
+    ensures lists { args.new.lists ≡ told_params issued.now.ids driver (map seen_param params.now) args.old.lists }
+    ensures room { HasRoom args.new args.old.slots args.old.room }
 {
     for p in 0..params.len() {
         tell_param(issued, driver, params[p].ty, args, p);
@@ -53,7 +57,7 @@ fn asked_of_each(cmd: CommandId, asked: u32) -> u32
 }
 
 /// A driver's call becomes what it is told of this one. After `NoMemory`, which comes only where there was no room for it, anything
-/// stands there.
+/// stands there. No room is lost.
 pub fn tell(
     issued: &IssuedIds,
     call: &LayerCall,
@@ -62,6 +66,7 @@ pub fn tell(
 ) -> Result<(), NoMemory>
     ensures told { OnOk result (call_shown told.new ≡ told_call issued.now.ids (call_content call.now) driver) }
     ensures succeeds { HasRoomFor told.old.body (call_content call.now) → IsOk result }
+    ensures room { KeepsCallRoom told.old.body told.new.body }
 {
     told.body.copy_from(call)?;
     tell_params(issued, driver, row(call.cmd).params, &mut told.body.args);

@@ -7,7 +7,7 @@ ghost use Rattle.object_model.specs.Routes.{driver_behind};
 ghost use Rattle.object_model.specs.Values.{values_answered};
 ghost use Rattle.layer_model.specs.Terminator.{told_call, values_from};
 ghost use Rattle.model_driver.specs.Driver.{call_shown, reply_shown};
-ghost use Rattle.terminator.specs.Calls.{born_where, drivers_for, left_by, routes_left, targets_of};
+ghost use Rattle.terminator.specs.Calls.{KeepsCallRoom, born_where, drivers_for, left_by, routes_left, targets_of};
 ghost use Rattle.terminator.specs.Shown.{IsKeyOf, answers_in, bytes_of, drivers_named, key_asked};
 ghost use Rattle.terminator.specs.Room.{HasRoom, HasRoomForResults, bytes_with};
 
@@ -203,12 +203,13 @@ impl Terminator {
         self.tell_each(call, receivers, out)
     }
 
-    /// What the one driver of a call is told, in the place of what stood in `out`. Takes no memory.
+    /// What the one driver of a call is told, in the place of what stood in `out`. Takes no memory, and no room is lost.
     #[tactic(auto, using(crate::proofs::Told::told_one))]
     pub fn target_into(&self, call: &LayerCall, out: &mut DriverCall)
         requires one { length (drivers_for self.now (call_content call.now)) ≡ 1 }
         requires room { HasRoomFor out.old.body (call_content call.now) }
-        ensures { targets_of self.now (call_content call.now) ≡ call_shown out.new ∷ [] }
+        ensures told { targets_of self.now (call_content call.now) ≡ call_shown out.new ∷ [] }
+        ensures room { KeepsCallRoom out.old.body out.new.body }
     {
         let driver = self.receivers(call).first();
         tell(&self.issued, call, driver, out).unwrap();

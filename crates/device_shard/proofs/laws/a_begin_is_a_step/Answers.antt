@@ -1,7 +1,7 @@
 use Rattle.std.proofs.Common.{◌≡◌, sym, ◌∙◌, subst}
 use Rattle.device_shard.specs.declared.lane.Lane.{Lane}
 use Rattle.device_shard.specs.Turns.{HasBegun}
-use Rattle.device_shard.proofs.Beginning.{can, mine, stays, told}
+use Rattle.device_shard.proofs.Beginning.{can, mine, sent_so, stays, told}
 use Rattle.device_shard.proofs.Lists.{one}
 use Rattle.device_shard.proofs.laws.a_begin_is_a_step.Goals as goal
 
@@ -19,3 +19,8 @@ pub returns-clause-tells : goal.returns-clause-tells
 returns-clause-tells c n counts x b i s l new y is comes has =
     let same : l ≡ (mine n counts x is b i s comes).lane = one l (mine n counts x is b i s comes).lane (sym has.at ∙ (mine n counts x is b i s comes).at) in
     told n counts x is b i s comes new y (subst (λ (m : Lane). HasBegun x b i m new y) same has) c.a_begin_goes_on.ensures.tells
+
+pub returns-clause-told : goal.returns-clause-told
+returns-clause-told c n counts x b i s l new y is comes has goes =
+    let same : l ≡ (mine n counts x is b i s comes).lane = one l (mine n counts x is b i s comes).lane (sym has.at ∙ (mine n counts x is b i s comes).at) in
+    sent_so n counts x is b i s comes new y (subst (λ (m : Lane). HasBegun x b i m new y) same has) c.a_begin_goes_on.ensures.may c.a_call_on_a_device_is_small.ensures.passed goes

@@ -17,7 +17,7 @@ use Rattle.stream_model.specs.Plans.{DevicePlan}
 use Rattle.device_shard.specs.declared.lane.Lane.{Lane}
 use Rattle.device_shard.specs.Plans.{plan_content}
 use Rattle.device_shard.specs.Shards.{IsShard, ShardKept, ShardName}
-use Rattle.device_shard.proofs.Stepping.{HasStepped, held_now, kept_as, lane_is, may_step, next_known, step_can, step_entries, step_one, step_room, step_stays, step_steps, step_tells, step_within}
+use Rattle.device_shard.proofs.Stepping.{HasStepped, held_now, kept_as, lane_is, may_step, next_known, step_can, step_entries, step_one, step_room, step_stays, step_steps, step_tells, step_told, step_within}
 use Rattle.device_shard.proofs.Streams.{has_stream, next_there}
 use Rattle.device_shard.proofs.shard.Shard.begin_step.Goals as goal
 
@@ -193,3 +193,25 @@ returns-clause-tells g c other at =
     let same : n ≡ other = one n other (sym c.self.invariant.1 ∙ at) in
     subst (λ (list : List Line). OfBegin (λ b. Tells other.start other.plan.streams (reverse list) b (is_none c.enter_lane-driver.result) (told_as c.enter_lane-driver.result (call_shown c.enter_lane-driver.new.out))) e) c.self.view_is
     (subst (λ (q : ShardName). OfBegin (λ b. Tells q.start q.plan.streams (reverse x.owner.list) b (is_none c.enter_lane-driver.result) (told_as c.enter_lane-driver.result (call_shown c.enter_lane-driver.new.out))) e) same tells)
+
+pub returns-clause-told : goal.returns-clause-told
+returns-clause-told g c goes =
+    let n : ShardName = c.self.invariant.0 in
+    let is = c.self.invariant.2 in
+    let e : TraceEvent = content c.args.event.now in
+    let next = next_known n c.args.seen.list c.self.inside.owner.list c.args.seen.thread (event_thread e) e c.take.ensures.past c.requires.seen.1 (c.requires.next n c.self.invariant.1) in
+    let x : ShardKept = kept_as c.self.inside.owner c.self.inside.tick c.self.inside.parts c.self.inside.lanes.items c.self.inside.calls (vec_capacity c.self.inside.results) n.plan in
+    let i : ℕ = c.place_in-place.result in
+    let there = next_there n (event_thread e) i x.owner.list e
+    (subst (λ (p : DevicePlan). slice_get p.streams i ≡ find (λ (q : StreamPart). q.thread == event_thread e) p.streams) (c.requires.plan n c.self.invariant.1)
+    (subst (λ (t : ℕ). slice_get (plan_content c.args.plan.now).streams i ≡ find (λ (q : StreamPart). q.thread == t) (plan_content c.args.plan.now).streams) c.thread_at-thread.ensures c.place_in-place.ensures)) next in
+    let m = may_step c.a_begin_is_a_step.ensures.can n g.N.ShardNames.clock x c.args.out.now.body e i there.0 is there.1 c.requires.room in
+    let lane : c.index_mut.result.now ≡ m.lane = lane_is x c.args.out.now.body i e m c.index_mut.result.now c.index_mut.ensures.value in
+    let stepped : HasStepped x e m.lane c.enter_lane-driver.new.lane c.enter_lane-driver.new.parts = record {
+      enters = c.enter_lane-driver.ensures.enters;
+      room = subst (λ (l : Lane). LosesNoRoom x.parts l.call l.held l.verdict c.enter_lane-driver.new.parts c.enter_lane-driver.new.lane.call c.enter_lane-driver.new.lane.held c.enter_lane-driver.new.lane.verdict) lane c.enter_lane-driver.ensures.room;
+      kinds = c.enter_lane-driver.ensures.kinds;
+      steps = c.enter_lane-driver.ensures.steps ∙ ap (λ (l : Lane). l.steps + 1) lane;
+    } in
+    step_told n g.N.ShardNames.clock x c.args.out.now.body i there.0 c.enter_lane-driver.new.lane c.enter_lane-driver.new.parts is c.a_begin_is_a_step.ensures.told e m c.enter_lane-driver.result (call_shown c.enter_lane-driver.new.out) there.1 stepped c.enter_lane-driver.ensures.skip
+    c.enter_lane-driver.ensures.tells goes
