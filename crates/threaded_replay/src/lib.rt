@@ -4,7 +4,7 @@
 #![tactic(auto)]
 
 mod device_list;
-mod devices;
+pub mod devices;
 mod draft;
 mod error;
 mod file_state;

@@ -1,0 +1,14 @@
+pub mod Looks
+pub mod Homes
+pub mod Beside
+pub mod Making
+pub mod Steps
+pub mod Opening
+pub mod Beheld
+pub mod Told
+pub mod Telling
+pub mod Written
+pub mod Placing
+pub mod Sections
+pub mod Weaving
+pub mod ByItself

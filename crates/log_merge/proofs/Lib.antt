@@ -1,0 +1,4 @@
+mod Between
+mod Entries
+mod Kept
+mod Steps

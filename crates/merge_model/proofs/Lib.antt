@@ -1,0 +1,11 @@
+pub mod Alone
+pub mod Counted
+pub mod InTurn
+pub mod Joined
+pub mod Moved
+pub mod Numbered
+pub mod OnPlans
+pub mod Paired
+pub mod Parting
+pub mod Taken
+pub mod Woven

@@ -1,0 +1,5 @@
+pub mod TableLemmas
+pub mod CutLemmas
+pub mod NamedLemmas
+pub mod OnThese
+pub mod PlaceLemmas

@@ -1,0 +1,19 @@
+use Rattle.std.proofs.Common.{◌∙◌, ap, map}
+use Rattle.stream_model.specs.FileParts.{FileParts}
+use Rattle.stream_plans.specs.Contents.{parts_of, plan_content}
+use Rattle.stream_plans.specs.Cuts.{plan_by}
+use Rattle.stream_plans.specs.Tables.{device_in}
+use Rattle.stream_plans.proofs.CutLemmas.{devices_are, plans_cut}
+use Rattle.stream_plans.proofs.plans.plans_of.Goals as goal
+
+pub returns-clause-cut : goal.returns-clause-cut
+returns-clause-cut c =
+    let file : FileParts = parts_of c.args.setup.now c.args.streams.now c.args.teardown.now in
+    plans_cut c.in_ok-table.table.rows.items file (map plan_content c.in_ok-plans.plans.items) c.in_ok-devices.devices.items c.in_ok-table.ensures
+    (c.in_ok-plans.ensures ∙ ap (map (plan_by (device_in c.in_ok-table.table.rows.items) file.streams)) c.deref.ensures.value)
+
+pub returns-clause-devices : goal.returns-clause-devices
+returns-clause-devices c =
+    let file : FileParts = parts_of c.args.setup.now c.args.streams.now c.args.teardown.now in
+    devices_are c.in_ok-table.table.rows.items file (map plan_content c.in_ok-plans.plans.items) c.in_ok-devices.devices.items c.in_ok-table.ensures
+    (c.in_ok-plans.ensures ∙ ap (map (plan_by (device_in c.in_ok-table.table.rows.items) file.streams)) c.deref.ensures.value) c.in_ok-devices.ensures
