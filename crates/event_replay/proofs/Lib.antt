@@ -1,0 +1,4 @@
+pub mod Exchanged
+pub mod Lists
+pub mod Onward
+pub mod Starting
