@@ -1,0 +1,9 @@
+pub mod Apart
+pub mod AsMade
+pub mod Behind
+pub mod Entries
+pub mod Merging
+pub mod OneOrder
+pub mod OnDevice
+pub mod Owners
+pub mod Telling
