@@ -1,0 +1,4 @@
+pub mod Needs
+pub mod Crews
+pub mod Dealing
+pub mod Making

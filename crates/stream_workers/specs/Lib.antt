@@ -1,0 +1,5 @@
+pub mod Calls
+pub mod Steps
+pub mod Held
+pub mod Work
+pub mod Opens
