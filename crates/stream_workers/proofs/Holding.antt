@@ -1,5 +1,5 @@
 -- What a thread holds at the logs of all plans, as it makes one step more.
-use Rattle.std.proofs.Common.{◌≡◌, ◌≢◌, ◌==◌, ◌+◌, ◌<◌, ℕ, zero, suc, Bool, true, false, cond, Option, Some, None, List, [], ◌∷◌, ◌++◌, drop, length, map, get_or, set, append-nil, refl, sym, ◌∙◌, ap, subst, arith, ne_eqb}
+use Rattle.std.proofs.Common.{◌≡◌, ◌≢◌, ◌==◌, ◌+◌, ◌<◌, ℕ, zero, suc, Bool, true, false, cond, Option, Some, None, List, [], ◌∷◌, ◌++◌, drop, length, map, get_or, set, append-nil, append_assoc, refl, sym, ◌∙◌, ap, subst, arith, ne_eqb}
 use Rattle.std.specs.Prelude.{All, filter, slice_get}
 use Rattle.std.specs.List.{AllByRecursion, flat_map}
 use Rattle.std.specs.Option.{option_map, option_map_or}
@@ -20,7 +20,7 @@ use Rattle.device_shard.proofs.Past.{step_more}
 use Rattle.device_shard.proofs.Steps.{steps_past}
 use Rattle.merge_model.specs.Planned.{PlannedCall, calls_at, events_of_calls}
 use Rattle.stream_workers.specs.Calls.{BegunCall}
-use Rattle.stream_workers.specs.Held.{EndsIn, HasSeen, Holds, HoldsOpen, events_behind, lines_of_thread, list_at, token_at}
+use Rattle.stream_workers.specs.Held.{EndsIn, GoesOn, HasSeen, HaveGrown, Holds, HoldsOpen, events_behind, lines_of_thread, list_at, token_at}
 use Rattle.stream_workers.specs.Opens.{HaveGainedOne}
 
 -- ---- lists
@@ -277,3 +277,30 @@ gained_one thread place e slots n list before token past own inside k = go (plac
         let apart : k ≢ place = λ f. eqb-false place k is (sym f) in
         let same : list_at (set slots place (Some (seen_view n.log thread (before ++ e ∷ [])))) k ≡ list_at slots k = ap (λ (o : Option SeenView). option_map_or (λ (s : SeenView). s.list) o []) (token_other slots place k (Some (seen_view n.log thread (before ++ e ∷ []))) apart) in
         ap (lines_of_thread thread) same ∙ sym (append-nil (lines_of_thread thread (list_at slots k)))
+
+-- ---- how the lists go on
+
+pub goes_same : (old new : List Line) → new ≡ old → GoesOn old new
+goes_same old new same = ([], same ∙ sym (append-nil old))
+
+pub goes_through : (first next last : List Line) → GoesOn first next → GoesOn next last → GoesOn first last
+goes_through first next last one_ two = (one_.0 ++ two.0, two.1 ∙ (ap (λ (l : List Line). l ++ two.0) one_.1 ∙ append_assoc first one_.0 two.0))
+
+-- what a slot has seen that was set
+pub list_set : (slots : List (Option SeenView)) (place : ℕ) (s : SeenView) → place < length slots → list_at (set slots place (Some s)) place ≡ s.list
+list_set slots place s inside = ap (λ (o : Option SeenView). option_map_or (λ (t : SeenView). t.list) o []) (token_same slots place (Some s) inside)
+
+pub grown_one : (thread place : ℕ) (e : Line) (slots : List (Option SeenView)) (n : ShardName) (list before : List Line) → token_at slots place ≡ Some (seen_view n.log thread list) → IsPast thread list before → place < length slots
+    → HaveGrown slots (set slots place (Some (seen_view n.log thread (before ++ e ∷ []))))
+grown_one thread place e slots n list before token past inside k = go (place == k) refl
+  where
+    go : (u : Bool) → (place == k) ≡ u → GoesOn (list_at slots k) (list_at (set slots place (Some (seen_view n.log thread (before ++ e ∷ [])))) k)
+    go true is =
+        let here : place ≡ k = eqb-true place k is in
+        let now : list_at (set slots place (Some (seen_view n.log thread (before ++ e ∷ [])))) k ≡ before ++ e ∷ [] = ap (list_at (set slots place (Some (seen_view n.log thread (before ++ e ∷ []))))) (sym here) ∙ list_set slots place (seen_view n.log thread (before ++ e ∷ [])) inside in
+        let was : list_at slots k ≡ list = ap (list_at slots) (sym here) ∙ ap (λ (o : Option SeenView). option_map_or (λ (s : SeenView). s.list) o []) token in
+        (past.0 ++ e ∷ [], now ∙ (ap (λ (l : List Line). l ++ e ∷ []) past.1 ∙ (append_assoc list past.0 (e ∷ []) ∙ ap (λ (l : List Line). l ++ (past.0 ++ e ∷ [])) (sym was))))
+    go false is =
+        let apart : k ≢ place = λ f. eqb-false place k is (sym f) in
+        goes_same (list_at slots k) (list_at (set slots place (Some (seen_view n.log thread (before ++ e ∷ [])))) k)
+        (ap (λ (o : Option SeenView). option_map_or (λ (s : SeenView). s.list) o []) (token_other slots place k (Some (seen_view n.log thread (before ++ e ∷ []))) apart))

@@ -30,10 +30,10 @@ use Rattle.stream_workers.specs.declared.worker.Worker.{Worker}
 use Rattle.merge_model.specs.Planned.{PlannedCall, calls_at, events_of_calls}
 use Rattle.stream_workers.specs.Calls.{BegunCall, IsBegun}
 use Rattle.stream_workers.specs.Opens.{HasBegun, HaveGainedOne, IsOpen, IsToSend}
-use Rattle.stream_workers.specs.Held.{HoldsOpen}
+use Rattle.stream_workers.specs.Held.{HaveGrown, HoldsOpen}
 use Rattle.stream_workers.specs.Steps.{BeginsAt}
 use Rattle.stream_workers.specs.Work.{AllFit, Course, IsCourse, IsReady, OwnsStream, needs_of_begin, needs_of_calls}
-use Rattle.stream_workers.proofs.Holding.{Comes, begun_holds, comes, gained_one, next_seen}
+use Rattle.stream_workers.proofs.Holding.{Comes, begun_holds, comes, gained_one, grown_one, next_seen}
 
 -- ---- what a worker reads
 
@@ -155,6 +155,8 @@ module _ {S : Type 0} (room : S → SeatRoom) (c : Course) (p : PlannedCall) (re
           seen = ap (λ (t : TickView). t.seen) tick;
           gained = subst (λ (ss : List (Option SeenView)). HaveGainedOne old.thread p.place (line old.thread b.time true []) old.tokens.items ss) (sym slots_are)
               (gained_one old.thread p.place (line old.thread b.time true []) old.tokens.items x.name x.list at.before x.token at.past refl (omega (arith, inside, many)));
+          grown = subst (λ (ss : List (Option SeenView)). HaveGrown old.tokens.items ss) (sym slots_are)
+              (grown_one old.thread p.place (line old.thread b.time true []) old.tokens.items x.name x.list at.before x.token at.past (omega (arith, inside, many)));
         };
         marked = marks ∙ ap (λ (u : Bool). old.sent.items ++ u ∷ []) (sym not_skipped);
         to_send = record {

@@ -24,11 +24,11 @@ use Rattle.device_shard.proofs.Lists.{all_at, one, part_fits, within}
 use Rattle.stream_workers.specs.declared.worker.Worker.{Worker}
 use Rattle.merge_model.specs.Planned.{PlannedCall, calls_at, events_of_calls}
 use Rattle.stream_workers.specs.Calls.{BegunCall, IsBegun, IsMade, MadeCall, results_made}
-use Rattle.stream_workers.specs.Held.{Holds}
+use Rattle.stream_workers.specs.Held.{HaveGrown, Holds, list_at}
 use Rattle.stream_workers.specs.Opens.{HasReturned, HaveGainedOne, IsToReturn}
 use Rattle.stream_workers.specs.Steps.{ReturnsAt}
 use Rattle.stream_workers.specs.Work.{AllFit, Course, IsCourse, OwnsStream, needs_of_calls}
-use Rattle.stream_workers.proofs.Holding.{Ends, drop_first, ended_holds, ends, gained_one, next_seen, stream_there}
+use Rattle.stream_workers.proofs.Holding.{Ends, drop_first, ended_holds, ends, gained_one, goes_same, grown_one, list_set, next_seen, stream_there}
 
 module _ {S : Type 0} (room : S → SeatRoom) (c : Course) (b : BegunCall) (rest : List PlannedCall) (w : Worker S) (open_ : IsToReturn room c b rest w) where
   pub ending : Ends c.names w.thread b rest w.tokens.items w.made.items open_.opened.begun.name
@@ -120,7 +120,12 @@ module _ {S : Type 0} (room : S → SeatRoom) (c : Course) (b : BegunCall) (rest
           seen = ap (λ (t : TickView). t.seen) tick;
           gained = subst (λ (ss : List (Option SeenView)). HaveGainedOne old.thread b.place (line old.thread time false at.results) old.tokens.items ss) (sym slots_are)
               (gained_one old.thread b.place (line old.thread time false at.results) old.tokens.items open_.opened.begun.name (b.before ++ b.entry ∷ []) at.until (ending room c b rest old open_).token at.past refl (omega (arith, inside, many)));
+          grown = subst (λ (ss : List (Option SeenView)). HaveGrown old.tokens.items ss) (sym slots_are)
+              (grown_one old.thread b.place (line old.thread time false at.results) old.tokens.items open_.opened.begun.name (b.before ++ b.entry ∷ []) at.until (ending room c b rest old open_).token at.past (omega (arith, inside, many)));
         };
+        stands = goes_same (at.until ++ line old.thread time false at.results ∷ []) (list_at new.tokens.items b.place)
+            (ap (λ (ss : List (Option SeenView)). list_at ss b.place) slots_are
+            ∙ list_set old.tokens.items b.place (seen_view open_.opened.begun.name.log old.thread (at.until ++ line old.thread time false at.results ∷ [])) (omega (arith, inside, many)));
         sent = ap (λ (w : Worker S). w.sent) same;
         ready = record {
           holds = subst (λ t. Holds c.names t rest new.tokens.items new.made.items) (sym thread_is)

@@ -19,10 +19,10 @@ use Rattle.device_shard.proofs.Lists.{drop_here, one}
 use Rattle.stream_workers.specs.declared.worker.Worker.{Worker}
 use Rattle.merge_model.specs.Planned.{PlannedCall}
 use Rattle.stream_workers.specs.Calls.{BegunCall, IsMade, MadeCall, RiseBetween, entries_made, exchange_made, planned_of}
-use Rattle.stream_workers.specs.Held.{HaveGained, lines_of_thread, list_at}
+use Rattle.stream_workers.specs.Held.{GoesOn, HaveGained, HaveGrown, StandsAt, lines_of_thread, list_at}
 use Rattle.stream_workers.specs.Opens.{HasBegun, HasReturned, HasSent, HaveGainedOne}
 use Rattle.stream_workers.specs.Work.{Course, HasDone, HasMadeCalls, IsReady, IsReadyFor}
-use Rattle.stream_workers.proofs.Holding.{there}
+use Rattle.stream_workers.proofs.Holding.{goes_same, goes_through, there}
 use Rattle.stream_workers.proofs.Sending.{log_same}
 
 -- ---- lists
@@ -76,6 +76,12 @@ two_more : (u : Bool) (lines calls : List Line) (e f : Line) → ((lines ++ call
 two_more true lines calls e f = append_assoc (lines ++ calls) (e ∷ []) (f ∷ []) ∙ append_assoc lines calls (e ∷ f ∷ [])
 two_more false lines calls e f = append-nil ((lines ++ calls) ++ []) ∙ append_assoc lines calls []
 
+-- calls that stood in what the tokens had seen
+still_stand : (old new : List (Option SeenView)) (calls : List MadeCall) → HaveGrown old new → AllByRecursion (StandsAt old) calls → AllByRecursion (StandsAt new) calls
+still_stand old new [] grown stand = tt
+still_stand old new (m ∷ calls) grown stand =
+    (goes_through (m.until ++ m.entry ∷ []) (list_at old m.begun.place) (list_at new m.begun.place) stand.0 (grown m.begun.place), still_stand old new calls grown stand.1)
+
 -- ---- so far
 
 -- so many of the planned calls were made
@@ -97,6 +103,8 @@ none_yet room log c planned w is =
         made = tt;
         rise = omega arith;
         gained = λ k. sym (append-nil (lines_of_thread w.thread (list_at w.tokens.items k)));
+        grown = λ k. goes_same (list_at w.tokens.items k) (list_at w.tokens.items k) refl;
+        stand = tt;
         told = log_same (log w.seat);
         sent = sym (append-nil w.sent.items);
       };
@@ -158,6 +166,12 @@ module _ {S : Type 0} (room : S → SeatRoom) (log : S → Log) (c : Course) (pl
       ∙ (two_more (returned.call.begun.place == j) (lines_of_thread old.thread (list_at old.tokens.items j)) (entries_made j so_far.calls) returned.call.begun.entry returned.call.entry
       ∙ ap (λ (es : List Line). lines_of_thread old.thread (list_at old.tokens.items j) ++ es) (sym (entries_push j so_far.calls returned.call))))
 
+  grows : HaveGrown w.tokens.items z.tokens.items
+  grows j =
+      let same : GoesOn (list_at x.tokens.items j) (list_at y.tokens.items j) = goes_same (list_at x.tokens.items j) (list_at y.tokens.items j) (ap (λ (v : Worker S). list_at v.tokens.items j) sent.same) in
+      goes_through (list_at w.tokens.items j) (list_at x.tokens.items j) (list_at z.tokens.items j) (begun.stepped.grown j)
+      (goes_through (list_at x.tokens.items j) (list_at y.tokens.items j) (list_at z.tokens.items j) same (returned.stepped.grown j))
+
   exchanged : zip begun.call.told (replies_read begun.call.skip (reply_shown y.reply)) ≡ exchange_made returned.call
   exchanged =
       ap (λ (b : BegunCall). zip b.told (replies_read b.skip (reply_shown y.reply))) (sym begins)
@@ -195,6 +209,8 @@ module _ {S : Type 0} (room : S → SeatRoom) (log : S → Log) (c : Course) (pl
           made = all_push (IsMade c.names old.thread) so_far.calls returned.call so_far.done.made (subst (λ t. IsMade c.names t returned.call) thread_y returned.made);
           rise = rise_push old.tick.seen w.tick.seen z.tick.seen so_far.calls returned.call so_far.done.rise later returned.stepped.seen;
           gained = gains;
+          grown = λ j. goes_through (list_at old.tokens.items j) (list_at w.tokens.items j) (list_at z.tokens.items j) (so_far.done.grown j) (grows j);
+          stand = all_push (StandsAt z.tokens.items) so_far.calls returned.call (still_stand w.tokens.items z.tokens.items so_far.calls grows so_far.done.stand) returned.stands;
           told = tells;
           sent = marks;
         };

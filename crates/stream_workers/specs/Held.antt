@@ -58,6 +58,18 @@ lines_of_thread thread list = filter (λ (e : Line). e.thread == thread) list
 abbrev pub list_at : List (Option SeenView) → ℕ → List Line
 list_at slots k = option_map_or (λ (s : SeenView). s.list) (token_at slots k) []
 
+-- a list goes on from another: it begins with it
+abbrev pub GoesOn : List Line → List Line → Type 0
+GoesOn old new = (later : List Line) × (new ≡ old ++ later)
+
+-- what each slot's token has seen goes on from what it had seen
+abbrev pub HaveGrown : List (Option SeenView) → List (Option SeenView) → Type 0
+HaveGrown old new = (k : ℕ) → GoesOn (list_at old k) (list_at new k)
+
+-- what the token at a call's plan has seen begins with the log before the entry of the call's return, and this entry
+abbrev pub StandsAt : List (Option SeenView) → MadeCall → Type 0
+StandsAt slots m = GoesOn (m.until ++ m.entry ∷ []) (list_at slots m.begun.place)
+
 -- of the thread's entries, each log has gained just those of these calls on it
 abbrev pub HaveGained : ℕ → List MadeCall → List (Option SeenView) → List (Option SeenView) → Type 0
 HaveGained thread calls old new = (k : ℕ) → lines_of_thread thread (list_at new k) ≡ lines_of_thread thread (list_at old k) ++ entries_made k calls

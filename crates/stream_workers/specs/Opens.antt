@@ -13,7 +13,7 @@ use Rattle.device_shard.specs.Steps.{IsToldOf}
 use Rattle.stream_workers.specs.declared.worker.Worker.{Worker}
 use Rattle.merge_model.specs.Planned.{PlannedCall}
 use Rattle.stream_workers.specs.Calls.{BegunCall, IsBegun, IsMade, MadeCall}
-use Rattle.stream_workers.specs.Held.{HoldsOpen, lines_of_thread, list_at}
+use Rattle.stream_workers.specs.Held.{HaveGrown, HoldsOpen, StandsAt, lines_of_thread, list_at}
 use Rattle.stream_workers.specs.Work.{AllFit, Course, IsReady, OwnsStream, needs_of_begin, needs_of_calls}
 
 -- ---- where a worker stands
@@ -51,7 +51,8 @@ pub record IsToReturn {S : Type 0} (room : S → SeatRoom) (c : Course) (b : Beg
 abbrev pub HaveGainedOne : ℕ → ℕ → Line → List (Option SeenView) → List (Option SeenView) → Type 0
 HaveGainedOne thread place e old new = (k : ℕ) → lines_of_thread thread (list_at new k) ≡ lines_of_thread thread (list_at old k) ++ (if place == k then e ∷ [] else [])
 
--- a step of a worker: it is the same in all but its tokens, its counts, its tick and what it is told, and the entry's time is above what its tick had seen
+-- a step of a worker: it is the same in all but its tokens, its counts, its tick and what it is told, and the entry's time is above what its tick had seen; its tokens have seen
+-- what they had, and more
 pub record HasStepped {S : Type 0} (place : ℕ) (e : Line) (old new : Worker S) : Type 0 where
   pub thread : new.thread ≡ old.thread
   pub stream : new.stream ≡ old.stream
@@ -60,6 +61,7 @@ pub record HasStepped {S : Type 0} (place : ℕ) (e : Line) (old new : Worker S)
   pub later : old.tick.seen < e.time
   pub seen : new.tick.seen ≡ e.time
   pub gained : HaveGainedOne old.thread place e old.tokens.items new.tokens.items
+  pub grown : HaveGrown old.tokens.items new.tokens.items
 
 -- a worker's next call has begun
 pub record HasBegun {S : Type 0} (room : S → SeatRoom) (c : Course) (p : PlannedCall) (rest : List PlannedCall) (old new : Worker S) : Type 0 where
@@ -83,5 +85,6 @@ pub record HasReturned {S : Type 0} (room : S → SeatRoom) (c : Course) (b : Be
   pub reply : call.reply ≡ reply_shown old.reply
   pub made : IsMade c.names old.thread call
   pub stepped : HasStepped b.place call.entry old new
+  pub stands : StandsAt new.tokens.items call
   pub sent : new.sent ≡ old.sent
   pub ready : IsReady room c rest new

@@ -19,7 +19,7 @@ use Rattle.device_shard.specs.Steps.{HasRoomForBegin}
 use Rattle.stream_workers.specs.declared.worker.Worker.{Worker}
 use Rattle.merge_model.specs.Planned.{PlannedCall}
 use Rattle.stream_workers.specs.Calls.{IsMade, MadeCall, RiseBetween, exchange_made, planned_of}
-use Rattle.stream_workers.specs.Held.{HaveGained, Holds}
+use Rattle.stream_workers.specs.Held.{HaveGained, HaveGrown, Holds, StandsAt}
 
 -- ---- all workers together
 
@@ -83,13 +83,15 @@ pub record IsReadyFor {S : Type 0} (room : S → SeatRoom) (c : Course) (calls :
   pub places : map (λ (p : PlannedCall). p.place) calls ≡ w.places.items
 
 -- A worker has made these calls, in order and at rising times. The logs have gained just their entries of the thread's, the seat's list their exchanges, and it is marked of
--- each whether it was sent. `log` is what a seat tells of its calls.
+-- each whether it was sent. What the tokens have seen goes on from what they had seen, and each call stands in it where it was made. `log` is what a seat tells of its calls.
 pub record HasMadeCalls {S : Type 0} (log : S → Log) (c : Course) (calls : List MadeCall) (old new : Worker S) : Type 0 where
   pub thread : new.thread ≡ old.thread
   pub stream : new.stream ≡ old.stream
   pub made : AllByRecursion (IsMade c.names old.thread) calls
   pub rise : RiseBetween old.tick.seen calls new.tick.seen
   pub gained : HaveGained old.thread calls old.tokens.items new.tokens.items
+  pub grown : HaveGrown old.tokens.items new.tokens.items
+  pub stand : AllByRecursion (StandsAt new.tokens.items) calls
   pub told : log new.seat ≡ logged (log old.seat) (flat_map exchange_made calls)
   pub sent : new.sent.items ≡ old.sent.items ++ map (λ (m : MadeCall). not m.begun.skip) calls
 
