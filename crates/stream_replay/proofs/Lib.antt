@@ -1,0 +1,5 @@
+mod Composed
+pub mod Playing
+pub mod PlayingLists
+pub mod Seating
+mod Sections

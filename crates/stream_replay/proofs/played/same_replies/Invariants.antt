@@ -1,0 +1,7 @@
+use Rattle.std.proofs.Common.{◌≡◌, map, take}
+use Rattle.model_driver.specs.Driver.{reply_shown}
+use Rattle.stream_replay.proofs.PlayingLists.{answered}
+use Rattle.stream_replay.proofs.played.same_replies.Given as goal
+
+abbrev pub invariant-loop-k : goal.invariant-loop-k
+invariant-loop-k l = map reply_shown (take l.k l.replies) ≡ map answered (take l.k l.told)

@@ -1,0 +1,70 @@
+-- What the replay of a stream file comes to. Files and merges stand oldest first, the events and replies of traces newest first. Source: this project.
+use Rattle.std.specs.Prelude.{◌≡◌, ⊤, ℕ, Option, Some, None, List, [], ◌∷◌, ◌++◌, reverse}
+use Rattle.std.specs.List.{AllByRecursion}
+use Rattle.command_tables.specs.Calls.{DriverCallContent, ReplyContent}
+use Rattle.trace_format.specs.Content.{TraceEvent}
+use Rattle.trace_format.specs.Grammar.{IsEvent}
+use Rattle.model_driver.specs.Logs.{Log}
+use Rattle.replay_model.specs.Direct.{exchanges}
+use Rattle.replay_model.specs.Judged.{judged}
+use Rattle.replay_model.specs.Setup.{Setup}
+use Rattle.replay_model.specs.Text.{lines}
+use Rattle.chain_session.specs.declared.kept.Kept.{Kept}
+use Rattle.chain_session.specs.Standing.{StandsFor}
+use Rattle.stream_model.specs.FileLines.{FileLine}
+use Rattle.stream_model.specs.FileParts.{AreInOrder, FileParts, StreamPart, parts}
+use Rattle.stream_model.specs.Order.{events, refusal_at_end}
+use Rattle.merge_model.specs.Merges.{IsMerge, merged_events}
+use Rattle.seat_facts.specs.Told.{told_by_thread}
+
+-- a whole file, of which no line is refused
+pub record IsWholeFile (file : FileParts) : Type 0 where
+  pub lines : List FileLine
+  pub order : AreInOrder lines
+  pub grammar : AllByRecursion IsEvent (events lines)
+  pub whole : refusal_at_end lines ≡ None
+  pub is : parts lines ≡ file
+
+-- what the drivers replied to the calls of setup, of the merge and of teardown
+pub record SectionReplies : Type 0 where
+  pub setup : List ReplyContent
+  pub merge : List ReplyContent
+  pub teardown : List ReplyContent
+
+-- to those of setup and merge, and to all
+abbrev pub replies_before : SectionReplies → List ReplyContent
+replies_before r = r.merge ++ r.setup
+
+abbrev pub all_replies : SectionReplies → List ReplyContent
+all_replies r = r.teardown ++ replies_before r
+
+-- a log has just these, where it is told
+abbrev pub TellsJust : List (DriverCallContent × ReplyContent) → Log → Type 0
+TellsJust told None = ⊤
+TellsJust told (Some log) = log ≡ told
+
+-- The log of one seat has the driver calls of setup and those of teardown, each with its reply.
+pub record TellsEnds (s : Setup) (file : FileParts) (merge : List TraceEvent) (r : SectionReplies) (log : Log) : Type 0 where
+  pub last : List (DriverCallContent × ReplyContent)
+  pub teardown : exchanges (judged s (reverse (merged_events file merge))) (all_replies r) ≡ exchanges (judged s (reverse merge ++ reverse file.setup)) (replies_before r) ++ last
+  pub told : TellsJust (exchanges (judged s (reverse file.setup)) r.setup ++ last) log
+
+-- The log of each further seat has the driver calls that the trace of setup and merge makes for a stream's thread behind the setup, each with its reply.
+abbrev pub TellStreams : {S : Type 0} → (S → Log) → Setup → FileParts → List TraceEvent → SectionReplies → List StreamPart → List S → Type 0
+TellStreams log s file merge r [] [] = ⊤
+TellStreams log s file merge r (x ∷ streams) (seat ∷ seats) =
+    TellsJust (told_by_thread s x.thread (reverse file.setup) (reverse merge) (replies_before r)) (log seat) × TellStreams log s file merge r streams seats
+TellStreams log s file merge r _ _ = ⊥
+
+-- The sections of a file were replayed, with a merge in place of the streams: the session stands for the events of all, and these are their lines. The first seat was told
+-- the driver calls of setup and teardown, and each further one those of its stream. `log` is what a seat tells of its calls.
+pub record HasReplayed {S : Type 0} (log : S → Log) (s : Setup) (file : FileParts) (merge : List TraceEvent) (text : List ℕ) (k : Option Kept) (seats : List S) : Type 0 where
+  pub merged : IsMerge file.streams merge
+  pub replies : SectionReplies
+  pub stands : StandsFor s k (reverse (merged_events file merge)) (all_replies replies)
+  pub wrote : text ≡ lines s (judged s (reverse (merged_events file merge)))
+  pub first : S
+  pub others : List S
+  pub are : seats ≡ first ∷ others
+  pub ends : TellsEnds s file merge replies (log first)
+  pub streams : TellStreams log s file merge replies file.streams others
