@@ -26,17 +26,21 @@ pub record IsSilent (errs : Change) : Type 0 where
   pub same : IsUnmoved errs
   pub stood : Stood errs
 
--- the front of a line on a trace that stops: the number of its line, from 1
+-- the front of a line on an input that is refused: the number of its line, from 1
 abbrev pub number_text : ℕ → List ℕ
 number_text n = codes "vkreplay: line " ++ decimal n
 
--- and its fault
-abbrev pub kind_text : TraceFault → List ℕ
-kind_text f = codes ": " ++ fault_name f
+-- and the name of its cause
+abbrev pub kind_text : List ℕ → List ℕ
+kind_text kind = codes ": " ++ kind
+
+-- what is said of an input that is refused at a line
+abbrev pub kind_line : ℕ → List ℕ → List ℕ
+kind_line n kind = number_text n ++ (kind_text kind ++ codes "\n")
 
 -- what is said of a trace that stops
 abbrev pub fault_line : ℕ → TraceFault → List ℕ
-fault_line n f = number_text n ++ (kind_text f ++ codes "\n")
+fault_line n f = kind_line n (fault_name f)
 
 -- what is said of a limit, with the number that it allows
 abbrev pub limit_line : Which → List ℕ

@@ -19,4 +19,5 @@ pub use environment::variables_of;
 pub use finish::Finished;
 pub use laws::what_is_shown_is_what_is_judged;
 pub use process::{Invocation, exit_status};
+pub use say::{say, say_fault, say_kind, say_limit};
 pub use top::replay_main;

@@ -3,7 +3,7 @@ ghost use Rattle.std.specs.Prelude.{◌≡◌, ◌++◌, OnOk, OnErr};
 ghost use Rattle.replay_base.specs.Bytes.{grown, GrownByFront};
 ghost use Rattle.replay_base.specs.Changes.{Change, changed};
 ghost use Rattle.replay_base.specs.Faults.{HasCause};
-ghost use Rattle.replay_tool.specs.Said.{Said, fault_line, kind_text, limit_line, number_text};
+ghost use Rattle.replay_tool.specs.Said.{Said, fault_line, kind_line, kind_text, limit_line, number_text};
 
 use itoa::Buffer;
 use replay_base::{Failed, Sink, Which, put_all};
@@ -41,28 +41,35 @@ fn put_number<L: Sink>(errs: &mut L, line: u64) -> Result<(), Failed>
     Ok(())
 }
 
-fn put_kind<L: Sink>(errs: &mut L, fault: TraceFault) -> Result<(), Failed>
-    ensures all { OnOk result (L.held errs.new ≡ grown (L.held errs.old) (kind_text fault)) }
-    ensures front { OnErr result (GrownByFront (L.held errs.old) (L.held errs.new) (kind_text fault)) }
+fn put_kind<L: Sink>(errs: &mut L, kind: &str) -> Result<(), Failed>
+    ensures all { OnOk result (L.held errs.new ≡ grown (L.held errs.old) (kind_text kind.now)) }
+    ensures front { OnErr result (GrownByFront (L.held errs.old) (L.held errs.new) (kind_text kind.now)) }
     ensures cause { HasCause (L.faults errs.old) (L.faults errs.new) result }
 {
-    put_two(errs, b": ", fault.name().as_bytes())
+    put_two(errs, b": ", kind.as_bytes())
 }
 
-fn put_fault<L: Sink>(errs: &mut L, line: u64, fault: TraceFault) -> Result<(), Failed>
-    ensures { Said (fault_line line fault) (changed (L.held errs.old) (L.held errs.new) (L.faults errs.old) (L.faults errs.new)) }
+fn put_refusal<L: Sink>(errs: &mut L, line: u64, kind: &str) -> Result<(), Failed>
+    ensures { Said (kind_line line kind.now) (changed (L.held errs.old) (L.held errs.new) (L.faults errs.old) (L.faults errs.new)) }
 {
     put_number(errs, line)?;
-    put_kind(errs, fault)?;
+    put_kind(errs, kind)?;
     put_all(errs, b"\n")?;
     Ok(())
+}
+
+/// The line of an input that is refused at a line of its own, by the name of the cause.
+pub fn say_kind<L: Sink>(errs: &mut L, line: u64, kind: &str)
+    ensures { Said (kind_line line kind.now) (changed (L.held errs.old) (L.held errs.new) (L.faults errs.old) (L.faults errs.new)) }
+{
+    let _ = put_refusal(errs, line, kind);
 }
 
 /// The line of a trace that stops.
 pub fn say_fault<L: Sink>(errs: &mut L, line: u64, fault: TraceFault)
     ensures { Said (fault_line line fault) (changed (L.held errs.old) (L.held errs.new) (L.faults errs.old) (L.faults errs.new)) }
 {
-    let _ = put_fault(errs, line, fault);
+    say_kind(errs, line, fault.name())
 }
 
 fn limit_text(which: Which) -> &'static str
