@@ -13,7 +13,7 @@ mod status;
 
 pub use chain_session::Session;
 pub use error::ReplayError;
-pub use put::put_end;
+pub use put::{put_end, text_of_notes};
 pub use report_text::Tally;
 pub use run::replay;
 pub use status::Status;

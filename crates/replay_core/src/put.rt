@@ -48,9 +48,9 @@ fn add_notes(notes: &[Note], text: &mut Vec<u8>) -> Result<(), NoMemory>
     Ok(())
 }
 
-// The lines of all notes of a setup.
+/// The lines of all notes of a setup: those of the drivers, of the explicit layers and of the implicit ones.
 #[tactic(auto, unfolding(report_text::specs::Notes::setup_notes))]
-fn text_of_notes(alloc: Global, setup: &Setup) -> Result<Vec<u8>, NoMemory>
+pub fn text_of_notes(alloc: Global, setup: &Setup) -> Result<Vec<u8>, NoMemory>
     ensures { IfOk result (λ text. text.items ≡ setup_notes (setup_content setup.now)) }
 {
     let mut text = Vec::new(alloc);

@@ -83,8 +83,8 @@ pub(crate) fn flushed<K: Sink>(
     }
 }
 
-// Whether something was reported.
-fn status_at_end(tally: Tally) -> Status
+/// The status of an end without an error, by whether something was reported.
+pub fn status_at_end(tally: Tally) -> Status
     ensures { result ≡ end_status tally.reports }
 {
     if tally.reports == 0 {

@@ -16,7 +16,7 @@ mod top;
 
 pub use blocks::BlockSink;
 pub use environment::variables_of;
-pub use finish::Finished;
+pub use finish::{Finished, status_at_end};
 pub use laws::what_is_shown_is_what_is_judged;
 pub use process::{Invocation, exit_status};
 pub use say::{say, say_fault, say_kind, say_limit};
