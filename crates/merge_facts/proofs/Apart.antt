@@ -26,7 +26,7 @@ one_more (Some heading.Setup) file latest = sym (append-nil (threads_of file))
 one_more (Some heading.Teardown) file latest = sym (append-nil (threads_of file))
 one_more (Some (heading.Stream t)) file latest = map-append (λ (s : StreamPart). s.thread) file.streams (record { thread = t; events = latest } ∷ [])
 
-as_headed : (lines : List FileLine) → threads_of (parts lines) ≡ stream_threads lines
+pub as_headed : (lines : List FileLine) → map (λ (s : StreamPart). s.thread) (parts lines).streams ≡ stream_threads lines
 as_headed [] = refl
 as_headed (HeadingLine h ∷ lines) = one_more (Some h) (parts lines) [] ∙ ap (λ ts. ts ++ heading_threads h) (as_headed lines)
 as_headed (EventLine e ∷ lines) =

@@ -9,5 +9,7 @@ mod dealing;
 mod logs;
 mod needs;
 
+pub use counts::plus;
 pub use crew::make_workers;
 pub use logs::make_logs;
+pub use needs::count_names;

@@ -1,5 +1,5 @@
 //! An empty log for each plan.
-ghost use Rattle.std.specs.Prelude.{◌≡◌, IfOk, List, map, nat_eq};
+ghost use Rattle.std.specs.Prelude.{◌≡◌, IfOk, List, length, map, nat_eq};
 ghost use Rattle.std.specs.List.{IsDistinct, sum_by};
 ghost use Rattle.trace_format.specs.Content.{content};
 ghost use Rattle.shard_start.specs.Starting.{events_in};
@@ -95,7 +95,8 @@ pub fn make_logs(
 ) -> Result<Vec<(DeviceLog, Owner)>, NoMemory>
     requires threads { HaveThreads threads.now (map plan_content plans.now) }
     requires distinct { IsDistinct nat_eq threads.now }
-    ensures { IfOk result (λ logs. (names : List ShardName) → map (λ n. n.plan) names ≡ map plan_content plans.now → logs_of names ≡ map (λ l. l.0) logs.items → AreLogs names logs.items) }
+    ensures count { IfOk result (λ logs. length logs.items ≡ length plans.now) }
+    ensures logs { IfOk result (λ logs. (names : List ShardName) → map (λ n. n.plan) names ≡ map plan_content plans.now → logs_of names ≡ map (λ l. l.0) logs.items → AreLogs names logs.items) }
 {
     let mut logs = Vec::new(alloc);
     for plan in plans {

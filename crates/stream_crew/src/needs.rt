@@ -20,8 +20,8 @@ pub(crate) struct Most {
     pub(crate) bytes: usize,
 }
 
-// How many arguments there are in all.
-fn count_names(args: &[TraceArg]) -> Result<usize, NoMemory>
+/// How many names there are in all arguments of a call.
+pub fn count_names(args: &[TraceArg]) -> Result<usize, NoMemory>
     ensures { IfOk result (λ n. n ≡ names_in (names_of args.now)) }
 {
     let mut count = 0usize;

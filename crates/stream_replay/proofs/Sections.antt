@@ -19,6 +19,7 @@ use Rattle.stream_model.proofs.WholeTraces.{in_streams}
 use Rattle.merge_model.specs.Merges.{IsMerge, merged_events}
 use Rattle.merge_model.specs.Planned.{AreOnThese, IsOnOne, number_among}
 use Rattle.merge_model.proofs.Counted.{AreApart, merged_all}
+use Rattle.merge_model.proofs.Parting.{all_reverse}
 use Rattle.event_replay.proofs.Lists.{earlier}
 
 -- ---- setup
@@ -79,3 +80,36 @@ merge_within s file devices merge on apart is =
     any_of (exceeds_layers s) merge
     (all_map (IsOnOne f devices) (λ e. exceeds_layers s e ≡ false) (λ e here. within_one s f devices e here) merge
     (merged_all (IsOnOne f devices) file.streams merge apart is (all_in (IsOnOne f devices) file.streams on)))
+
+-- no call of the streams makes one
+pub streams_within : (s : Setup) (file : FileParts) (devices : List Name) → AreOnThese file devices → list_any (exceeds_layers s) (in_streams file.streams) ≡ false
+streams_within s file devices on =
+    let f = device_written file in
+    any_of (exceeds_layers s) (in_streams file.streams)
+    (all_map (IsOnOne f devices) (λ e. exceeds_layers s e ≡ false) (λ e here. within_one s f devices e here) (in_streams file.streams)
+    (all_in (IsOnOne f devices) file.streams on))
+
+-- ---- what holds of each event of a file
+
+all_first : (P : TraceEvent → Type 0) (xs ys : List TraceEvent) → AllByRecursion P (xs ++ ys) → AllByRecursion P xs
+all_first P [] ys all = tt
+all_first P (x ∷ xs) ys all = (all.0, all_first P xs ys all.1)
+
+all_last : (P : TraceEvent → Type 0) (xs ys : List TraceEvent) → AllByRecursion P (xs ++ ys) → AllByRecursion P ys
+all_last P [] ys all = all
+all_last P (x ∷ xs) ys all = all_last P xs ys all.1
+
+-- holds of each of its setup and of its teardown
+module _ (P : TraceEvent → Type 0) (file : FileParts) (es : List TraceEvent) (order : all_events file ≡ reverse es) (all : AllByRecursion P es) where
+  whole : AllByRecursion P (all_events file)
+  whole = subst (AllByRecursion P) (sym order) (all_reverse P es all)
+
+  pub all_of_setup : AllByRecursion P file.setup
+  all_of_setup = all_first P file.setup (in_streams file.streams ++ file.teardown) whole
+
+  pub all_of_teardown : AllByRecursion P file.teardown
+  all_of_teardown = all_last P (in_streams file.streams) file.teardown (all_last P file.setup (in_streams file.streams ++ file.teardown) whole)
+
+-- and of each of a merge between them
+pub all_of_merge : (P : TraceEvent → Type 0) (file : FileParts) (merge : List TraceEvent) → AllByRecursion P (merged_events file merge) → AllByRecursion P merge
+all_of_merge P file merge all = all_first P merge file.teardown (all_last P file.setup (merge ++ file.teardown) all)

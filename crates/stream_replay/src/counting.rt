@@ -7,6 +7,7 @@ ghost use Rattle.device_shard.specs.Rooms.{names_of};
 ghost use Rattle.stream_replay.specs.Seating.{needs_at, needs_of_events, room_counted};
 
 use command_tables::NoMemory;
+use stream_crew::{count_names, plus};
 use trace_format::{Event, Name, TraceArg};
 
 /// So many calls, so many handles of their arguments and results together, and so many bytes of their payloads.
@@ -17,30 +18,12 @@ pub(crate) struct Counts {
     pub(crate) bytes: usize,
 }
 
-// The sum. One that can't be counted is refused as want of memory.
-fn plus(one: usize, other: usize) -> Result<usize, NoMemory>
-    ensures { IfOk result (λ n. n ≡ one + other) }
-{
-    one.checked_add(other).ok_or(NoMemory)
-}
-
 // The sum of what a seat counts in 32 bits.
 fn plus_few(one: u32, other: usize) -> Result<u32, NoMemory>
     ensures { IfOk result (λ n. n ≡ one + other) }
 {
     let more = u32::try_from(other).ok().ok_or(NoMemory)?;
     one.checked_add(more).ok_or(NoMemory)
-}
-
-// How many arguments there are in all.
-fn count_names(args: &[TraceArg]) -> Result<usize, NoMemory>
-    ensures { IfOk result (λ n. n ≡ names_in (names_of args.now)) }
-{
-    let mut count = 0usize;
-    for arg in args {
-        count = plus(count, arg.names.len())?;
-    }
-    Ok(count)
 }
 
 // With a begin more.

@@ -12,6 +12,9 @@ mod replaying;
 mod seats;
 mod section;
 
-pub use laws::a_file_that_was_read_is_whole;
+pub use laws::{
+    a_file_that_was_read_is_whole, no_call_of_a_stream_makes_a_chain,
+    the_events_of_a_whole_file_are_of_the_grammar,
+};
 pub use limits::is_within;
 pub use replaying::{Replayed, replay_streams};

@@ -1,8 +1,8 @@
 -- What a file that is ready gives a run.
-use Rattle.std.proofs.Common.{◌≡◌, ◌∙◌, ◌≤◌, ◌<◌, ℕ, zero, suc, nat_eq, Option, Some, None, List, [], ◌∷◌, ◌++◌, length, map, refl, sym, ap, subst, arith, append-nil}
+use Rattle.std.proofs.Common.{◌≡◌, ◌∙◌, ◌≤◌, ◌<◌, ℕ, zero, suc, nat_eq, Option, Some, None, List, [], ◌∷◌, length, map, refl, sym, ap, subst, arith}
 use Rattle.std.specs.Prelude.{reverse, slice_get}
 use Rattle.std.specs.List.{AllByRecursion, IsDistinct}
-use Rattle.std.proofs.lemmas.List.{length-map, map-append}
+use Rattle.std.proofs.lemmas.List.{length-map}
 use Rattle.std.proofs.lemmas.Option.{slice_get-map}
 use Rattle.std.specs.Option.{option_map}
 use Rattle.command_tables.specs.Calls.{ReplyContent}
@@ -11,19 +11,17 @@ use Rattle.object_model.specs.declared.PartKind.{PartKind}
 use Rattle.dispatch_chain.specs.Seats.{kinds_of}
 use Rattle.trace_format.specs.declared.event.Name.{Name}
 use Rattle.trace_format.specs.Accepting.{same_name}
-use Rattle.trace_format.specs.Content.{TraceEvent}
 use Rattle.trace_format.specs.Grammar.{IsEvent}
 use Rattle.replay_model.specs.Setup.{Setup}
 use Rattle.chain_model.specs.Traces.{GivesGuarded}
 use Rattle.chain_session.specs.declared.kept.Kept.{Kept}
 use Rattle.chain_session.specs.Splitting.{kinds_in_force}
 use Rattle.chain_session.specs.Standing.{StandsFor}
-use Rattle.stream_model.specs.declared.heading.Heading.{Heading}
-use Rattle.stream_model.specs.declared.heading.Heading.TheVariants as heading
-use Rattle.stream_model.specs.FileLines.{FileLine, HeadingLine, EventLine}
-use Rattle.stream_model.specs.FileParts.{AreInOrder, FileParts, StreamPart, closed_parts, open_events, parts, with_section}
-use Rattle.stream_model.specs.Order.{devices_named, events, heading_threads, refusal_at_end, section, stream_threads}
+use Rattle.stream_model.specs.FileLines.{FileLine}
+use Rattle.stream_model.specs.FileParts.{AreInOrder, FileParts, StreamPart, parts}
+use Rattle.stream_model.specs.Order.{devices_named, events, refusal_at_end, stream_threads}
 use Rattle.stream_model.specs.Plans.{DevicePlan, device_written, events_planned, plan_cut, stream_on}
+use Rattle.merge_facts.proofs.Apart.{as_headed}
 use Rattle.merge_model.specs.Planned.{AreCallsOf, AreOnThese, PlannedCall, calls_planned}
 use Rattle.shard_start.specs.Cutting.{AreCutFrom, start_of}
 use Rattle.shard_start.specs.Starting.{CanStart}
@@ -69,24 +67,8 @@ PlansStart = (k : Kept) (plans : List DevicePlan) → AreCutFrom (Some k) plans 
 
 -- ---- threads
 
-abbrev section_threads : Option Heading → List ℕ
-section_threads None = []
-section_threads (Some h) = heading_threads h
-
-with_threads : (file : FileParts) (s : Option Heading) (latest : List TraceEvent) → threads_of (with_section file s latest).streams ≡ threads_of file.streams ++ section_threads s
-with_threads file None latest = sym (append-nil (threads_of file.streams))
-with_threads file (Some heading.Setup) latest = sym (append-nil (threads_of file.streams))
-with_threads file (Some (heading.Stream t)) latest = map-append (λ (x : StreamPart). x.thread) file.streams (record { thread = t; events = latest } ∷ [])
-with_threads file (Some heading.Teardown) latest = sym (append-nil (threads_of file.streams))
-
-threads_are : (lines : List FileLine) → threads_of (parts lines).streams ≡ stream_threads lines
-threads_are [] = refl
-threads_are (HeadingLine h ∷ lines) = with_threads (parts lines) (Some h) [] ∙ ap (λ (ts : List ℕ). ts ++ heading_threads h) (threads_are lines)
-threads_are (EventLine e ∷ lines) =
-    with_threads (closed_parts lines) (section lines) (open_events lines ++ e ∷ []) ∙ (sym (with_threads (closed_parts lines) (section lines) (open_events lines)) ∙ threads_are lines)
-
 differ_there : ThreadsDiffer → (lines : List FileLine) → AreInOrder lines → IsDistinct nat_eq (threads_of (parts lines).streams)
-differ_there differ lines order = subst (λ (ts : List ℕ). IsDistinct nat_eq ts) (sym (threads_are lines)) (differ lines order)
+differ_there differ lines order = subst (λ (ts : List ℕ). IsDistinct nat_eq ts) (sym (as_headed lines)) (differ lines order)
 
 pub threads_differ : ThreadsDiffer → (k : Option Kept) (file : FileParts) → IsReadyToRun k file → IsDistinct nat_eq (threads_of file.streams)
 threads_differ differ k file ready = subst (λ (f : FileParts). IsDistinct nat_eq (threads_of f.streams)) ready.is (differ_there differ ready.lines ready.order)

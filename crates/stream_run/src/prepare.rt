@@ -74,10 +74,6 @@ pub(crate) fn prepare(alloc: Global, file: &StreamFile) -> Result<Prepared, NoMe
     let places = place_calls(alloc, file, &plans)?;
     let threads = threads_in(alloc, &file.streams)?;
     let logs = make_logs(alloc, &plans, &threads)?;
-    // There is one for each plan.
-    if logs.len() != plans.len() {
-        return Err(NoMemory);
-    }
     let steps = count_steps(&places)?;
     let (clock, tick) = new_clock(alloc, steps)?;
     Ok(Prepared {

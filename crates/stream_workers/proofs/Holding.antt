@@ -1,19 +1,18 @@
 -- What a thread holds at the logs of all plans, as it makes one step more.
-use Rattle.std.proofs.Common.{◌≡◌, ◌≢◌, ◌==◌, ◌+◌, ◌<◌, ℕ, zero, suc, Bool, true, false, cond, Option, Some, None, List, [], ◌∷◌, ◌++◌, drop, length, map, get_or, set, append-nil, append_assoc, refl, sym, ◌∙◌, ap, subst, arith, ne_eqb}
-use Rattle.std.specs.Prelude.{All, filter, slice_get}
-use Rattle.std.specs.List.{AllByRecursion, flat_map}
-use Rattle.std.specs.Option.{option_map, option_map_or}
+use Rattle.std.proofs.Common.{◌≡◌, ◌≢◌, ◌==◌, ◌+◌, ◌<◌, ℕ, zero, suc, Bool, true, false, cond, Option, Some, None, List, [], ◌∷◌, ◌++◌, drop, length, get_or, set, append-nil, append_assoc, refl, sym, ◌∙◌, ap, subst, arith, ne_eqb}
+use Rattle.std.specs.Prelude.{All, slice_get}
+use Rattle.std.specs.Option.{option_map_or}
 use Rattle.std.proofs.lemmas.Bool.{eq-eqb, eqb-false, eqb-true}
 use Rattle.std.proofs.lemmas.List.{get_or-set_other, get_or-set_same, length-set}
 use Rattle.std.proofs.lemmas.List.Concat.{flat_map-cons}
 use Rattle.std.proofs.lemmas.List.Elements.{filter-append}
-use Rattle.std.proofs.lemmas.Option.{slice_get-map, slice_get_within}
+use Rattle.std.proofs.lemmas.Option.{slice_get_within}
 use Rattle.stream_log.specs.declared.line.Line.{Line}
 use Rattle.stream_log.specs.Log.{IsPast, SeenView, seen_view}
-use Rattle.trace_format.specs.Content.{BeginEvent, TraceEvent, Begin, Return}
+use Rattle.trace_format.specs.Content.{TraceEvent, Begin, Return}
 use Rattle.stream_model.specs.FileParts.{StreamPart}
-use Rattle.stream_model.specs.Plans.{DevicePlan, events_planned, turns_of}
-use Rattle.shard_model.specs.Followed.{next_event, turns_in}
+use Rattle.stream_model.specs.Plans.{events_planned}
+use Rattle.shard_model.specs.Followed.{next_event}
 use Rattle.device_shard.specs.Shards.{ShardName}
 use Rattle.device_shard.proofs.Lists.{one}
 use Rattle.device_shard.proofs.Past.{step_more}

@@ -1,17 +1,15 @@
 -- The begin of a worker's next call.
-use Rattle.std.proofs.Common.{◌≡◌, ◌==◌, ◌+◌, ◌-◌, ◌<◌, ◌≤◌, ◌^◌, ℕ, Bool, true, false, not, is_some, Option, Some, None, List, [], ◌∷◌, ◌++◌, length, map, get_or, set, refl, sym, ◌∙◌, ap, subst, arith}
-use Rattle.std.specs.Prelude.{reverse, slice_get, vec_capacity, vec_len}
-use Rattle.std.specs.List.{AllByRecursion, flat_map}
+use Rattle.std.proofs.Common.{◌≡◌, ◌+◌, ◌-◌, ◌<◌, ◌≤◌, ◌^◌, ℕ, Bool, true, false, not, is_some, Option, Some, None, List, [], ◌∷◌, ◌++◌, length, map, get_or, set, refl, sym, ◌∙◌, ap, subst, arith}
+use Rattle.std.specs.Prelude.{slice_get, vec_capacity, vec_len}
 use Rattle.std.specs.Option.{is_none, option_map, option_map_or}
 use Rattle.std.proofs.lemmas.List.{length-map}
-use Rattle.std.proofs.lemmas.Option.{slice_get-map, slice_get_within}
-use Rattle.atomic_table.specs.Seated.{TableId}
+use Rattle.std.proofs.lemmas.Option.{slice_get-map}
 use Rattle.command_tables.specs.Calls.{DriverCallContent}
 use Rattle.command_tables.specs.declared.call.LayerCall.{LayerCall}
 use Rattle.stream_log.specs.declared.line.Line.{Line}
 use Rattle.stream_log.specs.Clock.{TickView, tick_view}
-use Rattle.stream_log.specs.Log.{IsPast, SeenView, line, seen_view}
-use Rattle.trace_format.specs.Content.{BeginEvent, TraceEvent, Begin, Return}
+use Rattle.stream_log.specs.Log.{SeenView, line, seen_view}
+use Rattle.trace_format.specs.Content.{BeginEvent, Begin, Return}
 use Rattle.model_driver.specs.declared.driver.DriverCall.{DriverCall}
 use Rattle.model_driver.specs.declared.driver.DriverReply.{DriverReply}
 use Rattle.model_driver.specs.Driver.{call_shown}
@@ -19,7 +17,6 @@ use Rattle.model_driver.specs.Seats.{FitsIn, SeatRoom, joined_room}
 use Rattle.terminator.specs.Calls.{KeepsCallRoom}
 use Rattle.stream_model.specs.FileParts.{StreamPart}
 use Rattle.stream_model.specs.Plans.{DevicePlan, events_planned}
-use Rattle.shard_model.specs.Followed.{next_event}
 use Rattle.shard_start.specs.Starting.{CanStart, events_in}
 use Rattle.device_shard.specs.declared.begun.Begun.{Begun}
 use Rattle.device_shard.specs.Shards.{ShardName}
@@ -29,7 +26,7 @@ use Rattle.device_shard.proofs.Steps.{next_past, next_turned}
 use Rattle.stream_workers.specs.declared.worker.Worker.{Worker}
 use Rattle.merge_model.specs.Planned.{PlannedCall, calls_at, events_of_calls}
 use Rattle.stream_workers.specs.Calls.{BegunCall, IsBegun}
-use Rattle.stream_workers.specs.Opens.{HasBegun, HaveGainedOne, IsOpen, IsToSend}
+use Rattle.stream_workers.specs.Opens.{HasBegun, HaveGainedOne, IsOpen}
 use Rattle.stream_workers.specs.Held.{HaveGrown, HoldsOpen}
 use Rattle.stream_workers.specs.Steps.{BeginsAt}
 use Rattle.stream_workers.specs.Work.{AllFit, Course, IsCourse, IsReady, OwnsStream, needs_of_begin, needs_of_calls}

@@ -1,14 +1,13 @@
 -- The open call of a worker returns.
-use Rattle.std.proofs.Common.{◌≡◌, ◌==◌, ◌+◌, ◌-◌, ◌<◌, ◌≤◌, ◌^◌, ℕ, Bool, true, false, Option, Some, List, [], ◌∷◌, ◌++◌, length, get_or, set, refl, sym, ◌∙◌, ap, subst, arith}
+use Rattle.std.proofs.Common.{◌≡◌, ◌+◌, ◌-◌, ◌<◌, ◌≤◌, ◌^◌, ℕ, Bool, true, false, Option, Some, List, [], ◌∷◌, ◌++◌, length, get_or, set, refl, sym, ◌∙◌, ap, subst, arith}
 use Rattle.std.specs.Prelude.{reverse, slice_get, vec_capacity, vec_len}
-use Rattle.std.specs.List.{AllByRecursion}
 use Rattle.std.specs.Option.{option_map_or}
 use Rattle.std.proofs.lemmas.Option.{slice_get_within}
-use Rattle.command_tables.specs.Calls.{DriverCallContent, ReplyContent}
+use Rattle.command_tables.specs.Calls.{ReplyContent}
 use Rattle.stream_log.specs.declared.line.Line.{Line}
 use Rattle.stream_log.specs.Clock.{TickView, tick_view}
-use Rattle.stream_log.specs.Log.{IsPast, SeenView, line, seen_view}
-use Rattle.trace_format.specs.Content.{TraceEvent, Begin, Return}
+use Rattle.stream_log.specs.Log.{SeenView, line, seen_view}
+use Rattle.trace_format.specs.Content.{Begin, Return}
 use Rattle.model_driver.specs.declared.driver.DriverCall.{DriverCall}
 use Rattle.model_driver.specs.declared.driver.DriverReply.{DriverReply}
 use Rattle.model_driver.specs.Driver.{reply_shown}
@@ -20,10 +19,10 @@ use Rattle.shard_model.specs.Replays.{Tells}
 use Rattle.shard_start.specs.Starting.{CanStart, events_in}
 use Rattle.device_shard.specs.Shards.{ShardName}
 use Rattle.device_shard.specs.Steps.{AreResults, IsReplied}
-use Rattle.device_shard.proofs.Lists.{all_at, one, part_fits, within}
+use Rattle.device_shard.proofs.Lists.{all_at, part_fits, within}
 use Rattle.stream_workers.specs.declared.worker.Worker.{Worker}
 use Rattle.merge_model.specs.Planned.{PlannedCall, calls_at, events_of_calls}
-use Rattle.stream_workers.specs.Calls.{BegunCall, IsBegun, IsMade, MadeCall, results_made}
+use Rattle.stream_workers.specs.Calls.{BegunCall, IsMade, results_made}
 use Rattle.stream_workers.specs.Held.{HaveGrown, Holds, list_at}
 use Rattle.stream_workers.specs.Opens.{HasReturned, HaveGainedOne, IsToReturn}
 use Rattle.stream_workers.specs.Steps.{ReturnsAt}

@@ -1,7 +1,7 @@
 -- The open call of a worker is sent.
 use Rattle.std.proofs.Common.{◌≡◌, ◌+◌, ◌-◌, ◌≤◌, ℕ, Bool, true, false, cond, not, Option, List, [], ◌∷◌, ◌++◌, length, map, append-nil, refl, sym, ◌∙◌, ap, subst, arith, Some, None}
 use Rattle.std.specs.Prelude.{slice_get, vec_capacity}
-use Rattle.std.specs.List.{AllByRecursion, zip}
+use Rattle.std.specs.List.{zip}
 use Rattle.std.proofs.lemmas.List.{length-append}
 use Rattle.std.proofs.lemmas.List.Sums.{sum_by-cons}
 use Rattle.command_tables.specs.Calls.{DriverCallContent, ReplyContent}
@@ -21,7 +21,7 @@ use Rattle.device_shard.specs.Steps.{IsToldOf}
 use Rattle.stream_workers.specs.declared.worker.Worker.{Worker}
 use Rattle.merge_model.specs.Planned.{PlannedCall}
 use Rattle.stream_workers.specs.Calls.{BegunCall}
-use Rattle.stream_workers.specs.Opens.{HasSent, IsOpen, IsToReturn, IsToSend}
+use Rattle.stream_workers.specs.Opens.{HasSent, IsOpen, IsToSend}
 use Rattle.stream_workers.specs.Work.{AllFit, Course, needs_of_begin, needs_of_calls}
 
 -- as many handles as names

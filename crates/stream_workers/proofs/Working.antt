@@ -14,13 +14,12 @@ use Rattle.model_driver.specs.Driver.{reply_shown}
 use Rattle.model_driver.specs.Logs.{Log, logged}
 use Rattle.model_driver.specs.Seats.{SeatRoom}
 use Rattle.device_shard.specs.Lanes.{replies_read}
-use Rattle.device_shard.specs.Shards.{ShardName}
 use Rattle.device_shard.proofs.Lists.{drop_here, one}
 use Rattle.stream_workers.specs.declared.worker.Worker.{Worker}
 use Rattle.merge_model.specs.Planned.{PlannedCall}
 use Rattle.stream_workers.specs.Calls.{BegunCall, IsMade, MadeCall, RiseBetween, entries_made, exchange_made, planned_of}
 use Rattle.stream_workers.specs.Held.{GoesOn, HaveGained, HaveGrown, StandsAt, lines_of_thread, list_at}
-use Rattle.stream_workers.specs.Opens.{HasBegun, HasReturned, HasSent, HaveGainedOne}
+use Rattle.stream_workers.specs.Opens.{HasBegun, HasReturned, HasSent}
 use Rattle.stream_workers.specs.Work.{Course, HasDone, HasMadeCalls, IsReady, IsReadyFor}
 use Rattle.stream_workers.proofs.Holding.{goes_same, goes_through, there}
 use Rattle.stream_workers.proofs.Sending.{log_same}

@@ -1,10 +1,10 @@
 -- A call of a stream, as it is planned and as its worker made it. Source: this project.
-use Rattle.std.specs.Prelude.{◌≡◌, ◌==◌, ◌+◌, ◌<◌, ◌≤◌, ⊤, ℕ, Bool, true, false, not, if◌then◌else◌, Option, Some, None, List, [], ◌∷◌, ◌++◌, filter, length, map, reverse, slice_get}
-use Rattle.std.specs.List.{AllByRecursion, flat_map, zip}
+use Rattle.std.specs.Prelude.{◌≡◌, ◌==◌, ◌+◌, ◌<◌, ◌≤◌, ℕ, Bool, true, false, if◌then◌else◌, Some, List, [], ◌∷◌, ◌++◌, filter, length, reverse, slice_get}
+use Rattle.std.specs.List.{flat_map, zip}
 use Rattle.command_tables.specs.Calls.{DriverCallContent, ReplyContent}
 use Rattle.stream_log.specs.declared.line.Line.{Line}
 use Rattle.stream_log.specs.Log.{IsPast, line}
-use Rattle.trace_format.specs.Content.{BeginEvent, TraceEvent, Begin, Return}
+use Rattle.trace_format.specs.Content.{BeginEvent, Begin}
 use Rattle.session_model.specs.Stands.{AreRepliesTo}
 use Rattle.merge_model.specs.Planned.{PlannedCall}
 use Rattle.shard_model.specs.Followed.{next_event}

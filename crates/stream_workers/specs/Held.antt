@@ -1,11 +1,10 @@
 -- What a thread holds at the logs of all plans, while it makes the calls of its stream. Source: this project.
-use Rattle.std.specs.Prelude.{◌≡◌, ◌==◌, ◌+◌, ◌<◌, ◌≤◌, ⊤, ℕ, Bool, if◌then◌else◌, Option, Some, None, List, [], ◌∷◌, ◌++◌, drop, filter, length, map, option_and_then, slice_get}
+use Rattle.std.specs.Prelude.{◌≡◌, ◌==◌, ◌+◌, ◌<◌, ℕ, if◌then◌else◌, Option, Some, List, [], ◌∷◌, ◌++◌, drop, filter, length, option_and_then, slice_get}
 use Rattle.std.specs.List.{AllByRecursion, slice_index_or}
 use Rattle.std.specs.Option.{option_map_or}
 use Rattle.stream_log.specs.declared.line.Line.{Line}
 use Rattle.stream_log.specs.Log.{SeenView, seen_view}
 use Rattle.trace_format.specs.Content.{TraceEvent, Return}
-use Rattle.stream_model.specs.FileParts.{StreamPart}
 use Rattle.stream_model.specs.Plans.{events_planned, turns_of}
 use Rattle.shard_model.specs.Followed.{turns_in}
 use Rattle.device_shard.specs.Shards.{ShardName}

@@ -1,6 +1,5 @@
 -- A call of a worker while it is open: it has begun, its driver has replied where it was sent, and then it returns. Source: this project.
 use Rattle.std.specs.Prelude.{◌≡◌, ◌+◌, ◌-◌, ◌==◌, ◌<◌, ◌≤◌, ℕ, Bool, false, not, if◌then◌else◌, Option, List, [], ◌∷◌, ◌++◌, length, vec_capacity, vec_len}
-use Rattle.std.specs.Option.{option_map_or}
 use Rattle.std.specs.List.{zip}
 use Rattle.stream_log.specs.declared.line.Line.{Line}
 use Rattle.stream_log.specs.Log.{SeenView}

@@ -1,5 +1,5 @@
 -- What a worker begins with, and what it has done. Source: this project.
-use Rattle.std.specs.Prelude.{◌≡◌, ◌+◌, ◌-◌, ◌≤◌, ⊤, ℕ, Bool, not, Option, Some, List, [], ◌∷◌, ◌++◌, length, map, slice_get, vec_capacity, vec_len}
+use Rattle.std.specs.Prelude.{◌≡◌, ◌+◌, ◌-◌, ◌≤◌, ℕ, not, List, [], ◌∷◌, ◌++◌, length, map, slice_get, vec_capacity, vec_len}
 use Rattle.std.specs.List.{AllByRecursion, flat_map}
 use Rattle.std.specs.Option.{option_map_or}
 use Rattle.atomic_table.specs.Seated.{TableId}
@@ -9,7 +9,7 @@ use Rattle.model_driver.specs.declared.driver.DriverCall.{DriverCall}
 use Rattle.model_driver.specs.declared.driver.DriverReply.{DriverReply}
 use Rattle.model_driver.specs.Logs.{Log, logged}
 use Rattle.model_driver.specs.Seats.{FitsIn, SeatRoom, joined_room}
-use Rattle.trace_format.specs.Content.{BeginEvent, TraceEvent}
+use Rattle.trace_format.specs.Content.{BeginEvent}
 use Rattle.stream_model.specs.FileParts.{StreamPart}
 use Rattle.stream_model.specs.Plans.{DevicePlan, events_planned}
 use Rattle.shard_room.specs.Needs.{names_at, names_in}

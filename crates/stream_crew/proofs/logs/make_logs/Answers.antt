@@ -1,6 +1,7 @@
-use Rattle.std.proofs.Common.{◌+◌, map, subst, take}
+use Rattle.std.proofs.Common.{◌+◌, ◌∙◌, map, subst, take}
 use Rattle.std.specs.List.{AllZip}
-use Rattle.std.proofs.lemmas.List.{take_all}
+use Rattle.std.proofs.lemmas.List.{length-map, take_all}
+use Rattle.std.proofs.lemmas.Slice.Zip.{AllZip-long}
 use Rattle.device_shard.specs.Plans.{plan_content}
 use Rattle.device_shard.proofs.Measured.{mapped}
 use Rattle.stream_crew.specs.Crews.{IsNewLog}
@@ -14,7 +15,14 @@ loop-plan-preserved c =
     zip_is (IsNewLog c.args.threads.now) (map plan_content (take i plans)) (map plan_content (take (i + 1) plans)) c.loop-plan.logs.items c.push.new.self.items (plan_content c.plan-item.result) c.in_ok-log.log
     (mapped plan_content plans i c.plan-item.result c.loop-plan-test.true c.plan-item.is) c.in_ok-push.ensures.items c.loop-plan.invariant c.in_ok-log.ensures
 
-pub returns : goal.returns
-returns c = λ names plan own.
+pub returns-clause-count : goal.returns-clause-count
+returns-clause-count c =
+    let plans = c.args.plans.now in
+    let made : AllZip (IsNewLog c.args.threads.now) (map plan_content plans) c.loop-plan.logs.items =
+    subst (λ ps. AllZip (IsNewLog c.args.threads.now) (map plan_content ps) c.loop-plan.logs.items) (take_all c.loop-plan.plan-index plans c.loop-plan-test.false) c.loop-plan.invariant in
+    AllZip-long (IsNewLog c.args.threads.now) (map plan_content plans) c.loop-plan.logs.items made ∙ length-map plan_content plans
+
+pub returns-clause-logs : goal.returns-clause-logs
+returns-clause-logs c = λ names plan own.
     are_logs c.args.threads.now (map plan_content c.args.plans.now) names c.loop-plan.logs.items c.requires.threads plan own
     (subst (λ ps. AllZip (IsNewLog c.args.threads.now) (map plan_content ps) c.loop-plan.logs.items) (take_all c.loop-plan.plan-index c.args.plans.now c.loop-plan-test.false) c.loop-plan.invariant)

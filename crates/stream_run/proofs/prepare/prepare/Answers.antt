@@ -1,4 +1,4 @@
-use Rattle.std.proofs.Common.{◌≡◌, ◌∙◌, ℕ, Global, List, Vec, ap, map, subst, sym, arith}
+use Rattle.std.proofs.Common.{◌≡◌, ◌∙◌, ℕ, Global, List, Vec, ap, length, map, subst, sym}
 use Rattle.stream_log.specs.Clock.{tick_view}
 use Rattle.trace_format.specs.declared.event.Event.{Event}
 use Rattle.stream_model.specs.FileParts.{StreamPart}
@@ -30,8 +30,8 @@ returns c =
       devices = c.in_ok-plans.ensures.devices;
       places = c.in_ok-places.ensures ∙ map_both (λ (s : StreamPart). calls_planned (device_written file) (devices_cut file) s.events) places_of file.streams;
       threads = c.in_ok-threads.ensures ∙ ap (λ (ss : List (ℕ × Vec Event Global)). threads_of (map (stream_part {A = Global}) ss)) c.deref-2.ensures.value;
-      logs = λ names plans logs. c.in_ok-logs.ensures names (plans ∙ ap (λ (ps : List Plan). map plan_content ps) (sym c.deref-3.ensures.value)) logs;
-      count = omega (arith, c.if-len.false, c.len.ensures, c.len-2.ensures, c.in_ok-logs.logs.ok.0, c.in_ok-plans.plans.ok.0);
+      logs = λ names plans logs. c.in_ok-logs.ensures.logs names (plans ∙ ap (λ (ps : List Plan). map plan_content ps) (sym c.deref-3.ensures.value)) logs;
+      count = c.in_ok-logs.ensures.count ∙ ap length c.deref-3.ensures.value;
       tick = c.in_ok-clock.ensures
           ∙ ap (λ (n : ℕ). tick_view c.in_ok-clock.clock n 0) (c.in_ok-steps.ensures ∙ ap (λ (vs : List (Vec ℕ Global)). steps_of (map (λ (v : Vec ℕ Global). v.items) vs)) c.deref-5.ensures.value);
     }

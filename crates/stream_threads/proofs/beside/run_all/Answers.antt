@@ -1,4 +1,4 @@
-use Rattle.std.proofs.Common.{rules, List, map, sym, subst}
+use Rattle.std.proofs.Common.{rules, map, sym, subst}
 use Rattle.std.specs.List.{slice_index_or}
 use Rattle.device_shard.specs.Plans.{plan_content}
 use Rattle.stream_workers.specs.declared.worker.Worker.{Worker}

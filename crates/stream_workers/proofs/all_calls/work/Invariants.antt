@@ -1,4 +1,4 @@
-use Rattle.std.proofs.Common.{ℕ, ◌-◌, List, length, map}
+use Rattle.std.proofs.Common.{◌-◌, List, length, map}
 use Rattle.device_shard.specs.Plans.{plan_content}
 use Rattle.merge_model.specs.Planned.{PlannedCall}
 use Rattle.stream_workers.specs.Work.{IsReadyFor, course}

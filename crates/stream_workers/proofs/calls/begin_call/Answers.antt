@@ -1,9 +1,8 @@
-use Rattle.std.proofs.Common.{◌≡◌, ◌+◌, ◌-◌, ◌<◌, ℕ, Some, None, List, [], ◌∷◌, ◌++◌, get_or, set, length, map, is_some, refl, sym, ◌∙◌, ap, subst, arith}
+use Rattle.std.proofs.Common.{◌≡◌, ◌+◌, ◌-◌, Some, None, List, [], ◌∷◌, ◌++◌, set, length, map, is_some, refl, sym, ◌∙◌, ap, subst, arith}
 use Rattle.std.specs.Prelude.{slice_get}
-use Rattle.std.specs.Option.{option_map}
 use Rattle.std.proofs.lemmas.List.{set-set}
 use Rattle.stream_log.specs.Clock.{tick_view}
-use Rattle.stream_log.specs.Log.{SeenView, seen_view}
+use Rattle.stream_log.specs.Log.{SeenView}
 use Rattle.trace_format.specs.Content.{TraceEvent, Begin, content}
 use Rattle.model_driver.specs.Driver.{call_shown}
 use Rattle.dispatch_chain.specs.Seats.{kinds_of}

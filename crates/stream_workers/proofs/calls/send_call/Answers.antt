@@ -1,7 +1,6 @@
-use Rattle.std.proofs.Common.{◌≡◌, ◌≤◌, false, not, refl, sym, ◌∙◌, subst, length, arith}
-use Rattle.std.specs.Prelude.{vec_capacity}
+use Rattle.std.proofs.Common.{false, not, sym, ◌∙◌, arith}
 use Rattle.model_driver.specs.Driver.{call_shown}
-use Rattle.model_driver.specs.Seats.{joined_room, room_for}
+use Rattle.model_driver.specs.Seats.{room_for}
 use Rattle.stream_workers.specs.Work.{needs_of_begin, needs_of_calls}
 use Rattle.stream_workers.proofs.Sending.{due_few, first_fits, fits_through, goes_on, is_not_sent, is_sent, needs_few, stops_at}
 use Rattle.stream_workers.proofs.calls.send_call.Goals as goal
