@@ -8,7 +8,7 @@ ghost use Rattle.replay_tool.specs.Output.{end_status};
 ghost use Rattle.replay_tool.specs.Said.{Said};
 ghost use Rattle.replay_tool.specs.Statuses.{line_of, status_of, words_line, words_status};
 
-use crate::say::{say, say_fault, say_limit};
+use crate::saying::{say, say_fault, say_limit};
 use program_words::WordsError;
 use replay_base::Sink;
 use replay_core::{ReplayError, Session, Status, Tally};

@@ -1,7 +1,7 @@
 use Rattle.std.proofs.Common.{◌≡◌, ◌∙◌, ap, ◌++◌, List, ℕ}
 use Rattle.std.specs.Prelude.{codes, decimal}
 use Rattle.replay_base.specs.Bytes.{grown}
-use Rattle.replay_tool.proofs.say.put_number.Goals as goal
+use Rattle.replay_tool.proofs.saying.put_number.Goals as goal
 
 pub returns-clause-all : goal.returns-clause-all
 returns-clause-all g c =

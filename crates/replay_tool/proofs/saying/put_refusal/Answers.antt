@@ -2,7 +2,7 @@ use Rattle.std.proofs.Common.{◌++◌, inl, inr}
 use Rattle.std.specs.Prelude.{codes}
 use Rattle.replay_tool.specs.Said.{number_text, kind_text}
 use Rattle.replay_tool.proofs.SaidLemmas.{said_cut, said_behind}
-use Rattle.replay_tool.proofs.say.put_refusal.Goals as goal
+use Rattle.replay_tool.proofs.saying.put_refusal.Goals as goal
 
 pub returns-in_err-put_number : goal.returns-in_err-put_number
 returns-in_err-put_number g c =
