@@ -1,4 +1,4 @@
-// What is said on the error sink, whose failure changes nothing else.
+// What is said on the error sink, whose failure changes nothing else, and texts that are written one behind another.
 ghost use Rattle.std.specs.Prelude.{◌≡◌, ◌++◌, OnOk, OnErr};
 ghost use Rattle.replay_base.specs.Bytes.{grown, GrownByFront};
 ghost use Rattle.replay_base.specs.Changes.{Change, changed};
@@ -16,15 +16,15 @@ pub fn say<L: Sink>(errs: &mut L, line: &[u8])
     let _ = put_all(errs, line);
 }
 
-// One text behind another.
+/// One text behind another. After `Failed` the sink took a front of them.
 #[tactic(auto, using(crate::proofs::SaidLemmas::all_of_both, crate::proofs::SaidLemmas::front_more, crate::proofs::SaidLemmas::front_behind))]
-fn put_two<L: Sink>(errs: &mut L, first: &[u8], second: &[u8]) -> Result<(), Failed>
-    ensures all { OnOk result (L.held errs.new ≡ grown (L.held errs.old) (first.now ++ second.now)) }
-    ensures front { OnErr result (GrownByFront (L.held errs.old) (L.held errs.new) (first.now ++ second.now)) }
-    ensures cause { HasCause (L.faults errs.old) (L.faults errs.new) result }
+pub fn put_two<L: Sink>(sink: &mut L, first: &[u8], second: &[u8]) -> Result<(), Failed>
+    ensures all { OnOk result (L.held sink.new ≡ grown (L.held sink.old) (first.now ++ second.now)) }
+    ensures front { OnErr result (GrownByFront (L.held sink.old) (L.held sink.new) (first.now ++ second.now)) }
+    ensures cause { HasCause (L.faults sink.old) (L.faults sink.new) result }
 {
-    put_all(errs, first)?;
-    put_all(errs, second)?;
+    put_all(sink, first)?;
+    put_all(sink, second)?;
     Ok(())
 }
 
