@@ -20,7 +20,7 @@ returns-clause-count c =
     let plans = c.args.plans.now in
     let made : AllZip (IsNewLog c.args.threads.now) (map plan_content plans) c.loop-plan.logs.items =
     subst (λ ps. AllZip (IsNewLog c.args.threads.now) (map plan_content ps) c.loop-plan.logs.items) (take_all c.loop-plan.plan-index plans c.loop-plan-test.false) c.loop-plan.invariant in
-    AllZip-long (IsNewLog c.args.threads.now) (map plan_content plans) c.loop-plan.logs.items made ∙ length-map plan_content plans
+    AllZip-long (IsNewLog c.args.threads.now) (map plan_content plans) c.loop-plan.logs.items made ∙ length-map plans plan_content
 
 pub returns-clause-logs : goal.returns-clause-logs
 returns-clause-logs c = λ names plan own.

@@ -1,0 +1,4 @@
+mod Ending
+mod Events
+mod Stopping
+mod Within
