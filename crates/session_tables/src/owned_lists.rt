@@ -16,7 +16,7 @@ use std::alloc::{AllocError, Global};
 const SHORTEST: usize = 8;
 
 /// So many places of owners are gone through, where lists are made anew, for each node that was added since.
-const PLACES_A_NODE: usize = 16;
+const PLACES_A_NODE: usize = 8;
 
 // A link, one more than a place, has 32 bits.
 const MOST: usize = 4294967295;
@@ -31,7 +31,7 @@ pub struct OwnedNode {
 
 /// What was born below each owner, at any depth: for each owner one more than the place of its latest node. What has ended since stays
 /// listed until the nodes are full and have no room: then the lists are made anew from what lives, and are full again at twice as many,
-/// or once a sixteenth as many nodes were added as there are places of owners. So they take memory by what lived at one time and by how
+/// or once an eighth as many nodes were added as there are places of owners. So they take memory by what lived at one time and by how
 /// many owners there ever were, and each node and each place is looked at a few times at most.
 #[derive(Drop)]
 pub struct OwnedLists {
