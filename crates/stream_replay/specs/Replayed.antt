@@ -1,7 +1,9 @@
 -- What the replay of a stream file comes to. Files and merges stand oldest first, the events and replies of traces newest first. Source: this project.
-use Rattle.std.specs.Prelude.{◌≡◌, ⊤, ℕ, Option, Some, None, List, [], ◌∷◌, ◌++◌, reverse}
-use Rattle.std.specs.List.{AllByRecursion}
+use Rattle.std.specs.Prelude.{◌≡◌, ⊤, ℕ, Bool, Option, Some, None, List, [], ◌∷◌, ◌++◌, map, reverse, slice_get}
+use Rattle.std.specs.List.{AllByRecursion, slice_index_or}
+use Rattle.std.specs.Global.{Vec}
 use Rattle.command_tables.specs.Calls.{DriverCallContent, ReplyContent}
+use Rattle.trace_format.specs.declared.event.Name.{Name}
 use Rattle.trace_format.specs.Content.{TraceEvent}
 use Rattle.trace_format.specs.Grammar.{IsEvent}
 use Rattle.model_driver.specs.Logs.{Log}
@@ -11,10 +13,16 @@ use Rattle.replay_model.specs.Setup.{Setup}
 use Rattle.replay_model.specs.Text.{lines}
 use Rattle.chain_session.specs.declared.kept.Kept.{Kept}
 use Rattle.chain_session.specs.Standing.{StandsFor}
+use Rattle.stream_log.specs.declared.entry.Entry.{Entry}
+use Rattle.stream_log.specs.declared.line.Line.{Line}
 use Rattle.stream_model.specs.FileLines.{FileLine}
 use Rattle.stream_model.specs.FileParts.{AreInOrder, FileParts, StreamPart, parts}
 use Rattle.stream_model.specs.Order.{events, refusal_at_end}
-use Rattle.merge_model.specs.Merges.{IsMerge, merged_events}
+use Rattle.stream_model.specs.Plans.{device_written, events_along, plan_cut}
+use Rattle.merge_model.specs.Merges.{IsMerge, events_on, merged_events}
+use Rattle.log_merge.specs.Numbered.{closed_lines}
+use Rattle.stream_plans.specs.Cuts.{devices_cut}
+use Rattle.stream_run.specs.Gathering.{IsGathered}
 use Rattle.seat_facts.specs.Told.{told_by_thread}
 
 -- a whole file, of which no line is refused
@@ -68,3 +76,12 @@ pub record HasReplayed {S : Type 0} (log : S → Log) (s : Setup) (file : FilePa
   pub are : seats ≡ first ∷ others
   pub ends : TellsEnds s file merge replies (log first)
   pub streams : TellStreams log s file merge replies file.streams others
+
+-- These are the closed logs of the devices that streams name. The merge has all their entries in one order, and what it has of a device is what its log says.
+pub record AreLogsBehind (file : FileParts) (merge : List TraceEvent) (logs : List (Name × Vec Entry)) : Type 0 where
+  pub devices : map (λ x. x.0) logs ≡ devices_cut file
+  pub marks : List (List Bool)
+  pub answers : List ReplyContent
+  pub gathered : IsGathered file.streams marks (map closed_lines logs) merge answers
+  pub each : (number : ℕ) (device : Name) → slice_get (devices_cut file) number ≡ Some device
+      → events_on (device_written file) device (reverse merge) ≡ events_along (plan_cut file device).streams (reverse (map (λ (e : Line). e.thread) (slice_index_or (map closed_lines logs) number [])))

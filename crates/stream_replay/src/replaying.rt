@@ -7,7 +7,7 @@ ghost use Rattle.replay_model.specs.Stop.{exceeds_layers};
 ghost use Rattle.chain_build.specs.Setup.{setup_content};
 ghost use Rattle.report_text.specs.Setups.{trace_setup};
 ghost use Rattle.threaded_replay.specs.Files.{file_parts};
-ghost use Rattle.stream_replay.specs.Replayed.{HasReplayed, IsWholeFile};
+ghost use Rattle.stream_replay.specs.Replayed.{AreLogsBehind, HasReplayed, IsWholeFile};
 
 use crate::following::follow;
 use crate::laws::sections_follow_each_other;
@@ -22,20 +22,22 @@ use seat_facts::seats_are_told_what_the_trace_says;
 use std::alloc::{AllocError, Global};
 use std::sync::Wait;
 use std::thread::Threads;
+use stream_log::Entry;
 use stream_run::run_streams;
 use stream_workers::Gate;
 use threaded_replay::StreamFile;
-use trace_format::Event;
+use trace_format::{Event, Name};
 
 /// A stream file that was replayed: what its threads did in one order, and the lines of setup, this and teardown, without notes and end line. The
 /// session stands for all these events. The first seat made the driver calls of setup and teardown, and each further one those of its
-/// stream, in the file's order.
+/// stream, in the file's order. Each device that a stream names stands with its closed log, in the order in which the streams first name them.
 #[derive(Drop)]
 pub struct Replayed<S: Drop> {
     pub merge: Vec<Event>,
     pub lines: Vec<u8>,
     pub session: Session,
     pub seats: Vec<S>,
+    pub logs: Vec<(Name, Vec<Entry>)>,
 }
 
 // The seats with this one before them.
@@ -67,7 +69,8 @@ pub fn replay_streams<H: Threads + Wait + Sync, D: SharedDriver, G: Gate>(
     requires few { length (setup_content setup.now).drivers.list < 2 ^ 32 }
     requires first { list_any (exceeds_layers (trace_setup (setup_content setup.now))) (file_parts file.now).setup ≡ false }
     requires last { list_any (exceeds_layers (trace_setup (setup_content setup.now))) (file_parts file.now).teardown ≡ false }
-    ensures { IfOk result (λ r. HasReplayed D.log (trace_setup (setup_content setup.now)) (file_parts file.now) (map content r.merge.items) r.lines.items (option_map (λ x. x.value.kept) r.session.started) r.seats.items) }
+    ensures replayed { IfOk result (λ r. HasReplayed D.log (trace_setup (setup_content setup.now)) (file_parts file.now) (map content r.merge.items) r.lines.items (option_map (λ x. x.value.kept) r.session.started) r.seats.items) }
+    ensures logs { IfOk result (λ r. AreLogsBehind (file_parts file.now) (map content r.merge.items) r.logs.items) }
 {
     sections_follow_each_other();
     seats_are_told_what_the_trace_says();
@@ -109,5 +112,6 @@ pub fn replay_streams<H: Threads + Wait + Sync, D: SharedDriver, G: Gate>(
         lines,
         session,
         seats: all,
+        logs: merged.logs,
     })
 }

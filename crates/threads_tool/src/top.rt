@@ -91,6 +91,7 @@ fn show<H: Threads + Wait + Sync, K: Sink, D: SharedDriver, G: Gate>(
         lines,
         session,
         seats,
+        logs: _,
     } = replay_streams(rt, alloc, file, setup, kit, policy, driver, gate)?;
     match print(alloc, file, &merge, lines, setup, &session, out) {
         Ok(()) => Ok((session, seats)),

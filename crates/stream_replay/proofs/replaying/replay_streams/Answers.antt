@@ -10,6 +10,7 @@ use Rattle.report_text.specs.Setups.{trace_setup}
 use Rattle.chain_session.proofs.Guarded.{gives_guarded}
 use Rattle.threaded_replay.specs.Files.{file_parts}
 use Rattle.log_merge.specs.Numbered.{closed_lines}
+use Rattle.stream_run.specs.Running.{marks_of}
 use Rattle.event_replay.specs.Through.{CanGoOn, GoesThrough, Passage}
 use Rattle.event_replay.proofs.Starting.{can_start, went_through}
 use Rattle.stream_replay.specs.Playing.{Follows}
@@ -81,8 +82,8 @@ replay_section-requires-2-clause-can g c κs within =
     subst (λ (es : List TraceEvent). CanGoOn s k1 es) (sym (ap (map content) c.deref-4.ensures.value))
     (can_teardown s file merge whole few k1 _ (merge_stands s file merge whole few k0 k1 went.replies replies c.replay_section.new.lines.items c.follow.new.lines.items went.stands follows))
 
-pub returns : goal.returns
-returns g c =
+pub returns-clause-replayed : goal.returns-clause-replayed
+returns-clause-replayed g c =
     let file = file_parts c.args.file.now in
     let s = trace_setup (setup_content c.args.setup.now) in
     let log = g.D.SharedDriver.log in
@@ -110,3 +111,9 @@ returns g c =
     let streams = tell_streams log s file merge r file.streams ran.made c.in_ok-seats.seats.items c.in_ok-merged.told.items c.in_ok-seats.ensures.fresh ran.told same in
     subst (λ seats. HasReplayed log s file merge c.replay_section-2.new.lines.items k2 seats) (sym c.in_ok-all.ensures)
     (has_replayed s file merge whole few log k0 k1 k2 p0 p2 replies c.follow.new.lines.items went follows ended c.in_ok-after.after c.in_ok-merged.told.items ran.merge c.in_ok-unused.ensures.log refl refl c.new-lines.ensures.items refl streams)
+
+-- what the logs say
+pub returns-clause-logs : goal.returns-clause-logs
+returns-clause-logs g c =
+    let ran = c.in_ok-merged.ensures in
+    record { devices = ran.devices; marks = marks_of ran.made; answers = map reply_shown c.in_ok-merged.merged.replies.items; gathered = ran.gathered; each = ran.each }

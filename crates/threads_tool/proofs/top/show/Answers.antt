@@ -24,7 +24,7 @@ print-requires-clause-merge g c =
     let file = file_parts c.args.file.now in
     let merge = map content c.in_ok-merge.field-0.merge.items in
     subst (λ (es : List Event). AllByRecursion IsEvent (map content es)) (sym c.deref.ensures.value)
-    (c.the_events_of_a_whole_file_are_of_the_grammar.ensures.merge file merge c.requires.whole c.in_ok-merge.ensures.merged)
+    (c.the_events_of_a_whole_file_are_of_the_grammar.ensures.merge file merge c.requires.whole c.in_ok-merge.ensures.replayed.merged)
 
 pub print-requires-clause-teardown : goal.print-requires-clause-teardown
 print-requires-clause-teardown g c = c.the_events_of_a_whole_file_are_of_the_grammar.ensures.teardown (file_parts c.args.file.now) c.requires.whole
@@ -36,6 +36,6 @@ returns-clause-cut g c =
     let sink : Change = changed (g.K.Sink.held c.args.out.now) (g.K.Sink.held c.print.new.out) (g.K.Sink.faults c.args.out.now) (g.K.Sink.faults c.print.new.out) in
     let r = c.in_ok-merge.field-0 in
     let kept = option_map (λ x. x.value.kept) r.session.started in
-    let replayed : HasReplayed g.D.SharedDriver.log s file (map content r.merge.items) r.lines.items kept r.seats.items = c.in_ok-merge.ensures in
+    let replayed : HasReplayed g.D.SharedDriver.log s file (map content r.merge.items) r.lines.items kept r.seats.items = c.in_ok-merge.ensures.replayed in
     not_shown g.D.SharedDriver.log s file (map content r.merge.items) r.lines.items kept r.seats.items replayed sink c.in-Err.stop
     (subst (λ (es : List Event). Writes (printed s (merged_events file (map content es))) sink (Err c.in-Err.stop)) c.deref.ensures.value c.in-Err.ensures.writes)
