@@ -1,6 +1,6 @@
 // That the workers of a file run beside each other, on one device and on two: no clause says so. Whoever waits for another here gives up after
 // some time, so that each test ends.
-use crate::fixtures::{Machine, replayed};
+use crate::fixtures::{Machine, comes, replayed};
 use command_tables::{CommandId, NoMemory};
 use model_driver::{DriverCall, DriverReply, Policy, RecordingShared, SharedDriver, SharedModel};
 use std::alloc::Global;
@@ -9,27 +9,11 @@ use std::test::Fail;
 use stream_workers::{Gate, NoGate};
 use trace_format::Event;
 
-const MOST_TURNS: u64 = 100_000_000;
-
 // Two who wait for each other.
 #[derive(Drop)]
 struct Meeting {
     come: AtomicU64,
     gave_up: AtomicU64,
-}
-
-fn has_come(come: &AtomicU64) -> bool {
-    come.load(Ordering::SeqCst) >= 2
-}
-
-// Whether the other comes in time.
-fn other_comes(come: &AtomicU64) -> bool {
-    for _ in 0..MOST_TURNS {
-        if has_come(come) {
-            return true;
-        }
-    }
-    false
 }
 
 impl Meeting {
@@ -42,7 +26,7 @@ impl Meeting {
 
     fn meet(&self) {
         self.come.fetch_add(1, Ordering::SeqCst);
-        if !other_comes(&self.come) {
+        if !comes(&self.come, 2) {
             self.gave_up.fetch_add(1, Ordering::SeqCst);
         }
     }

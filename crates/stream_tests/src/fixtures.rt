@@ -12,6 +12,7 @@ use model_driver::{Policy, SharedDriver};
 use replay_base::{MemTree, PlainSource};
 use std::alloc::Global;
 use std::sync::Wait;
+use std::sync::atomic::{AtomicU64, Ordering};
 use std::test::Fail;
 use std::thread::Threads;
 use stream_replay::{Replayed, a_file_that_was_read_is_whole, is_within, replay_streams};
@@ -19,6 +20,8 @@ use stream_workers::Gate;
 use thread_layer::UseState;
 use threaded_replay::StreamFile;
 use unique_layer::UniqueState;
+
+const MOST_TURNS: u64 = 100_000_000;
 
 const DRIVER: &str =
     r#"{"file_format_version":"1.0.1","ICD":{"library_path":"libvulkan_a.so","api_version":"1.3.275"}}"#;
@@ -94,6 +97,20 @@ fn setup_of(alloc: Global, of: Machine) -> Result<Setup, Fail>
         Ok(setup) => Ok(setup),
         Err(_) => Err("no setup".into()),
     }
+}
+
+fn has_come(count: &AtomicU64, most: u64) -> bool {
+    count.load(Ordering::SeqCst) >= most
+}
+
+/// Whether a count comes to so many in time.
+pub(crate) fn comes(count: &AtomicU64, most: u64) -> bool {
+    for _ in 0..MOST_TURNS {
+        if has_come(count, most) {
+            return true;
+        }
+    }
+    false
 }
 
 /// The stream file of a text.

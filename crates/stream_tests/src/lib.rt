@@ -7,6 +7,8 @@ mod beside_tests;
 #[cfg(test)]
 mod fixtures;
 #[cfg(test)]
+mod log_tests;
+#[cfg(test)]
 mod order_tests;
 #[cfg(test)]
 mod replay_tests;

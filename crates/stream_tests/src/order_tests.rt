@@ -1,6 +1,6 @@
 // The steps of two threads on one device, in each order of their four events. A driver and a gate make the order: each thread first makes a call on a
 // device of its own, whose driver keeps it until its turn has come. Whoever waits gives up after some time, so that each test ends.
-use crate::fixtures::{Machine, replayed};
+use crate::fixtures::{Machine, comes, replayed};
 use command_tables::{CommandId, NoMemory};
 use model_driver::{DriverCall, DriverReply, Policy, RecordingShared, SharedDriver, SharedModel};
 use std::alloc::{AllocError, Global};
@@ -11,8 +11,6 @@ use std::test::Fail;
 use std::thread::Threads;
 use stream_workers::Gate;
 use trace_format::Event;
-
-const MOST_TURNS: u64 = 100_000_000;
 
 // The plan of the device that both threads use: the streams name the first thread's own device before it.
 const SHARED_PLACE: usize = 1;
@@ -49,20 +47,6 @@ fn step_behind(call: &DriverCall) -> Option<Step> {
     }
 }
 
-fn has_come(turn: &AtomicU64, place: u64) -> bool {
-    turn.load(Ordering::SeqCst) >= place
-}
-
-// Whether so many steps were made in time.
-fn turn_comes(turn: &AtomicU64, place: u64) -> bool {
-    for _ in 0..MOST_TURNS {
-        if has_come(turn, place) {
-            return true;
-        }
-    }
-    false
-}
-
 // How many steps come before this one.
 fn place_of(order: &[Step; 4], step: Step) -> u64 {
     match order.iter().position(|other| *other == step) {
@@ -73,7 +57,7 @@ fn place_of(order: &[Step; 4], step: Step) -> u64 {
 
 impl<D> Conductor<D> {
     fn await_turn(&self, step: Step) {
-        if !turn_comes(&self.turn, place_of(&self.order, step)) {
+        if !comes(&self.turn, place_of(&self.order, step)) {
             self.gave_up.fetch_add(1, Ordering::SeqCst);
         }
     }

@@ -89,6 +89,7 @@ fn a_file_without_events(rt: HostRuntime) -> Result<(), Fail> {
     assert_eq!(rt; made.merge.len(), 0);
     assert_eq!(rt; made.lines.len(), 0);
     assert_eq!(rt; made.seats.len(), 1);
+    assert_eq!(rt; made.logs.len(), 0);
     Ok(())
 }
 
