@@ -34,18 +34,19 @@ use Rattle.session_model.specs.Session.{SessionKept}
 use Rattle.session_model.specs.Living.{ArePast}
 use Rattle.session_model.specs.Beginning.{begun_kept, calls_told, drivers_kept, findings_kept, loader_kept, walk_kept}
 use Rattle.session_model.specs.Stands.{AreRepliesTo}
+use Rattle.session_parts.specs.declared.parts.SessionParts.{SessionParts}
+use Rattle.session_parts.specs.Judging.{Passes, found_at}
+use Rattle.session_parts.specs.Names.{NamesKept}
+use Rattle.session_parts.specs.Opening.{opened_first}
+use Rattle.session_parts.proofs.Ended.{past_sent}
 use Rattle.chain_session.specs.declared.call.OpenCall.{OpenCall}
 use Rattle.chain_session.specs.declared.kept.Kept.{Kept}
 use Rattle.chain_session.specs.Beginning.{Begins}
-use Rattle.chain_session.specs.declared.parts.SessionParts.{SessionParts}
-use Rattle.chain_session.specs.Judging.{IsJudged, Passes, found_at}
+use Rattle.chain_session.specs.Judging.{IsJudged}
 use Rattle.chain_session.specs.Keeping.{KeepsBegun}
-use Rattle.chain_session.specs.Names.{NamesKept}
 use Rattle.chain_session.specs.Opened.{opened_of, sent_of}
-use Rattle.chain_session.specs.Opening.{opened_first}
 use Rattle.chain_session.specs.Sending.{IsSentTo, calls_due, drivers_due}
 use Rattle.chain_session.specs.Shown.{AreHeldAs, IsHeldAs, Shows, kinds_chained, refusal_at}
-use Rattle.chain_session.proofs.Ended.{past_sent}
 
 -- ---- the values that a begin reads
 

@@ -20,15 +20,16 @@ use Rattle.lifetime_layer.specs.Reports.{reports_of}
 use Rattle.dispatch_chain.specs.Seats.{kinds_of}
 use Rattle.session_model.specs.Session.{SessionKept}
 use Rattle.session_model.specs.Beginning.{calls_told}
+use Rattle.session_parts.specs.declared.parts.SessionParts.{SessionParts}
+use Rattle.session_parts.specs.Judging.{Passes}
+use Rattle.session_parts.specs.Opening.{opened_first}
 use Rattle.chain_session.specs.declared.call.OpenCall.{OpenCall}
 use Rattle.chain_session.specs.declared.creation.Creation.{Creation}
 use Rattle.chain_session.specs.declared.kept.Kept.{Kept}
 use Rattle.chain_session.specs.Beginning.{BeginsAs, CutShort, Tells}
 use Rattle.chain_session.specs.Creation.{IsCreated, IsStart}
-use Rattle.chain_session.specs.declared.parts.SessionParts.{SessionParts}
-use Rattle.chain_session.specs.Judging.{IsJudged, Passes}
+use Rattle.chain_session.specs.Judging.{IsJudged}
 use Rattle.chain_session.specs.Opened.{opened_of}
-use Rattle.chain_session.specs.Opening.{opened_first}
 use Rattle.chain_session.specs.Sending.{IsSentTo, calls_due}
 use Rattle.chain_session.specs.Shown.{Shows, kinds_chained, refusal_at}
 use Rattle.chain_session.specs.Telling.{FrontAsked}

@@ -12,11 +12,12 @@ use Rattle.dispatch_chain.specs.Seats.{kinds_of}
 use Rattle.dispatch_chain.specs.Room.{ChainState}
 use Rattle.session_tables.specs.Lined.{AreAdded}
 use Rattle.session_tables.specs.Shown.{args_shown}
+use Rattle.session_parts.specs.declared.parts.SessionParts.{SessionParts}
+use Rattle.session_parts.specs.Names.{NameTableState, NamesKept}
+use Rattle.session_parts.specs.Leaving.{chain_at}
 use Rattle.chain_session.specs.declared.call.OpenCall.{OpenCall}
-use Rattle.chain_session.specs.declared.parts.SessionParts.{SessionParts}
-use Rattle.chain_session.specs.Names.{NameTableState, NamesKept}
 use Rattle.chain_session.specs.Opened.{opened_of}
-use Rattle.chain_session.specs.Raising.{ComesBack, chain_at, chain_raised, made_at}
+use Rattle.chain_session.specs.Raising.{ComesBack, chain_raised, made_at}
 
 -- what is born, by what the tables show
 pub made_so : (x : SessionParts) (p : OpenCall) (drivers : ℕ) (births : List Birth) (retrieved : List Retrieval) (born : List Born) → drivers ≡ x.terminator.drivers → births ≡ x.names.kept.births → retrieved ≡ x.names.kept.retrieved

@@ -39,13 +39,14 @@ use Rattle.session_tables.specs.Shown.{args_shown}
 use Rattle.session_model.specs.Session.{SessionKept}
 use Rattle.session_model.specs.Returning.{chain_after_return, given_kept, held_of_thread, kept_after_return, lost_kept, made_kept, sent_of_thread}
 use Rattle.session_model.specs.Steps.{ComeUpApart}
+use Rattle.session_parts.specs.Leaving.{HasNoForms, Returns, chain_at}
 use Rattle.chain_session.specs.declared.call.OpenCall.{OpenCall}
 use Rattle.chain_session.specs.declared.kept.Kept.{Kept}
 use Rattle.chain_session.specs.declared.reporting.Returning.{Returning}
-use Rattle.chain_session.specs.Finishing.{CanFinish, Finishes, HasNoForms, Returned, Returns}
+use Rattle.chain_session.specs.Finishing.{CanFinish, Finishes, Returned}
 use Rattle.chain_session.specs.Opened.{opened_of, sent_of}
 use Rattle.chain_session.specs.Reporting.{IsOf}
-use Rattle.chain_session.specs.Raising.{HasAnswers, MayGoUp, MayRaise, chain_at, chain_raised, chain_sent, forms_due, held_at, left_at, lost_of, states_due}
+use Rattle.chain_session.specs.Raising.{HasAnswers, MayGoUp, MayRaise, chain_raised, chain_sent, forms_due, held_at, left_at, lost_of, states_due}
 use Rattle.chain_session.specs.Shown.{AreHeldAs, IsHeldAs, Shows, kinds_chained, refusal_at}
 
 -- ---- the open call

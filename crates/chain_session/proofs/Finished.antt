@@ -31,8 +31,9 @@ use Rattle.session_model.specs.Stands.{HasCall, ReturnsWell, Stands}
 use Rattle.session_model.proofs.Returned.{opened_is, returns_well}
 use Rattle.session_model.proofs.Steps.{return_steps}
 use Rattle.session_model.proofs.Turns.{returns_busy}
+use Rattle.session_parts.specs.Leaving.{HasNoForms, Returns}
 use Rattle.chain_session.specs.declared.kept.Kept.{Kept}
-use Rattle.chain_session.specs.Finishing.{CanFinish, Finishes, HasNoForms, Returned, Returns}
+use Rattle.chain_session.specs.Finishing.{CanFinish, Finishes, Returned}
 use Rattle.chain_session.specs.Standing.{Advances, CanCome}
 use Rattle.chain_session.proofs.Instances.{no_states, none_in_force}
 

@@ -38,12 +38,11 @@ use Rattle.session_model.proofs.Running.{new_stands}
 use Rattle.session_model.proofs.Returned.{returns_well}
 use Rattle.session_model.proofs.Shapes.{begin_steps}
 use Rattle.session_model.proofs.Turns.{begins_idle}
+use Rattle.session_parts.specs.declared.parts.SessionParts.{SessionParts}
+use Rattle.session_parts.specs.Entering.{AllRecalled, AreRecalled, CanEnter, Entered, Enters, IsLeft, IsRecalled, held_begun}
+use Rattle.session_parts.specs.Leaving.{Returns, CanLeave, Departed, Leaves}
+use Rattle.session_parts.specs.Names.{NamesKept, no_names}
 use Rattle.chain_session.specs.declared.kept.Kept.{Kept}
-use Rattle.chain_session.specs.declared.parts.SessionParts.{SessionParts}
-use Rattle.chain_session.specs.Entering.{AllRecalled, AreRecalled, CanEnter, Entered, Enters, IsLeft, IsRecalled, held_begun}
-use Rattle.chain_session.specs.Finishing.{Returns}
-use Rattle.chain_session.specs.Leaving.{CanLeave, Departed, Leaves}
-use Rattle.chain_session.specs.Names.{NamesKept, no_names}
 use Rattle.chain_session.specs.PartsStanding.{AreLeftOpen, EntersTrace, IsLeftOpen, LeavesTrace, LeftCall, PartsStand, StartsNone, is_left_by}
 use Rattle.chain_session.specs.Splitting.{AreSplit}
 use Rattle.chain_session.specs.Standing.{StandsFor}

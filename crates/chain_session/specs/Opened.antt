@@ -5,7 +5,6 @@ use Rattle.replay_model.specs.Past.{Opened}
 use Rattle.replay_model.specs.Direct.{Sent, answers_to}
 use Rattle.session_tables.specs.Shown.{args_shown}
 use Rattle.chain_session.specs.declared.call.OpenCall.{OpenCall}
-use Rattle.chain_session.specs.declared.returning_call.ReturningCall.{ReturningCall}
 
 -- an open call, as it was judged
 abbrev pub opened_of : OpenCall → Opened
@@ -21,22 +20,6 @@ opened_of c =
       stop = c.stop;
       refused = is_some c.refusal;
       drivers = c.drivers.items;
-    }
-
--- a call that returns, as it was judged
-abbrev pub returning_shown : ReturningCall → Opened
-returning_shown c =
-    record {
-      number = c.number;
-      thread = c.thread;
-      cmd = c.cmd;
-      args = args_shown c.args.now;
-      results = c.results.now;
-      code = c.code;
-      payload = c.payload.now;
-      stop = c.stop;
-      refused = c.refused;
-      drivers = c.drivers.now;
     }
 
 -- with what was answered

@@ -20,12 +20,12 @@ use Rattle.chain_model.specs.Traces.{GivesGuarded}
 use Rattle.dispatch_chain.specs.Holding.{HeldCalls}
 use Rattle.session_model.specs.Session.{SessionKept}
 use Rattle.session_model.specs.Stands.{AreRepliesTo, Stands}
+use Rattle.session_parts.specs.declared.parts.SessionParts.{SessionParts}
+use Rattle.session_parts.specs.Entering.{CanEnter, Enters}
+use Rattle.session_parts.specs.Leaving.{CanLeave, IsOpen, Leaves}
+use Rattle.session_parts.specs.Names.{no_names}
+use Rattle.session_parts.specs.Parts.{PartsShow}
 use Rattle.chain_session.specs.declared.kept.Kept.{Kept}
-use Rattle.chain_session.specs.declared.parts.SessionParts.{SessionParts}
-use Rattle.chain_session.specs.Entering.{CanEnter, Enters}
-use Rattle.chain_session.specs.Leaving.{CanLeave, IsOpen, Leaves}
-use Rattle.chain_session.specs.Names.{no_names}
-use Rattle.chain_session.specs.Parts.{PartsShow}
 use Rattle.chain_session.specs.Splitting.{AreSplit}
 use Rattle.chain_session.specs.Standing.{StandsFor}
 

@@ -12,19 +12,19 @@ use Rattle.layer_model.specs.Ids.{IssuedAll}
 use Rattle.layer_model.specs.Routes.{routes_then}
 use Rattle.layer_model.specs.Terminator.{terminator_leave}
 use Rattle.layer_model.specs.Walks.{PartState, is_guarded}
-use Rattle.chain_model.specs.Handed.{Handed}
 use Rattle.chain_model.specs.Simulated.{ChainKept, Held, after_reply, after_skipped, base_of, born_flags, fresh_of}
 use Rattle.chain_model.specs.Traces.{starts_chain}
 use Rattle.terminator.specs.Calls.{TerminatorState, drivers_for}
-use Rattle.dispatch_chain.specs.Holding.{HeldCalls, IsHeldOf}
+use Rattle.dispatch_chain.specs.Holding.{IsHeldOf}
 use Rattle.dispatch_chain.specs.Seats.{kinds_of}
 use Rattle.session_model.specs.Steps.{ComeUpApart}
 use Rattle.object_model.specs.History.{births_given, born_in}
 use Rattle.replay_model.specs.Births.{made_by}
 use Rattle.session_tables.specs.Lined.{AreAdded}
 use Rattle.session_tables.specs.Shown.{args_shown}
+use Rattle.session_parts.specs.declared.parts.SessionParts.{SessionParts}
+use Rattle.session_parts.specs.Leaving.{chain_at}
 use Rattle.chain_session.specs.declared.call.OpenCall.{OpenCall}
-use Rattle.chain_session.specs.declared.parts.SessionParts.{SessionParts}
 use Rattle.chain_session.specs.Opened.{opened_of, sent_of}
 use Rattle.chain_session.specs.Shown.{kinds_chained}
 
@@ -47,10 +47,6 @@ abbrev pub routes_at : TerminatorState → OpenCall → List ℕ → List Routed
 routes_at t c results = routes_then t.routes c.cmd c.drivers.items (type_made (row_of c.cmd).effect) results
 
 -- ---- what is kept of the chain
-
--- what is kept of the chain beside its open calls
-abbrev pub chain_at : List PartState → TerminatorState → List Handed → ChainKept
-chain_at states t handed = record { states = states; terminator = t.ids; routes = t.routes; handed = handed; held = [] }
 
 -- an open call as the model of the chain holds it, with these forms
 abbrev pub held_at : OpenCall → List CallContent → Held
@@ -82,14 +78,7 @@ pub record HasAnswers (t : TerminatorState) (c : OpenCall) : Type 0 where
   pub drivers : drivers_for t (call_content c.bottom) ≡ c.drivers.items
   pub replies : length c.drivers.items ≤ length c.replies.items
 
--- results may come up through all parts: the call came to each of them, and they are new once to each checking part
-pub record MayRise (thread : ℕ) (states : List PartState) (held : HeldCalls) (results : List ℕ) : Type 0 where
-  pub forms : List CallContent
-  pub holds : IsHeldOf held (kinds_of states) forms
-  pub whole : length forms ≡ length states
-  pub apart : ComeUpApart thread states forms results
-
--- those of a call that was sent may, through the parts in force then
+-- the results of a call that was sent may come up, through the parts in force then
 pub record MayGoUp (states : List PartState) (t : TerminatorState) (c : OpenCall) (forms : List CallContent) (made : List Born) : Type 0 where
   pub guarded : is_guarded (states_due states c) ≡ true
   pub idle : starts_chain (opened_of c) ≡ true → states ≡ []

@@ -15,10 +15,10 @@ use Rattle.dispatch_chain.specs.Holding.{IsHeldOf}
 use Rattle.dispatch_chain.specs.Rows.{kinds_placed}
 use Rattle.dispatch_chain.specs.Seats.{kinds_of}
 use Rattle.session_model.specs.Session.{SessionKept}
+use Rattle.session_parts.specs.Parts.{PartsShow}
 use Rattle.chain_session.specs.declared.call.OpenCall.{OpenCall}
 use Rattle.chain_session.specs.declared.kept.Kept.{Kept}
 use Rattle.chain_session.specs.Opened.{opened_of, sent_of}
-use Rattle.chain_session.specs.Parts.{PartsShow}
 
 -- ---- an open call
 

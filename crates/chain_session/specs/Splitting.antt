@@ -3,19 +3,12 @@ use Rattle.std.specs.Prelude.{◌≡◌, Option, Some, None, List, []}
 use Rattle.object_model.specs.declared.PartKind.{PartKind}
 use Rattle.layer_model.specs.Ids.{no_ids}
 use Rattle.dispatch_chain.specs.Seats.{kinds_of}
+use Rattle.session_parts.specs.declared.parts.SessionParts.{SessionParts}
+use Rattle.session_parts.specs.Names.{no_names}
+use Rattle.session_parts.specs.Parts.{KeepAlike}
 use Rattle.chain_session.specs.declared.kept.Kept.{Kept}
-use Rattle.chain_session.specs.declared.parts.SessionParts.{SessionParts}
-use Rattle.chain_session.specs.Names.{no_names}
 
--- two parts of sessions keep the same
-pub record KeepAlike (x y : SessionParts) : Type 0 where
-  pub states : x.states.kept ≡ y.states.kept
-  pub ids : x.terminator.ids ≡ y.terminator.ids
-  pub routes : x.terminator.routes ≡ y.terminator.routes
-  pub drivers : x.terminator.drivers ≡ y.terminator.drivers
-  pub names : x.names.kept ≡ y.names.kept
-
--- they keep nothing, and there is no driver
+-- parts keep nothing, and there is no driver
 pub record KeepNothing (x : SessionParts) : Type 0 where
   pub states : x.states.kept ≡ []
   pub ids : x.terminator.ids ≡ no_ids

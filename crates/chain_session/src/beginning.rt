@@ -16,10 +16,11 @@ ghost use Rattle.dispatch_chain.specs.Seats.{kinds_of};
 ghost use Rattle.chain_session.specs.Beginning.{BeginsAs, CanBegin, CutShort, Tells};
 ghost use Rattle.command_tables.specs.Tests.{same_command};
 ghost use Rattle.command_tables.specs.declared.types.CommandId.TheVariants as CommandId;
+ghost use Rattle.session_parts.specs.Judging.{FitsCall, Passes};
+ghost use Rattle.session_parts.specs.Opening.{begin_content, opened_first};
 ghost use Rattle.chain_session.specs.Creation.{IsFault, IsStart, refusal_in};
-ghost use Rattle.chain_session.specs.Judging.{FitsCall, IsJudged, Passes};
+ghost use Rattle.chain_session.specs.Judging.{IsJudged};
 ghost use Rattle.chain_session.specs.Opened.{opened_of};
-ghost use Rattle.chain_session.specs.Opening.{begin_content, opened_first};
 ghost use Rattle.chain_session.specs.Sending.{calls_due};
 ghost use Rattle.chain_session.specs.Shown.{kinds_chained};
 ghost use Rattle.chain_session.specs.Telling.{FrontAsked};
@@ -30,7 +31,7 @@ use crate::creation::{Creation, create};
 use crate::error::SessionError;
 use crate::judging::judge;
 use crate::kept::Kept;
-use crate::opening::{Beginning, open_call};
+use crate::opening::open_call;
 use crate::reporting::put_reports;
 use crate::room::Room;
 use crate::sending::send;
@@ -39,6 +40,7 @@ use command_tables::{Code, NoMemory};
 use dispatch_chain::DispatchTable;
 use lifetime_layer::Verdict;
 use model_driver::Driver;
+use session_parts::Beginning;
 
 /// The code with which the chain of a call is refused, or the chain that comes in force where the call succeeds.
 #[derive(Drop)]

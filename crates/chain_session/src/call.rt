@@ -1,9 +1,14 @@
 // Open calls.
+ghost use Rattle.std.specs.Prelude.{◌≡◌};
+ghost use Rattle.session_parts.specs.Opened.{returning_shown};
+ghost use Rattle.chain_session.specs.Opened.{opened_of};
+
 use chain_build::Chain;
 use command_tables::{Code, CommandId, LayerCall, NoMemory};
 use dispatch_chain::Held;
 use model_driver::DriverReply;
 use object_model::Argument;
+use session_parts::ReturningCall;
 use std::alloc::Global;
 use trace_format::Name;
 
@@ -50,5 +55,23 @@ impl OpenCall {
             bottom,
             chain: None,
         })
+    }
+}
+
+/// An open call as it returns.
+pub(crate) fn returning(call: &OpenCall) -> ReturningCall<'_>
+    ensures { returning_shown result ≡ opened_of call.now }
+{
+    ReturningCall {
+        number: call.number,
+        thread: call.thread,
+        cmd: call.cmd,
+        args: &call.args,
+        results: &call.results,
+        code: call.code,
+        payload: &call.payload,
+        stop: call.stop,
+        refused: call.refusal.is_some(),
+        drivers: &call.drivers,
     }
 }

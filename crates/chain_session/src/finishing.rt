@@ -16,17 +16,15 @@ ghost use Rattle.chain_session.specs.Opened.{opened_of};
 ghost use Rattle.chain_session.specs.Raising.{ComesBack, MayRaise, made_at};
 ghost use Rattle.chain_session.specs.Shown.{refusal_at};
 
-use crate::call::OpenCall;
+use crate::call::{OpenCall, returning};
 use crate::kept::Kept;
-use crate::parts::SessionParts;
 use crate::raising::raise;
 use crate::reporting::{Returning, put_return};
-use crate::results::put_made;
-use crate::returning_call::returning;
 use crate::room::Room;
 use crate::sending::is_skipped;
 use command_tables::NoMemory;
 use dispatch_chain::DispatchTable;
+use session_parts::{SessionParts, put_made};
 
 // What the line of a call's return is made of.
 fn line_of(call: &OpenCall, drivers: u32) -> Returning

@@ -3,7 +3,7 @@ ghost use Rattle.std.specs.Prelude.{◌≡◌, ◌+◌, ◌<◌, ◌^◌, length
 ghost use Rattle.session_tables.specs.Births.{AreApart};
 
 use crate::open_calls::OpenCalls;
-use crate::parts::SessionParts;
+use session_parts::SessionParts;
 use session_tables::ObjectTable;
 
 /// What is kept of the events so far: how many calls there were, how many of them were skipped, and how many reports; what the parts of the

@@ -3,32 +3,21 @@
 //! Leaves to others how events are read and in which order they may come, and where the lines go.
 #![tactic(auto)]
 
-mod bearing;
 mod beginning;
 mod call;
 mod counting;
 mod creation;
 mod error;
 mod finishing;
-mod forms;
-mod handed;
 mod judging;
-mod keeping;
 mod kept;
-mod leaving;
-mod name_table;
 mod names;
 mod no_chain;
 mod open_calls;
 mod opening;
-mod parts;
 mod raising;
-mod recalling;
 mod reporting;
-mod results;
-mod returning_call;
 mod room;
-mod scratch;
 mod sending;
 mod session;
 mod standing;
@@ -37,7 +26,5 @@ mod starting;
 mod telling;
 
 pub use error::SessionError;
-pub use name_table::NameTable;
-pub use parts::SessionParts;
 pub use session::Session;
 pub use standing::parts_follow_a_trace;

@@ -1,28 +1,17 @@
 // A call is opened.
 ghost use Rattle.std.specs.Prelude.{◌≡◌, [], IfOk, OnOk};
 ghost use Rattle.std.specs.Box.{box_value};
+ghost use Rattle.session_parts.specs.Opening.{begin_content, opened_first};
 ghost use Rattle.chain_session.specs.Opened.{opened_of};
-ghost use Rattle.chain_session.specs.Opening.{begin_content, opened_first};
 
 use crate::call::OpenCall;
 use crate::names::put_arguments;
 use crate::room::{Room, Spares};
 use chain_build::Chain;
-use command_tables::{Code, CommandId, NoMemory};
+use command_tables::{Code, NoMemory};
 use object_model::Argument;
+use session_parts::Beginning;
 use session_tables::NamedTable;
-use trace_format::{Name, TraceArg};
-
-/// What a begin event says.
-#[derive(Clone, Copy)]
-pub(crate) struct Beginning<'a> {
-    pub(crate) thread: u32,
-    pub(crate) cmd: CommandId,
-    pub(crate) args: &'a [TraceArg],
-    pub(crate) results: &'a [Name],
-    pub(crate) code: Option<Code>,
-    pub(crate) payload: &'a [u8],
-}
 
 // Puts the call of a begin, before it is judged, in place of the one that stood there.
 fn put_opened(

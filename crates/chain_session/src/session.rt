@@ -9,22 +9,21 @@ ghost use Rattle.report_text.specs.Setups.{trace_setup};
 ghost use Rattle.dispatch_chain.specs.Seats.{kinds_of};
 ghost use Rattle.replay_model.specs.Stop.{exceeds_layers};
 ghost use Rattle.session_model.specs.Session.{nothing_kept};
+ghost use Rattle.session_parts.specs.Opening.{begin_content};
 ghost use Rattle.chain_session.specs.Creation.{IsFault};
-ghost use Rattle.chain_session.specs.Opening.{begin_content};
 ghost use Rattle.chain_session.specs.Shown.{Shows};
 ghost use Rattle.chain_session.specs.Splitting.{AreSplit, kinds_in_force};
 ghost use Rattle.chain_session.specs.Standing.{Advances, BeginsCall, CanCome, CanReturn, Counts, CutAt, CutBefore, Holds, IsFaultAt, ReturnsAs, calls_before};
 
 use crate::error::SessionError;
 use crate::no_chain::NoChain;
-use crate::opening::Beginning;
-use crate::parts::SessionParts;
 use crate::started::Started;
 use chain_build::Setup;
 use command_tables::NoMemory;
 use dispatch_chain::{DispatchTable, Kit};
 use model_driver::Driver;
 use report_text::Tally;
+use session_parts::{Beginning, SessionParts};
 use std::alloc::Global;
 use trace_format::Event;
 

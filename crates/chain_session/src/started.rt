@@ -10,9 +10,9 @@ ghost use Rattle.session_model.specs.Session.{nothing_kept};
 ghost use Rattle.chain_session.specs.Beginning.{BeginsAs, CanBegin, CutShort};
 ghost use Rattle.trace_format.specs.Content.{Begin};
 ghost use Rattle.replay_model.specs.Stop.{exceeds_layers};
+ghost use Rattle.session_parts.specs.Opening.{begin_content};
 ghost use Rattle.chain_session.specs.Creation.{IsFault};
 ghost use Rattle.chain_session.specs.Finishing.{CanFinish, Finishes};
-ghost use Rattle.chain_session.specs.Opening.{begin_content};
 ghost use Rattle.chain_session.specs.Shown.{Shows};
 
 use crate::beginning::begin_call;
@@ -21,13 +21,12 @@ use crate::finishing::finish_call;
 use crate::kept::Kept;
 use crate::no_chain::no_parts;
 use crate::open_calls::OpenCalls;
-use crate::opening::Beginning;
-use crate::parts::SessionParts;
 use crate::room::Room;
 use chain_build::Setup;
 use command_tables::NoMemory;
 use dispatch_chain::{DispatchTable, Kit};
 use model_driver::Driver;
+use session_parts::{Beginning, SessionParts};
 use std::alloc::Global;
 
 /// What is kept, and the stored rows of the chain in force, which may have no parts.

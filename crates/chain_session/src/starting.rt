@@ -11,12 +11,11 @@ ghost use Rattle.chain_session.specs.Opened.{opened_of};
 ghost use Rattle.chain_session.specs.Shown.{kinds_chained};
 
 use crate::call::OpenCall;
-use crate::forms::{Passed, put_call};
-use crate::handed::HandedTable;
 use crate::room::Room;
 use chain_build::Chain;
 use command_tables::{CommandId, LayerCall, NoMemory};
 use dispatch_chain::{DispatchTable, Held, LayerStates, walk_enter};
+use session_parts::{HandedTable, Passed, put_call};
 
 /// Whether a chain comes in force at the return of a call, where that wasn't skipped.
 #[tactic(auto, unfolding(command_tables::specs::Tests::same_command))]

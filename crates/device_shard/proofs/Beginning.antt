@@ -26,8 +26,8 @@ use Rattle.replay_model.specs.Past.{Opened, is_skipped}
 use Rattle.session_model.specs.Beginning.{begun_kept}
 use Rattle.stream_model.specs.FileParts.{StreamPart}
 use Rattle.stream_model.specs.Order.{is_on_no_device}
-use Rattle.chain_session.specs.declared.parts.SessionParts.{SessionParts}
-use Rattle.chain_session.specs.Entering.{CanEnter, Enters}
+use Rattle.session_parts.specs.declared.parts.SessionParts.{SessionParts}
+use Rattle.session_parts.specs.Entering.{CanEnter, Enters}
 use Rattle.shard_model.specs.Followed.{Follows, IsNextStep, begins_in, next_event}
 use Rattle.shard_model.specs.Replays.{IsOnInstance, IsReplay, NoneOf, OpenStep, Tells, is_step_of, open_step, told_by}
 use Rattle.shard_room.specs.Needs.{IsWithin, IsWithinAt, names_at, names_in}

@@ -16,10 +16,10 @@ use Rattle.dispatch_chain.specs.Seats.{kinds_of}
 use Rattle.session_model.specs.Stands.{AreRepliesTo}
 use Rattle.session_tables.specs.Lined.{owners_made}
 use Rattle.stream_model.specs.FileParts.{StreamPart}
-use Rattle.chain_session.specs.declared.parts.SessionParts.{SessionParts}
-use Rattle.chain_session.specs.Entering.{CanEnter, Enters}
-use Rattle.chain_session.specs.Leaving.{CanLeave, Leaves, opened_again}
-use Rattle.chain_session.specs.Room.{HasRoomToEnter, HasRoomToLeave, LosesNoRoom, TakesResultsWith}
+use Rattle.session_parts.specs.declared.parts.SessionParts.{SessionParts}
+use Rattle.session_parts.specs.Entering.{CanEnter, Enters}
+use Rattle.session_parts.specs.Leaving.{CanLeave, Leaves, opened_again}
+use Rattle.session_parts.specs.Room.{HasRoomToEnter, HasRoomToLeave, LosesNoRoom, TakesResultsWith}
 use Rattle.shard_model.specs.Followed.{Follows, begins_in, events_of, next_event}
 use Rattle.shard_model.specs.Replies.{handles_of}
 use Rattle.shard_model.specs.Replays.{AreOfThreads, IsOnInstance, IsReplay, NoneOf, OpenStep, Start, StartStands, Tells, is_step_of, open_step, told_by, without_step}

@@ -14,7 +14,7 @@ use Rattle.trace_format.specs.declared.event.Event.{Event}
 use Rattle.trace_format.specs.declared.event.Name.{Name}
 use Rattle.trace_format.specs.declared.event.TraceArg.{TraceArg}
 use Rattle.stream_model.specs.FileParts.{StreamPart}
-use Rattle.chain_session.specs.Scratch.{AreWithin}
+use Rattle.session_parts.specs.Scratch.{AreWithin}
 use Rattle.walk_bounds.specs.Bounds.{implied_most, weigh}
 use Rattle.shard_room.specs.Needs.{IsWithin, IsWithinAt, Needs, names_at, names_in}
 use Rattle.device_shard.specs.Making.{results_planned}

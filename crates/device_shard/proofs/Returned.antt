@@ -16,8 +16,8 @@ use Rattle.session_model.specs.Stands.{AreRepliesTo}
 use Rattle.session_tables.specs.Lined.{owners_made}
 use Rattle.terminator.specs.Calls.{drivers_for}
 use Rattle.stream_model.specs.FileParts.{StreamPart}
-use Rattle.chain_session.specs.declared.parts.SessionParts.{SessionParts}
-use Rattle.chain_session.specs.Leaving.{CanLeave, Leaves, opened_again}
+use Rattle.session_parts.specs.declared.parts.SessionParts.{SessionParts}
+use Rattle.session_parts.specs.Leaving.{CanLeave, Leaves, opened_again}
 use Rattle.shard_model.specs.Followed.{Follows, IsNextStep, begins_in, next_event}
 use Rattle.shard_model.specs.Replies.{handles_of}
 use Rattle.shard_model.specs.Replays.{IsOnInstance, IsReplay, Tells, without_step}

@@ -19,9 +19,10 @@ use Rattle.dispatch_chain.specs.Rows.{entries_from, entries_of}
 use Rattle.dispatch_chain.specs.Seats.{kinds_of}
 use Rattle.dispatch_chain.specs.declared.entry.Entry.{Entry}
 use Rattle.stream_model.specs.FileParts.{StreamPart}
+use Rattle.session_parts.specs.declared.parts.SessionParts.{SessionParts}
+use Rattle.session_parts.specs.Parts.{KeepAlike}
 use Rattle.chain_session.specs.declared.kept.Kept.{Kept}
-use Rattle.chain_session.specs.declared.parts.SessionParts.{SessionParts}
-use Rattle.chain_session.specs.Splitting.{AreSplit, KeepAlike, kinds_in_force}
+use Rattle.chain_session.specs.Splitting.{AreSplit, kinds_in_force}
 use Rattle.walk_bounds.specs.Bounds.{AllHaveUses, AllLight, HaveBorn}
 use Rattle.shard_room.specs.Needs.{Needs}
 use Rattle.shard_room.specs.Room.{HasCallRoom, HasPlanRoom}

@@ -24,7 +24,7 @@ use Rattle.chain_model.specs.Handed.{handle_in}
 use Rattle.chain_model.specs.Simulated.{base_of, held_of, walk_of}
 use Rattle.session_model.specs.Beginning.{loader_kept}
 use Rattle.session_model.specs.Session.{SessionKept}
-use Rattle.chain_session.specs.Entering.{held_begun}
+use Rattle.session_parts.specs.Entering.{held_begun}
 use Rattle.shard_start.specs.Starting.{IsPassedOn}
 use Rattle.device_shard.specs.Steps.{IsToldOf}
 

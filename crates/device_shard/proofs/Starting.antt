@@ -9,9 +9,10 @@ use Rattle.stream_log.specs.declared.line.Line.{Line}
 use Rattle.dispatch_chain.specs.Seats.{kinds_of}
 use Rattle.stream_model.specs.FileParts.{StreamPart}
 use Rattle.stream_model.specs.Plans.{turns_of}
+use Rattle.session_parts.specs.declared.parts.SessionParts.{SessionParts}
+use Rattle.session_parts.specs.Parts.{KeepAlike}
 use Rattle.chain_session.specs.declared.kept.Kept.{Kept}
-use Rattle.chain_session.specs.declared.parts.SessionParts.{SessionParts}
-use Rattle.chain_session.specs.Splitting.{AreSplit, KeepAlike}
+use Rattle.chain_session.specs.Splitting.{AreSplit}
 use Rattle.chain_session.specs.Standing.{Counts}
 use Rattle.shard_model.specs.Followed.{Follows, begins_in, turns_in}
 use Rattle.shard_model.specs.Replays.{IsReplay, Start}

@@ -16,9 +16,9 @@ use Rattle.trace_format.specs.Content.{BeginEvent, TraceEvent, Begin, Return}
 use Rattle.stream_model.specs.FileParts.{StreamPart}
 use Rattle.stream_model.specs.Order.{event_thread}
 use Rattle.stream_model.specs.Plans.{DevicePlan}
-use Rattle.chain_session.specs.declared.parts.SessionParts.{SessionParts}
-use Rattle.chain_session.specs.Entering.{CanEnterAt, EntersAt}
-use Rattle.chain_session.specs.Room.{HasRoomToEnterAt, LosesNoRoom}
+use Rattle.session_parts.specs.declared.parts.SessionParts.{SessionParts}
+use Rattle.session_parts.specs.Entering.{CanEnterAt, EntersAt}
+use Rattle.session_parts.specs.Room.{HasRoomToEnterAt, LosesNoRoom}
 use Rattle.shard_model.specs.Followed.{next_event}
 use Rattle.shard_model.specs.Replays.{Tells, told_by}
 use Rattle.device_shard.specs.declared.lane.Lane.{Lane}

@@ -9,7 +9,7 @@ use Rattle.replay_model.specs.Setup.{Setup}
 use Rattle.chain_model.specs.Gaps.{IsGapped}
 use Rattle.stream_model.specs.FileParts.{StreamPart}
 use Rattle.stream_model.specs.Plans.{with_event}
-use Rattle.chain_session.specs.declared.parts.SessionParts.{SessionParts}
+use Rattle.session_parts.specs.declared.parts.SessionParts.{SessionParts}
 use Rattle.shard_model.specs.Followed.{Follows, IsNextStep, events_of, next_event}
 use Rattle.shard_model.specs.Replies.{AreReplies, RepliesAt}
 use Rattle.shard_model.specs.Replays.{IsReplay, OpenStep, Start, Tells}

@@ -6,8 +6,8 @@ use Rattle.trace_format.specs.Content.{TraceEvent}
 use Rattle.lifetime_layer.specs.declared.verdict.Verdict.{Verdict}
 use Rattle.terminator.specs.Calls.{drivers_for}
 use Rattle.dispatch_chain.specs.Holding.{HeldCalls}
-use Rattle.chain_session.specs.declared.parts.SessionParts.{SessionParts}
-use Rattle.chain_session.specs.Entering.{EntersAt}
+use Rattle.session_parts.specs.declared.parts.SessionParts.{SessionParts}
+use Rattle.session_parts.specs.Entering.{EntersAt}
 
 -- a begin that has entered and isn't skipped goes to one driver, and what that is told fits in a body
 abbrev pub EntersOne : SessionParts → ℕ → TraceEvent → LayerCall → Type 0

@@ -8,10 +8,10 @@ use Rattle.replay_model.specs.Setup.{Setup}
 use Rattle.session_model.specs.Session.{SessionKept}
 use Rattle.stream_model.specs.FileParts.{StreamPart}
 use Rattle.dispatch_chain.specs.Room.{AllCanOpen, AllHaveBirths}
+use Rattle.session_parts.specs.declared.parts.SessionParts.{SessionParts}
+use Rattle.session_parts.specs.Names.{CanKeep}
+use Rattle.session_parts.specs.Scratch.{HoldsCalls}
 use Rattle.chain_session.specs.declared.kept.Kept.{Kept}
-use Rattle.chain_session.specs.declared.parts.SessionParts.{SessionParts}
-use Rattle.chain_session.specs.Names.{CanKeep}
-use Rattle.chain_session.specs.Scratch.{HoldsCalls}
 use Rattle.chain_session.specs.Splitting.{AreSplit}
 use Rattle.chain_session.specs.Standing.{ShowsOnce}
 use Rattle.walk_bounds.specs.Bounds.{AllLight, HaveBorn}

@@ -10,7 +10,7 @@ use Rattle.stream_log.specs.Log.{OwnerView, last_time}
 use Rattle.trace_format.specs.Content.{BeginEvent, TraceEvent, Begin, Return}
 use Rattle.stream_model.specs.FileParts.{StreamPart}
 use Rattle.stream_model.specs.Plans.{DevicePlan, turns_of}
-use Rattle.chain_session.specs.declared.parts.SessionParts.{SessionParts}
+use Rattle.session_parts.specs.declared.parts.SessionParts.{SessionParts}
 use Rattle.shard_model.specs.Followed.{Follows, begins_in, next_event, turns_in}
 use Rattle.shard_model.specs.Replays.{AreOfThreads, IsReplay, NoneOf, OpenStep, Start, Tells, is_step_of}
 use Rattle.shard_room.specs.Needs.{IsWithinAt, Needs}

@@ -7,10 +7,10 @@ use Rattle.stream_log.specs.declared.line.Line.{Line}
 use Rattle.stream_log.specs.Log.{OwnerView, appended, given, line, taken}
 use Rattle.trace_format.specs.Content.{BeginEvent, TraceEvent, Begin}
 use Rattle.stream_model.specs.FileParts.{StreamPart}
-use Rattle.chain_session.specs.declared.parts.SessionParts.{SessionParts}
-use Rattle.chain_session.specs.Entering.{CanEnter, Enters}
-use Rattle.chain_session.specs.Leaving.{CanLeave, Leaves}
-use Rattle.chain_session.specs.Room.{HasRoomToEnter, HasRoomToLeave, LosesNoRoom, TakesResultsWith}
+use Rattle.session_parts.specs.declared.parts.SessionParts.{SessionParts}
+use Rattle.session_parts.specs.Entering.{CanEnter, Enters}
+use Rattle.session_parts.specs.Leaving.{CanLeave, Leaves}
+use Rattle.session_parts.specs.Room.{HasRoomToEnter, HasRoomToLeave, LosesNoRoom, TakesResultsWith}
 use Rattle.shard_model.specs.Followed.{next_event}
 use Rattle.device_shard.specs.declared.lane.Lane.{Lane}
 use Rattle.device_shard.specs.Lanes.{EntersOne, replies_read}

@@ -6,18 +6,18 @@ ghost use Rattle.trace_format.specs.Content.{content};
 ghost use Rattle.model_driver.specs.Driver.{call_shown, reply_shown};
 ghost use Rattle.terminator.specs.Calls.{KeepsCallRoom};
 ghost use Rattle.dispatch_chain.specs.Seats.{kinds_of};
-ghost use Rattle.chain_session.specs.Entering.{CanEnterAt, EntersAt};
-ghost use Rattle.chain_session.specs.Leaving.{CanLeaveAt, LeavesAt};
-ghost use Rattle.chain_session.specs.Room.{HasRoomToEnterAt, HasRoomToLeaveAt, LosesNoRoom, TakesResultsAt};
+ghost use Rattle.session_parts.specs.Entering.{CanEnterAt, EntersAt};
+ghost use Rattle.session_parts.specs.Leaving.{CanLeaveAt, LeavesAt};
+ghost use Rattle.session_parts.specs.Room.{HasRoomToEnterAt, HasRoomToLeaveAt, LosesNoRoom, TakesResultsAt};
 ghost use Rattle.shard_model.specs.Replays.{told_by};
 ghost use Rattle.device_shard.specs.Lanes.{EntersOne, replies_read};
 ghost use Rattle.device_shard.specs.Steps.{IsDriverOf, told_as};
 ghost use Rattle.device_shard.specs.Turns.{results_read};
 
 use crate::lane::Lane;
-use chain_session::SessionParts;
 use dispatch_chain::DispatchTable;
 use model_driver::{DriverCall, DriverReply};
+use session_parts::SessionParts;
 use std::slice;
 use trace_format::Event;
 

@@ -11,7 +11,7 @@ ghost use Rattle.atomic_table.specs.Seated.{TableId};
 ghost use Rattle.command_tables.specs.Calls.{ReplyContent, call_content};
 ghost use Rattle.stream_log.specs.Log.{SeenView, last_time};
 ghost use Rattle.trace_format.specs.Content.{BeginEvent, Begin, Return};
-ghost use Rattle.chain_session.specs.declared.parts.SessionParts.{SessionParts};
+ghost use Rattle.session_parts.specs.declared.parts.SessionParts.{SessionParts};
 ghost use Rattle.shard_model.specs.Replays.{Tells, told_by};
 ghost use Rattle.device_shard.specs.declared.lane.Lane.{Lane};
 ghost use Rattle.device_shard.specs.Shards.{IsShard, ShardKept, ShardName};

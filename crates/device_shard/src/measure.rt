@@ -4,7 +4,7 @@ ghost use Rattle.std.specs.List.{AllByRecursion, sum_by};
 ghost use Rattle.std.specs.Option.{option_map_or};
 ghost use Rattle.command_tables.specs.Table.{seen_param};
 ghost use Rattle.trace_format.specs.Content.{BeginEvent, arg_content, content};
-ghost use Rattle.chain_session.specs.Scratch.{AreWithin};
+ghost use Rattle.session_parts.specs.Scratch.{AreWithin};
 ghost use Rattle.walk_bounds.specs.Bounds.{implied_most, weigh};
 ghost use Rattle.shard_room.specs.Needs.{IsWithin, IsWithinAt, names_in};
 ghost use Rattle.device_shard.specs.Making.{results_planned};

@@ -2,17 +2,19 @@
 ghost use Rattle.std.specs.Prelude.{◌≡◌, IfOk, OnOk, length, map, vec_capacity};
 ghost use Rattle.std.specs.List.{AllByRecursion};
 ghost use Rattle.std.specs.Option.{option_map};
-ghost use Rattle.chain_session.specs.Splitting.{KeepAlike, kinds_in_force};
+ghost use Rattle.session_parts.specs.Parts.{KeepAlike};
+ghost use Rattle.chain_session.specs.Splitting.{kinds_in_force};
 ghost use Rattle.device_shard.specs.Plans.{stream_planned};
 ghost use Rattle.device_shard.specs.Rooms.{IsIdle, IsReady, IsReserved, IsUnused, needs_of};
 
 use crate::counts::{plus, times};
 use crate::lane::Lane;
 use crate::measure::{Measure, measure_all, results_due};
-use chain_session::{Session, SessionParts};
+use chain_session::Session;
 use command_tables::{CommandId, LayerCall, NoMemory};
 use dispatch_chain::Held;
 use lifetime_layer::Verdict;
+use session_parts::SessionParts;
 use std::alloc::Global;
 use trace_format::Event;
 use walk_bounds::light_parts_are_roomy;

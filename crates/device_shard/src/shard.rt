@@ -1,7 +1,7 @@
 //! The value behind a device's lock.
 use crate::lane::Lane;
 use crate::names::ShardNames;
-use chain_session::SessionParts;
+use session_parts::SessionParts;
 use std::marker::{Model, PhantomData};
 use stream_log::{Owner, Tick};
 

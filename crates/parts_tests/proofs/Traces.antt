@@ -27,11 +27,11 @@ use Rattle.dispatch_chain.specs.Room.{ChainState}
 use Rattle.session_model.specs.Session.{SessionKept, nothing_kept}
 use Rattle.session_model.specs.Stands.{AreRepliesTo}
 use Rattle.session_model.proofs.Running.{new_stands}
+use Rattle.session_parts.specs.declared.parts.SessionParts.{SessionParts}
+use Rattle.session_parts.specs.Entering.{CanEnterAt, Enters, EntersAt, CanEnter}
+use Rattle.session_parts.specs.Names.{NamesKept}
+use Rattle.session_parts.specs.Leaving.{CanLeaveAt, Leaves, LeavesAt}
 use Rattle.chain_session.specs.declared.kept.Kept.{Kept}
-use Rattle.chain_session.specs.declared.parts.SessionParts.{SessionParts}
-use Rattle.chain_session.specs.Entering.{CanEnterAt, Enters, EntersAt, CanEnter}
-use Rattle.chain_session.specs.Names.{NamesKept}
-use Rattle.chain_session.specs.Leaving.{CanLeaveAt, Leaves, LeavesAt}
 use Rattle.chain_session.specs.PartsStanding.{EntersAsTraced, LeavesAsTraced, LeftCall, MayEnterTrace, MayLeaveTrace, PartsStand, SplitStand, is_left_by}
 use Rattle.chain_session.specs.Splitting.{AreSplit}
 use Rattle.chain_session.specs.Standing.{Advances, CanReturn, ReturnsAs, ShowsOnce, calls_before}

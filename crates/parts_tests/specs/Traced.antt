@@ -9,8 +9,8 @@ use Rattle.replay_model.specs.Setup.{Setup}
 use Rattle.lifetime_layer.specs.declared.verdict.Verdict.{Verdict}
 use Rattle.chain_model.specs.Traces.{GivesGuarded, IsTrace}
 use Rattle.dispatch_chain.specs.Holding.{HeldCalls}
+use Rattle.session_parts.specs.declared.parts.SessionParts.{SessionParts}
 use Rattle.chain_session.specs.declared.kept.Kept.{Kept}
-use Rattle.chain_session.specs.declared.parts.SessionParts.{SessionParts}
 use Rattle.chain_session.specs.PartsStanding.{EntersTrace, PartsStand}
 use Rattle.chain_session.specs.Standing.{CanCome, StandsFor, calls_before}
 

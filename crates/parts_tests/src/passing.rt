@@ -14,11 +14,12 @@ ghost use Rattle.parts_tests.specs.Traced.{AreInStep, HasCome, IsOut, PartsInSte
 
 use crate::events::{begin_of, return_of, take_place};
 use chain_build::Setup;
-use chain_session::{Session, SessionParts, parts_follow_a_trace};
+use chain_session::{Session, parts_follow_a_trace};
 use command_tables::LayerCall;
 use dispatch_chain::{DispatchTable, Held, Terminator};
 use lifetime_layer::Verdict;
 use model_driver::{Driver, DriverCall, DriverReply};
+use session_parts::SessionParts;
 use std::alloc::Global;
 use std::test::Fail;
 use trace_format::{Event, TraceState};

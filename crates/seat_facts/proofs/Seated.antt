@@ -13,10 +13,10 @@ use Rattle.trace_format.specs.Grammar.{IsEvent}
 use Rattle.replay_model.specs.Setup.{Setup}
 use Rattle.chain_model.specs.Gaps.{IsGapped}
 use Rattle.chain_model.specs.Traces.{GivesGuarded}
+use Rattle.session_parts.specs.Parts.{KeepAlike}
 use Rattle.chain_session.specs.declared.kept.Kept.{Kept}
 use Rattle.chain_session.specs.PartsStanding.{SplitStand}
 use Rattle.chain_session.specs.Shown.{Shows}
-use Rattle.chain_session.specs.Splitting.{KeepAlike}
 use Rattle.chain_session.specs.Standing.{StandsFor}
 use Rattle.stream_model.specs.FileLines.{FileLine}
 use Rattle.stream_model.specs.FileParts.{AreInOrder, FileParts, StreamPart, parts}

@@ -7,5 +7,6 @@ pub mod Names
 pub mod PlacedLemmas
 pub mod Ends
 pub mod Listing
+pub mod Relisting
 pub mod BirthLemmas
 pub mod RetrievedLemmas

@@ -1,22 +1,18 @@
 -- What is listed at owners, as objects are born and end.
-use Rattle.std.proofs.Common.{◌≡◌, ◌≢◌, ◌<◌, ◌≤◌, ◌+◌, ◌-◌, ◌*◌, ℕ, zero, suc, min, Bool, true, false, not, cond, ◌&&◌, ◌||◌, Option, Some, None, List, [], ◌∷◌, ◌++◌, filter, map, length, take, get_or, set, ◌⊎◌, inl, inr, refl, sym, ◌∙◌, ap, subst, arith, slice_get, unwrap_or, append-nil, append_assoc, length-append}
+use Rattle.std.proofs.Common.{◌≡◌, ◌≢◌, ◌<◌, ◌≤◌, ◌+◌, ◌-◌, ◌*◌, ℕ, zero, suc, min, Bool, true, false, not, cond, ◌&&◌, ◌||◌, Option, Some, None, List, [], ◌∷◌, ◌++◌, filter, map, length, get_or, set, ◌⊎◌, inl, inr, refl, sym, ◌∙◌, ap, subst, arith, slice_get, unwrap_or, append-nil, append_assoc, length-append}
 use Rattle.std.specs.Prelude.{filter_map}
 use Rattle.std.specs.List.{list_any, cons_option}
 use Rattle.std.specs.Option.{option_map, option_map_or}
-use Rattle.std.proofs.Math.Dec.{ltb}
-use Rattle.std.proofs.lemmas.Bool.{ltb-false, ltb-true}
-use Rattle.std.proofs.lemmas.List.{map-append, take_more}
+use Rattle.std.proofs.lemmas.List.{map-append}
 use Rattle.std.proofs.lemmas.List.Elements.{filter-append}
 use Rattle.std.proofs.lemmas.Option.{slice_get-get_or, slice_get_read}
 use Rattle.object_model.specs.declared.Object.{Object}
 use Rattle.object_model.specs.declared.Argument.{Argument}
 use Rattle.object_model.specs.Objects.{same, is_in, object_of}
 use Rattle.object_model.specs.History.{Birth, births_of, born_in, created_in, ends_with, owners_in}
-use Rattle.session_tables.specs.declared.birth_table.BirthEntry.{BirthEntry}
 use Rattle.session_tables.specs.declared.owned_lists.OwnedNode.{OwnedNode}
 use Rattle.session_tables.specs.declared.placed_table.Placed.{Placed}
 use Rattle.session_tables.specs.declared.placed_table.PlacedTable.{PlacedTable}
-use Rattle.session_tables.specs.Births.{birth_of, births_shown, owners_kept}
 use Rattle.session_tables.specs.Lined.{AreAdded, AreLeft, AreLined, IsBornAlike}
 use Rattle.session_tables.specs.Owned.{LeadToNodes, AreListed, GoDown, objects_from, objects_within, head_in}
 use Rattle.session_tables.specs.Placed.{ArePlaced, AreTheirPlaces, entry_of}
@@ -513,26 +509,23 @@ below_more before mid after xs a lined left then =
 pub listed_still : (bs : List Birth) (f g : Object → List Object) → AreListed bs f → ((w o : Object) → is_in (owners_in bs o) w ≡ true → is_in (f w) o ≡ true → is_in (g w) o ≡ true) → AreListed bs g
 listed_still bs f g all stays w o owned = stays w o owned (all w o owned)
 
--- an object that is born is listed at its owners
-pub listed_new : (bs : List Birth) (f g : Object → List Object) (b : Birth) → AreListed bs f → ((w o : Object) → is_in (owners_in bs o) w ≡ true → is_in (f w) o ≡ true → is_in (g w) o ≡ true)
-    → ((w : Object) → is_in b.owners w ≡ true → is_in (g w) b.object ≡ true) → AreListed (bs ++ b ∷ []) g
-listed_new bs f g b all stays own w o owned = go (born_in bs o) refl (ap (λ os. is_in os w) (sym (owners_joined bs (b ∷ []) o)) ∙ owned)
+-- an object that is born is listed at an owner
+pub newly_listed : (bs : List Birth) (g : List Object) (b : Birth) (w : Object) → ((o : Object) → is_in (owners_in bs o) w ≡ true → is_in g o ≡ true) → (is_in b.owners w ≡ true → is_in g b.object ≡ true) → (o : Object)
+    → is_in (owners_in (bs ++ b ∷ []) o) w ≡ true → is_in g o ≡ true
+newly_listed bs g b w all own o owned = go (born_in bs o) refl (ap (λ os. is_in os w) (sym (owners_joined bs (b ∷ []) o)) ∙ owned)
   where
-    go : (t : Bool) → born_in bs o ≡ t → is_in (cond t (owners_in bs o) (owners_in (b ∷ []) o)) w ≡ true → is_in (g w) o ≡ true
-    go true h k = stays w o k (all w o k)
+    go : (t : Bool) → born_in bs o ≡ t → is_in (cond t (owners_in bs o) (owners_in (b ∷ []) o)) w ≡ true → is_in g o ≡ true
+    go true h k = all o k
     go false h k = by (same b.object o) refl k
       where
-        by : (s : Bool) → same b.object o ≡ s → is_in (option_map_or (λ (x : Birth). x.owners) (cond s (Some b) None) []) w ≡ true → is_in (g w) o ≡ true
-        by true e j = ap (is_in (g w)) (sym (same-true b.object o e)) ∙ own w j
+        by : (s : Bool) → same b.object o ≡ s → is_in (option_map_or (λ (x : Birth). x.owners) (cond s (Some b) None) []) w ≡ true → is_in g o ≡ true
+        by true e j = ap (is_in g) (sym (same-true b.object o e)) ∙ own j
         by false e j = cc j
 
--- one birth more of those that are listed again
-pub relisted_more : (births : List (Placed BirthEntry)) (i : ℕ) (p : Placed BirthEntry) (owners : List Object) (f g : Object → List Object) → AreListed (births_shown (take i births)) f → i < length births → p ≡ get_or births i p → owners ≡ owners_kept p.value.owners
-    → ((w o : Object) → is_in (f w) o ≡ true → is_in (g w) o ≡ true) → ((w : Object) → is_in owners w ≡ true → is_in (g w) p.object ≡ true) → AreListed (births_shown (take (i + 1) births)) g
-relisted_more births i p owners f g all less is from stays own =
-    subst (λ (bs : List Birth). AreListed bs g)
-    (sym (ap births_shown (take_more births i p less) ∙ (map-append birth_of (take i births) (get_or births i p ∷ []) ∙ ap (λ (q : Placed BirthEntry). births_shown (take i births) ++ birth_of q ∷ []) (sym is))))
-    (listed_new (births_shown (take i births)) f g (birth_of p) all (λ w o owned there. stays w o there) (λ w owned. own w (ap (λ os. is_in os w) from ∙ owned)))
+-- and so at all its owners
+pub listed_new : (bs : List Birth) (f g : Object → List Object) (b : Birth) → AreListed bs f → ((w o : Object) → is_in (owners_in bs o) w ≡ true → is_in (f w) o ≡ true → is_in (g w) o ≡ true)
+    → ((w : Object) → is_in b.owners w ≡ true → is_in (g w) b.object ≡ true) → AreListed (bs ++ b ∷ []) g
+listed_new bs f g b all stays own w o owned = newly_listed bs (g w) b w (λ x there. stays w x there (all w x there)) (own w) o owned
 
 -- ---- births of one call
 
@@ -735,17 +728,6 @@ left_more_room all left now i before step = omega arith
 
 pub all_listed : (all left i count : ℕ) → i ≤ count → all ≤ left + i → all ≤ left + count
 all_listed all left i count few before = omega arith
-
--- nothing is made anew where there is room
-pub both_steps : (all mid left n : ℕ) → (n ≤ all → mid ≡ all) → mid ≤ left + n → all ≤ left + n
-both_steps all mid left n stays step = go (ltb all n) refl
-  where
-    go : (b : Bool) → ltb all n ≡ b → all ≤ left + n
-    go true less = let few : all < n = ltb-true all n less in omega (arith, few)
-    go false more = let same : mid ≡ all = stays (ltb-false all n more) in omega (arith, same, step)
-
-pub made_room : (all n now : ℕ) → all < n → n ≤ now → all ≤ now
-made_room all n now short there = omega arith
 
 -- ---- room that the births of one call take: so many links for each
 

@@ -1,13 +1,17 @@
 -- How what lives is found when an owner ends. Source: this project.
-use Rattle.std.specs.Prelude.{◌≡◌, ◌≤◌, ◌-◌, ℕ, zero, suc, true, Some, List, [], ◌∷◌, length, min, slice_get, unwrap_or, vec_capacity}
+use Rattle.std.specs.Prelude.{◌≡◌, ◌≤◌, ◌-◌, ℕ, zero, suc, Bool, true, Some, List, [], ◌∷◌, is_some, length, min, slice_get, unwrap_or, vec_capacity}
+use Rattle.std.specs.List.{sum_by}
 use Rattle.std.specs.Option.{option_map_or}
 use Rattle.object_model.specs.declared.Object.{Object}
 use Rattle.object_model.specs.Objects.{is_in}
 use Rattle.object_model.specs.History.{Birth, owners_in}
+use Rattle.session_tables.specs.declared.birth_table.BirthEntry.{BirthEntry}
 use Rattle.session_tables.specs.declared.owned_lists.OwnedLists.{OwnedLists}
 use Rattle.session_tables.specs.declared.owned_lists.OwnedNode.{OwnedNode}
+use Rattle.session_tables.specs.declared.placed_table.Placed.{Placed}
 use Rattle.session_tables.specs.declared.placed_table.PlacedTable.{PlacedTable}
-use Rattle.session_tables.specs.Placed.{ArePlaced, placed_in, table_room}
+use Rattle.session_tables.specs.Births.{owners_kept}
+use Rattle.session_tables.specs.Placed.{ArePlaced, entry_of, placed_in, table_room}
 
 -- the objects of the chain from a link, no more than so many
 abbrev pub objects_within : List OwnedNode → ℕ → ℕ → List Object
@@ -26,6 +30,14 @@ GoDown nodes = (i : ℕ) (n : OwnedNode) → slice_get nodes i ≡ Some n → n.
 -- the link to an owner's latest node, or 0
 abbrev pub head_in : PlacedTable ℕ → Object → ℕ
 head_in heads owner = unwrap_or (placed_in heads owner) 0
+
+-- an owner has an entry, though its list may be empty
+abbrev pub has_head : PlacedTable ℕ → Object → Bool
+has_head heads owner = is_some (entry_of heads.entries.items owner)
+
+-- how many owners these births have, all together
+abbrev pub links_of : List (Placed BirthEntry) → ℕ
+links_of births = sum_by (λ p. length (owners_kept p.value.owners)) births
 
 -- the objects that are listed at an owner: none where it has no list
 abbrev pub listed_in : OwnedLists → Object → List Object

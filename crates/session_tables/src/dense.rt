@@ -27,15 +27,6 @@ pub fn has_place<V: Copy>(rows: &[Vec<V>], row: usize, at: usize) -> bool
     }
 }
 
-/// How many places there are.
-pub fn count_places<V: Copy>(rows: &[Vec<V>]) -> usize {
-    let mut count: usize = 0;
-    for cells in rows {
-        count = count.saturating_add(cells.len());
-    }
-    count
-}
-
 /// Rows of their own with the same values.
 pub fn copy_rows<V: Copy + Drop>(alloc: Global, rows: &[Vec<V>]) -> Result<Vec<Vec<V>>, AllocError>
     ensures { IfOk result (λ copies. (empty : V) (r n : ℕ) → cell empty copies.items r n ≡ cell empty rows.now r n) }

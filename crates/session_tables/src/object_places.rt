@@ -6,7 +6,7 @@ ghost use Rattle.object_model.specs.Objects.{same};
 ghost use Rattle.session_tables.specs.Dense.{cell, has_cell};
 ghost use Rattle.session_tables.specs.Filing.{is_filed_for, is_open, is_own, kept, no_place, own_index, places_room};
 
-use crate::dense::{copy_rows, count_places, has_place, overwrite, put_value, value_at};
+use crate::dense::{copy_rows, has_place, overwrite, put_value, value_at};
 use command_tables::ObjectType;
 use object_model::Object;
 use std::alloc::{AllocError, Global};
@@ -120,11 +120,6 @@ impl ObjectPlaces {
             far: Vec::from_slice(self.alloc, &self.far)?,
             alloc: self.alloc,
         })
-    }
-
-    /// How many places the rows have.
-    pub fn extent(&self) -> usize {
-        count_places(&self.rows)
     }
 
     // For how many further objects there is room.

@@ -149,14 +149,13 @@ impl ObjectTable {
         ensures links { self.old.links ≤ self.new.links }
         ensures owners { self.old.owners ≤ self.new.owners }
     {
-        let alloc = *self.owners.allocator();
         let Some(links) = n.checked_mul(3) else {
             return Err(AllocError);
         };
         self.owners.clear();
         self.owners.reserve(3)?;
         self.births.reserve(n)?;
-        reserve_lists(alloc, &mut self.lists, &self.births, links)?;
+        reserve_lists(&mut self.lists, &self.births, links)?;
         Ok(())
     }
 
@@ -287,7 +286,7 @@ impl ObjectTable {
         ensures links { self.old.links ≤ self.new.links + length owners.now }
         ensures owners { self.old.owners ≤ self.new.owners }
     {
-        list_at_each(alloc, &mut self.lists, &self.births, owners, object)?;
+        list_at_each(&mut self.lists, &self.births, owners, object)?;
         self.births.push(alloc, object, created, owners)?;
         Ok(())
     }

@@ -4,7 +4,7 @@ ghost use Rattle.object_model.specs.declared.Object.{Object};
 ghost use Rattle.object_model.specs.Objects.{same, is_in};
 ghost use Rattle.object_model.specs.History.{owners_in};
 ghost use Rattle.session_tables.specs.Births.{births_shown};
-ghost use Rattle.session_tables.specs.Owned.{LeadToNodes, AreListed, head_in, listed_in, lists_room};
+ghost use Rattle.session_tables.specs.Owned.{LeadToNodes, has_head, head_in, links_of, listed_in, lists_room};
 ghost use Rattle.session_tables.specs.Placed.{ArePlaced, table_room};
 
 use crate::birth_table::{BirthEntry, BirthTable};
@@ -14,9 +14,6 @@ use std::alloc::{AllocError, Global};
 
 /// The lists are no shorter than this when they are first made anew.
 const SHORTEST: usize = 8;
-
-/// So many places of owners are gone through, where lists are made anew, for each node that was added since.
-const PLACES_A_NODE: usize = 8;
 
 // A link, one more than a place, has 32 bits.
 const MOST: usize = 4294967295;
@@ -30,9 +27,9 @@ pub struct OwnedNode {
 }
 
 /// What was born below each owner, at any depth: for each owner one more than the place of its latest node. What has ended since stays
-/// listed until the nodes are full and have no room: then the lists are made anew from what lives, and are full again at twice as many,
-/// or once an eighth as many nodes were added as there are places of owners. So they take memory by what lived at one time and by how
-/// many owners there ever were, and each node and each place is looked at a few times at most.
+/// listed until the nodes are full and have no room: then what lives is listed anew in the same memory, and the nodes are full again at
+/// twice as many, and at no fewer than there are births. So nodes take memory by what lived at one time, and each node and each birth is
+/// looked at a few times at most.
 #[derive(Drop)]
 pub struct OwnedLists {
     pub heads: PlacedTable<u32>,
@@ -156,49 +153,107 @@ fn list_at_all(lists: &mut OwnedLists, owners: &[Object], object: Object) -> Res
     Ok(())
 }
 
-// At how many nodes lists that were just made are full: at twice as many, and not before so many were added as pay for going through the
-// places of the owners.
-fn next_full(lists: &OwnedLists) -> usize {
-    let listed = lists.nodes.len().saturating_mul(2).max(SHORTEST);
-    listed.max(lists.heads.extent() / PLACES_A_NODE)
-}
-
-// Lists of these births alone.
-fn relist(alloc: Global, births: &[Placed<BirthEntry>]) -> Result<OwnedLists, AllocError>
-    ensures listed { IfOk result (λ lists. AreListed (births_shown births.now) (listed_in lists)) }
-    ensures chained { IfOk result (λ lists. LeadToNodes lists.heads lists.nodes.items) }
+// No owner has a node. Their entries stay.
+fn unlink(heads: &mut PlacedTable<u32>)
+    requires { ArePlaced heads.old }
+    ensures none { (w : Object) → head_in heads.new w ≡ 0 }
+    ensures heads { (w : Object) → has_head heads.new w ≡ has_head heads.old w }
+    ensures room { table_room heads.old ≤ table_room heads.new }
+    ensures placed { ArePlaced heads.new }
 {
-    let mut lists = OwnedLists::new(alloc);
-    for birth in births {
-        list_at_all(&mut lists, birth.value.owners.as_slice(), birth.object)?;
+    for entry in heads.entries.iter_mut() {
+        entry.value = 0;
     }
-    lists.full = next_full(&lists);
-    Ok(lists)
 }
 
-// Where the nodes are full and have no room for so many more, the lists are made anew from what lives. After an error they are as before.
-fn make_room(
-    alloc: Global,
-    lists: &mut OwnedLists,
-    births: &BirthTable,
-    n: usize,
-) -> Result<(), AllocError>
-    requires { LeadToNodes lists.old.heads lists.old.nodes.items }
-    ensures stays { (w o : Object) → is_in (owners_in births.now.births o) w ≡ true → is_in (listed_in lists.old w) o ≡ true → is_in (listed_in lists.new w) o ≡ true }
-    ensures succeeds { n ≤ lists_room lists.old → IsOk result }
-    ensures room { n ≤ lists_room lists.old → lists_room lists.new ≡ lists_room lists.old }
+// An object is listed at an owner that has an entry, in no memory.
+fn relist_owned(lists: &mut OwnedLists, owner: Object, object: Object)
+    requires chained { LeadToNodes lists.old.heads lists.old.nodes.items }
+    requires place { length lists.old.nodes.items < min (vec_capacity lists.old.nodes) 4294967295 }
+    ensures listed { has_head lists.old.heads owner ≡ true → is_in (listed_in lists.new owner) object ≡ true }
+    ensures stays { (w o : Object) → is_in (listed_in lists.old w) o ≡ true → is_in (listed_in lists.new w) o ≡ true }
+    ensures heads { (w : Object) → has_head lists.new.heads w ≡ has_head lists.old.heads w }
+    ensures few { length lists.new.nodes.items ≤ length lists.old.nodes.items + 1 }
+    ensures capacity { vec_capacity lists.old.nodes ≤ vec_capacity lists.new.nodes }
+    ensures room { table_room lists.old.heads ≤ table_room lists.new.heads }
     ensures chained { LeadToNodes lists.new.heads lists.new.nodes.items }
 {
-    if are_full(lists, n) {
-        *lists = relist(alloc, births.entries())?;
+    if let Some(at) = lists.heads.place_of(owner) {
+        let link = lists.nodes.len() as u32 + 1;
+        let before = lists.heads.entries[at].value;
+        lists.nodes.push(OwnedNode { object, before }).unwrap();
+        lists.heads.entries[at].value = link;
     }
-    Ok(())
 }
 
-/// Makes room for so many further entries, each at another owner. Where the nodes are full and have no room, the lists are made anew before.
-/// After an error they are as before, but for room.
+// An object is listed at those of its owners that have entries, in no memory.
+fn relist_at_all(lists: &mut OwnedLists, owners: &[Object], object: Object)
+    requires chained { LeadToNodes lists.old.heads lists.old.nodes.items }
+    requires places { length lists.old.nodes.items + length owners.now ≤ min (vec_capacity lists.old.nodes) 4294967295 }
+    ensures listed { (w : Object) → has_head lists.old.heads w ≡ true → is_in owners.now w ≡ true → is_in (listed_in lists.new w) object ≡ true }
+    ensures stays { (w o : Object) → is_in (listed_in lists.old w) o ≡ true → is_in (listed_in lists.new w) o ≡ true }
+    ensures heads { (w : Object) → has_head lists.new.heads w ≡ has_head lists.old.heads w }
+    ensures few { length lists.new.nodes.items ≤ length lists.old.nodes.items + length owners.now }
+    ensures capacity { vec_capacity lists.old.nodes ≤ vec_capacity lists.new.nodes }
+    ensures room { table_room lists.old.heads ≤ table_room lists.new.heads }
+    ensures chained { LeadToNodes lists.new.heads lists.new.nodes.items }
+{
+    for owner in owners {
+        relist_owned(lists, *owner, object);
+    }
+}
+
+// Whether these births have no more owners than so many, all together.
+fn have_at_most(births: &[Placed<BirthEntry>], n: usize) -> bool
+    ensures { result ≡ true → links_of births.now ≤ n }
+{
+    let mut left = n;
+    for birth in births {
+        let count = birth.value.owners.as_slice().len();
+        if count > left {
+            return false;
+        }
+        left -= count;
+    }
+    true
+}
+
+// The lists of these births alone, in the memory of those that stand. An owner without an entry has no list, and gets none.
+fn relist(lists: &mut OwnedLists, births: &[Placed<BirthEntry>])
+    requires chained { LeadToNodes lists.old.heads lists.old.nodes.items }
+    requires few { links_of births.now ≤ min (length lists.old.nodes.items) 4294967295 }
+    ensures listed { (w o : Object) → has_head lists.old.heads w ≡ true → is_in (owners_in (births_shown births.now) o) w ≡ true → is_in (listed_in lists.new w) o ≡ true }
+    ensures few { length lists.new.nodes.items ≤ links_of births.now }
+    ensures room { lists_room lists.old ≤ lists_room lists.new }
+    ensures chained { LeadToNodes lists.new.heads lists.new.nodes.items }
+{
+    lists.nodes.clear();
+    unlink(&mut lists.heads);
+    for birth in births {
+        relist_at_all(lists, birth.value.owners.as_slice(), birth.object);
+    }
+    // Births are gone through each time, so as many nodes are to be added before the next.
+    let listed = lists.nodes.len().saturating_mul(2);
+    lists.full = listed.max(births.len()).max(SHORTEST);
+}
+
+// Where the nodes are full and have no room for so many more, only what lives stays listed. Takes no memory.
+fn make_room(lists: &mut OwnedLists, births: &BirthTable, n: usize)
+    requires { LeadToNodes lists.old.heads lists.old.nodes.items }
+    ensures stays { (w o : Object) → is_in (owners_in births.now.births o) w ≡ true → is_in (listed_in lists.old w) o ≡ true → is_in (listed_in lists.new w) o ≡ true }
+    ensures room { lists_room lists.old ≤ lists_room lists.new }
+    ensures chained { LeadToNodes lists.new.heads lists.new.nodes.items }
+{
+    let entries = births.entries();
+    let most = lists.nodes.len().min(MOST);
+    if are_full(lists, n) && have_at_most(entries, most) {
+        relist(lists, entries);
+    }
+}
+
+/// Makes room for so many further entries, each at another owner. Where the nodes are full and have no room, only what lives stays listed,
+/// also after an error. No room is lost.
 pub fn reserve_lists(
-    alloc: Global,
     lists: &mut OwnedLists,
     births: &BirthTable,
     n: usize,
@@ -209,19 +264,12 @@ pub fn reserve_lists(
     ensures room { lists_room lists.old ≤ lists_room lists.new }
     ensures chained { LeadToNodes lists.new.heads lists.new.nodes.items }
 {
-    if are_full(lists, n) {
-        let mut made = relist(alloc, births.entries())?;
-        made.reserve(n)?;
-        *lists = made;
-        Ok(())
-    } else {
-        lists.reserve(n)
-    }
+    make_room(lists, births, n);
+    lists.reserve(n)
 }
 
 /// An object is listed at each of its owners, in no memory where there is room.
 pub fn list_at_each(
-    alloc: Global,
     lists: &mut OwnedLists,
     births: &BirthTable,
     owners: &[Object],
@@ -234,7 +282,6 @@ pub fn list_at_each(
     ensures room { lists_room lists.old ≤ lists_room lists.new + length owners.now }
     ensures chained { LeadToNodes lists.new.heads lists.new.nodes.items }
 {
-    make_room(alloc, lists, births, owners.len())?;
-    list_at_all(lists, owners, object)?;
-    Ok(())
+    make_room(lists, births, owners.len());
+    list_at_all(lists, owners, object)
 }

@@ -62,11 +62,6 @@ impl<V: Drop> PlacedTable<V> {
         }
     }
 
-    /// How many places are gone through where a table of these entries is made anew.
-    pub fn extent(&self) -> usize {
-        self.places.extent()
-    }
-
     /// The place of an object's entry. A place that another entry has taken since is none.
     pub fn place_of(&self, object: Object) -> Option<usize>
         requires { ArePlaced self.now }

@@ -18,7 +18,7 @@ use Rattle.dispatch_chain.specs.Holding.{HeldCalls}
 use Rattle.session_model.specs.Stands.{AreRepliesTo}
 use Rattle.stream_model.specs.FileParts.{StreamPart}
 use Rattle.stream_model.specs.Plans.{with_event}
-use Rattle.chain_session.specs.declared.parts.SessionParts.{SessionParts}
+use Rattle.session_parts.specs.declared.parts.SessionParts.{SessionParts}
 use Rattle.chain_session.specs.PartsStanding.{EntersTrace, LeftCall, PartsStand}
 use Rattle.shard_model.specs.Followed.{events_of, next_event}
 use Rattle.shard_model.specs.Replies.{AreReplies, BeginReplies, RepliesAt, last_replies}

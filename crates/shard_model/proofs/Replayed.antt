@@ -16,12 +16,12 @@ use Rattle.dispatch_chain.specs.Holding.{HeldCalls}
 use Rattle.session_model.specs.Stands.{AreRepliesTo}
 use Rattle.stream_model.specs.FileParts.{StreamPart}
 use Rattle.stream_model.specs.Plans.{with_event}
-use Rattle.chain_session.specs.declared.parts.SessionParts.{SessionParts}
-use Rattle.chain_session.specs.Entering.{CanEnter, Enters}
-use Rattle.chain_session.specs.Leaving.{CanLeave, Leaves}
-use Rattle.chain_session.specs.Names.{NamesKept}
+use Rattle.session_parts.specs.declared.parts.SessionParts.{SessionParts}
+use Rattle.session_parts.specs.Entering.{CanEnter, Enters}
+use Rattle.session_parts.specs.Leaving.{CanLeave, Leaves}
+use Rattle.session_parts.specs.Names.{NamesKept}
+use Rattle.session_parts.specs.Parts.{KeepAlike}
 use Rattle.chain_session.specs.PartsStanding.{EntersAsTraced, EntersTrace, LeavesAsTraced, LeavesTrace, LeftCall, MayEnterTrace, MayLeaveTrace, PartsStand}
-use Rattle.chain_session.specs.Splitting.{KeepAlike}
 use Rattle.shard_model.specs.Followed.{Follows, begins_in, events_of, next_event}
 use Rattle.shard_model.specs.Replies.{AreReplies, handles_of, last_replies}
 use Rattle.shard_model.specs.Replays.{AreOfThreads, IsOnInstance, IsReplay, IsReplayOf, NoneOf, OpenStep, Start, StartStands, Tells, is_step_of, left_of, open_step, told_by, without_step}

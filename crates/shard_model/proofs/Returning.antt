@@ -13,7 +13,7 @@ use Rattle.replay_model.specs.Setup.{Setup}
 use Rattle.session_model.specs.Stands.{AreRepliesTo}
 use Rattle.stream_model.specs.FileParts.{StreamPart}
 use Rattle.stream_model.specs.Plans.{with_event}
-use Rattle.chain_session.specs.declared.parts.SessionParts.{SessionParts}
+use Rattle.session_parts.specs.declared.parts.SessionParts.{SessionParts}
 use Rattle.chain_session.specs.PartsStanding.{LeavesTrace, LeftCall, PartsStand, is_left_by}
 use Rattle.shard_model.specs.Followed.{events_of, next_event}
 use Rattle.shard_model.specs.Replies.{AreReplies, RepliesAt, handles_of, last_replies}

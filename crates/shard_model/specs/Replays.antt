@@ -17,7 +17,7 @@ use Rattle.dispatch_chain.specs.Holding.{HeldCalls}
 use Rattle.lifetime_layer.specs.declared.verdict.Verdict.{Verdict}
 use Rattle.session_model.specs.Stands.{AreRepliesTo}
 use Rattle.stream_model.specs.FileParts.{StreamPart}
-use Rattle.chain_session.specs.declared.parts.SessionParts.{SessionParts}
+use Rattle.session_parts.specs.declared.parts.SessionParts.{SessionParts}
 use Rattle.chain_session.specs.PartsStanding.{LeftCall, PartsStand}
 use Rattle.shard_model.specs.Followed.{events_of}
 use Rattle.shard_model.specs.Replies.{AreReplies, last_replies}

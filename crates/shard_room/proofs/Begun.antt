@@ -21,10 +21,10 @@ use Rattle.dispatch_chain.specs.Seats.{kinds_of}
 use Rattle.session_model.specs.Beginning.{begun_kept, kept_after_begin, loader_kept}
 use Rattle.session_model.specs.Session.{SessionKept}
 use Rattle.session_model.specs.Steps.{NoneOpen}
-use Rattle.chain_session.specs.declared.parts.SessionParts.{SessionParts}
-use Rattle.chain_session.specs.Entering.{CanEnter, Entered, Enters}
-use Rattle.chain_session.specs.Judging.{walk_at}
-use Rattle.chain_session.specs.Room.{HasRoomToComeDown, HasRoomToEnter, LosesNoRoom, form_entering, opened_now}
+use Rattle.session_parts.specs.declared.parts.SessionParts.{SessionParts}
+use Rattle.session_parts.specs.Entering.{CanEnter, Entered, Enters}
+use Rattle.session_parts.specs.Judging.{walk_at}
+use Rattle.session_parts.specs.Room.{HasRoomToComeDown, HasRoomToEnter, LosesNoRoom, form_entering, opened_now}
 use Rattle.walk_bounds.specs.Bounds.{AllHaveUses, AllLight, HaveBorn, failures_most, uses_together}
 use Rattle.shard_room.specs.Needs.{IsWithin, Needs, names_at}
 use Rattle.shard_room.specs.Room.{HasCallRoom, HasPlanRoom, HoldForms, is_among}

@@ -1,7 +1,7 @@
 -- The arguments of a begin fit in lists with room for them, and such lists stay so.
 use Rattle.std.proofs.Common.{◌≡◌, ◌≤◌, ◌<◌, ℕ, zero, suc, Some, List, [], ◌∷◌, length, get_or, slice_get, refl, arith}
 use Rattle.std.proofs.lemmas.Option.{slice_get-get_or}
-use Rattle.chain_session.specs.Scratch.{AreWithin, FitLists, KeepLists, KeepsScratch, ScratchRoom}
+use Rattle.session_parts.specs.Scratch.{AreWithin, FitLists, KeepLists, KeepsScratch, ScratchRoom}
 use Rattle.shard_room.specs.Room.{HasLists}
 
 -- lists no longer than n fit in the first rooms, each of n or more

@@ -6,9 +6,9 @@ use Rattle.lifetime_layer.specs.declared.verdict.Verdict.{Verdict}
 use Rattle.layer_model.specs.Walks.{PartState, Threads, Lifetimes, Unique}
 use Rattle.dispatch_chain.specs.Forms.{FormRoom, KeepsForms}
 use Rattle.dispatch_chain.specs.Holding.{HeldCalls}
-use Rattle.chain_session.specs.declared.parts.SessionParts.{SessionParts}
-use Rattle.chain_session.specs.Names.{CanKeep, NamesRoom, TakesRoom}
-use Rattle.chain_session.specs.Room.{LosesNoRoom}
+use Rattle.session_parts.specs.declared.parts.SessionParts.{SessionParts}
+use Rattle.session_parts.specs.Names.{CanKeep, NamesRoom, TakesRoom}
+use Rattle.session_parts.specs.Room.{LosesNoRoom}
 use Rattle.walk_bounds.specs.Bounds.{HaveBorn}
 use Rattle.shard_room.specs.Needs.{Needs}
 use Rattle.shard_room.specs.Room.{HasCallRoom, HoldForms}

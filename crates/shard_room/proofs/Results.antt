@@ -22,7 +22,7 @@ use Rattle.chain_model.specs.Simulated.{Held, after_reply, after_skipped, born_f
 use Rattle.chain_model.specs.Traces.{held_in_force, in_force, starts_chain}
 use Rattle.session_model.specs.Session.{SessionKept}
 use Rattle.session_model.specs.Returning.{chain_after_return, lost_kept, made_kept}
-use Rattle.chain_session.proofs.Fewer.{made_few}
+use Rattle.session_parts.proofs.Fewer.{made_few}
 
 -- ---- how many come up from the chain's end: one for each flag
 

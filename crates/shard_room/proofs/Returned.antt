@@ -13,10 +13,10 @@ use Rattle.dispatch_chain.specs.Holding.{HeldCalls}
 use Rattle.dispatch_chain.specs.Room.{AllHaveBirths, PartRoom}
 use Rattle.dispatch_chain.specs.Seats.{kinds_of}
 use Rattle.session_tables.specs.Lined.{owners_made}
-use Rattle.chain_session.specs.declared.parts.SessionParts.{SessionParts}
-use Rattle.chain_session.specs.Leaving.{CanLeave, Departed, Leaves, opened_again}
-use Rattle.chain_session.specs.Names.{CanKeep, TakesRoom}
-use Rattle.chain_session.specs.Room.{HasRoomToComeUp, HasRoomToLeave, TakesResults, TakesResultsWith, key_bytes}
+use Rattle.session_parts.specs.declared.parts.SessionParts.{SessionParts}
+use Rattle.session_parts.specs.Leaving.{CanLeave, Departed, Leaves, opened_again}
+use Rattle.session_parts.specs.Names.{CanKeep, TakesRoom}
+use Rattle.session_parts.specs.Room.{HasRoomToComeUp, HasRoomToLeave, TakesResults, TakesResultsWith, key_bytes}
 use Rattle.walk_bounds.specs.Bounds.{AllHaveUses, AllLight, HaveBorn, uses_together}
 use Rattle.shard_room.specs.Needs.{IsWithin, Needs, names_at}
 use Rattle.shard_room.specs.Room.{HasLists, HasPlanRoom, IsBelow}

@@ -22,7 +22,7 @@ use Rattle.layer_model.specs.Reading.{read_call}
 use Rattle.terminator.specs.Room.{bytes_with}
 use Rattle.terminator.specs.Shown.{bytes_of}
 use Rattle.chain_model.specs.Chained.{form_by, handle_by}
-use Rattle.chain_session.specs.Scratch.{AreWithin}
+use Rattle.session_parts.specs.Scratch.{AreWithin}
 use Rattle.walk_bounds.specs.Bounds.{failures_most, implied_most, uses_most, weigh}
 use Rattle.shard_room.specs.Needs.{IsWithin, Needs, names_at, names_in}
 

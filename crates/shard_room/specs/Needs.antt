@@ -3,7 +3,7 @@ use Rattle.std.specs.Prelude.{◌≤◌, ◌+◌, ⊤, ℕ, Option, List, length
 use Rattle.command_tables.specs.Table.{row_of}
 use Rattle.trace_format.specs.Content.{BeginEvent, TraceEvent, Begin, Return}
 use Rattle.trace_format.specs.declared.event.Name.{Name}
-use Rattle.chain_session.specs.Scratch.{AreWithin}
+use Rattle.session_parts.specs.Scratch.{AreWithin}
 use Rattle.walk_bounds.specs.Bounds.{implied_most, weigh}
 
 -- how many arguments a parameter has, how many a call has in all, how many results it has, how many bytes its payload has, and how many uses it has in a part to which

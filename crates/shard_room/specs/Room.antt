@@ -10,9 +10,9 @@ use Rattle.layer_model.specs.Walks.{PartState}
 use Rattle.dispatch_chain.specs.Forms.{FormRoom}
 use Rattle.dispatch_chain.specs.Holding.{HeldCalls}
 use Rattle.dispatch_chain.specs.Room.{AllHaveBirths}
-use Rattle.chain_session.specs.declared.parts.SessionParts.{SessionParts}
-use Rattle.chain_session.specs.Names.{CanKeep}
-use Rattle.chain_session.specs.Scratch.{ScratchRoom}
+use Rattle.session_parts.specs.declared.parts.SessionParts.{SessionParts}
+use Rattle.session_parts.specs.Names.{CanKeep}
+use Rattle.session_parts.specs.Scratch.{ScratchRoom}
 use Rattle.walk_bounds.specs.Bounds.{AllHaveUses, AllLight, HaveBorn, uses_together}
 use Rattle.shard_room.specs.Needs.{Needs}
 

@@ -12,10 +12,10 @@ ghost use Rattle.lifetime_layer.specs.declared.verdict.Verdict.{Verdict};
 ghost use Rattle.dispatch_chain.specs.Holding.{HeldCalls};
 ghost use Rattle.dispatch_chain.specs.Seats.{kinds_of};
 ghost use Rattle.session_tables.specs.Lined.{owners_made};
-ghost use Rattle.chain_session.specs.declared.parts.SessionParts.{SessionParts};
-ghost use Rattle.chain_session.specs.Entering.{CanEnter, Enters};
-ghost use Rattle.chain_session.specs.Leaving.{CanLeave, Leaves, opened_again};
-ghost use Rattle.chain_session.specs.Room.{HasRoomToEnter, HasRoomToLeave, LosesNoRoom, TakesResultsWith};
+ghost use Rattle.session_parts.specs.declared.parts.SessionParts.{SessionParts};
+ghost use Rattle.session_parts.specs.Entering.{CanEnter, Enters};
+ghost use Rattle.session_parts.specs.Leaving.{CanLeave, Leaves, opened_again};
+ghost use Rattle.session_parts.specs.Room.{HasRoomToEnter, HasRoomToLeave, LosesNoRoom, TakesResultsWith};
 ghost use Rattle.shard_room.specs.Needs.{IsWithin, Needs};
 ghost use Rattle.shard_room.specs.Room.{HasCallRoom, HasPlanRoom, IsBelow, is_among};
 

@@ -42,8 +42,8 @@ use Rattle.dispatch_chain.specs.Holding.{HeldCalls}
 use Rattle.terminator.specs.Calls.{drivers_for}
 use Rattle.stream_model.specs.FileParts.{StreamPart}
 use Rattle.stream_model.specs.Order.{is_on_no_device}
-use Rattle.chain_session.specs.declared.parts.SessionParts.{SessionParts}
-use Rattle.chain_session.specs.Entering.{Enters}
+use Rattle.session_parts.specs.declared.parts.SessionParts.{SessionParts}
+use Rattle.session_parts.specs.Entering.{Enters}
 use Rattle.shard_model.specs.Followed.{Follows, begins_in, events_of, next_event}
 use Rattle.shard_model.specs.Replays.{IsOnInstance, IsReplay, IsReplayOf, NoneOf, OpenStep, Start, Tells, told_by}
 use Rattle.shard_start.specs.Starting.{CanStart, IsOnDevice}

@@ -36,8 +36,8 @@ use Rattle.dispatch_chain.specs.Holding.{HeldCalls}
 use Rattle.session_model.specs.Beginning.{begun_kept, loader_kept}
 use Rattle.session_model.specs.Session.{SessionKept}
 use Rattle.stream_model.specs.FileParts.{StreamPart}
-use Rattle.chain_session.specs.declared.parts.SessionParts.{SessionParts}
-use Rattle.chain_session.specs.Entering.{CanEnter, Entered, Enters, held_begun}
+use Rattle.session_parts.specs.declared.parts.SessionParts.{SessionParts}
+use Rattle.session_parts.specs.Entering.{CanEnter, Entered, Enters, held_begun}
 use Rattle.shard_model.specs.Followed.{Follows, begins_in, events_of, next_event}
 use Rattle.shard_model.specs.Replays.{IsOnInstance, IsReplay, NoneOf, OpenStep, Start, StartStands}
 use Rattle.shard_start.specs.Starting.{CanStart, IsOnDevice}

@@ -23,10 +23,10 @@ use Rattle.session_model.specs.Stands.{AreRepliesTo, Stands}
 use Rattle.session_model.specs.Steps.{ReturnSteps}
 use Rattle.session_tables.specs.Lined.{owners_made}
 use Rattle.stream_model.specs.FileParts.{StreamPart}
-use Rattle.chain_session.specs.declared.parts.SessionParts.{SessionParts}
-use Rattle.chain_session.specs.Leaving.{opened_again, recalled}
+use Rattle.session_parts.specs.declared.parts.SessionParts.{SessionParts}
+use Rattle.session_parts.specs.Leaving.{opened_again, recalled}
+use Rattle.session_parts.proofs.Recalled.{marked_all}
 use Rattle.chain_session.specs.PartsStanding.{AreLeftOpen, IsLeftOpen, PartsStand}
-use Rattle.chain_session.proofs.Recalled.{marked_all}
 use Rattle.shard_model.specs.Followed.{Follows, events_of}
 use Rattle.shard_model.specs.Replies.{last_replies}
 use Rattle.shard_model.specs.Replays.{AreOfThreads, IsReplay, IsReplayOf, OpenStep, Start, is_step_of, left_of}

@@ -18,10 +18,10 @@ use Rattle.stream_model.specs.FileLines.{FileLine}
 use Rattle.stream_model.specs.FileParts.{AreInOrder, StreamPart, all_events, parts}
 use Rattle.stream_model.specs.Order.{events, stream_threads}
 use Rattle.stream_model.specs.Plans.{Along, DevicePlan, device_written, events_along, plan_cut, stream_on}
+use Rattle.session_parts.specs.Parts.{KeepAlike}
 use Rattle.chain_session.specs.declared.kept.Kept.{Kept}
 use Rattle.chain_session.specs.PartsStanding.{SplitStand}
 use Rattle.chain_session.specs.Shown.{Shows}
-use Rattle.chain_session.specs.Splitting.{KeepAlike}
 use Rattle.chain_session.specs.Standing.{StandsFor}
 use Rattle.shard_model.specs.Followed.{Follows, IsNextStep, next_event, turns_in}
 use Rattle.shard_model.specs.Replays.{StartStands}

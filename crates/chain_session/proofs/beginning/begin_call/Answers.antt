@@ -9,12 +9,12 @@ use Rattle.report_text.specs.Setups.{trace_setup}
 use Rattle.terminator.specs.Calls.{TerminatorState, targets_of}
 use Rattle.session_tables.proofs.Lists.{on_err}
 use Rattle.session_tables.specs.Lined.{AreLined}
-use Rattle.chain_session.specs.Opening.{begin_content}
+use Rattle.session_parts.specs.Opening.{begin_content}
+use Rattle.session_parts.proofs.Begins.{fits_first}
 use Rattle.chain_session.specs.Sending.{calls_due}
 use Rattle.chain_session.specs.Shown.{kinds_chained}
 use Rattle.chain_session.specs.Telling.{FrontAsked}
 use Rattle.chain_session.proofs.BeginCalls.{began_so, chained_from, cut_first, cut_so, shapes_so}
-use Rattle.chain_session.proofs.Begins.{fits_first}
 use Rattle.chain_session.proofs.beginning.begin_call.Goals as goal
 
 pub returns-in_err-creation-clause-err : goal.returns-in_err-creation-clause-err

@@ -1,8 +1,8 @@
 use Rattle.std.proofs.Common.{◌≡◌, ◌∙◌, ap, subst, sym}
+use Rattle.session_parts.specs.Opening.{begin_content, opened_first}
 use Rattle.chain_session.specs.declared.call.OpenCall.{OpenCall}
 use Rattle.chain_session.specs.Judging.{IsJudged}
 use Rattle.chain_session.specs.Opened.{opened_of}
-use Rattle.chain_session.specs.Opening.{begin_content, opened_first}
 use Rattle.chain_session.proofs.beginning.open_judged.Goals as goal
 
 pub judge-requires-clause-opened : goal.judge-requires-clause-opened

@@ -4,8 +4,8 @@ use Rattle.model_driver.specs.Driver.{reply_shown}
 use Rattle.lifetime_layer.specs.Reports.{reports_of}
 use Rattle.replay_model.specs.Text.{report_text}
 use Rattle.session_tables.proofs.Lists.{on_err}
+use Rattle.session_parts.specs.Opening.{begin_content}
 use Rattle.chain_session.specs.Keeping.{KeepsBegun}
-use Rattle.chain_session.specs.Opening.{begin_content}
 use Rattle.chain_session.specs.Sending.{IsSentTo, calls_due}
 use Rattle.chain_session.specs.Telling.{AreAsked}
 use Rattle.chain_session.specs.declared.call.OpenCall.{OpenCall}

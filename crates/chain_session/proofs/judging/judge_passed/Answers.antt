@@ -2,9 +2,9 @@ use Rattle.std.proofs.Common.{◌≡◌, ◌∙◌, ap, refl, rules, subst, sym}
 use Rattle.command_tables.specs.Calls.{call_content}
 use Rattle.replay_model.specs.Past.{Opened}
 use Rattle.session_tables.specs.Shown.{args_shown}
-use Rattle.chain_session.specs.Judging.{FitsCall}
+use Rattle.session_parts.specs.Judging.{FitsCall}
+use Rattle.session_parts.specs.Opening.{begin_content, opened_read}
 use Rattle.chain_session.specs.Opened.{opened_of}
-use Rattle.chain_session.specs.Opening.{begin_content, opened_read}
 use Rattle.chain_session.proofs.Judged.{came_judged, came_passes}
 use Rattle.chain_session.proofs.judging.judge_passed.Goals as goal
 

@@ -1,4 +1,5 @@
-use Rattle.chain_session.proofs.Rising.{below_so, none_stopped, once_of, sent_so}
+use Rattle.session_parts.proofs.Rising.{none_stopped, once_of}
+use Rattle.chain_session.proofs.Rising.{below_so, sent_so}
 use Rattle.chain_session.proofs.raising.raise_flagged.Goals as goal
 
 pub walk_leave-requires-clause-once : goal.walk_leave-requires-clause-once

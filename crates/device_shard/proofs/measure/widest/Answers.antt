@@ -1,5 +1,5 @@
 use Rattle.std.proofs.Common.{◌≡◌, length, subst, arith}
-use Rattle.chain_session.specs.Scratch.{AreWithin}
+use Rattle.session_parts.specs.Scratch.{AreWithin}
 use Rattle.device_shard.proofs.Measured.{names_taken, wide_more}
 use Rattle.device_shard.proofs.measure.widest.Goals as goal
 

@@ -1,5 +1,5 @@
 use Rattle.std.proofs.Common.{take}
-use Rattle.chain_session.specs.Scratch.{AreWithin}
+use Rattle.session_parts.specs.Scratch.{AreWithin}
 use Rattle.device_shard.specs.Rooms.{names_of}
 use Rattle.device_shard.proofs.measure.widest.Given as goal
 

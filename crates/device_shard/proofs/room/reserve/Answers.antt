@@ -1,6 +1,6 @@
 use Rattle.std.proofs.Common.{◌+◌, ◌∙◌, ap, subst, sym, arith}
 use Rattle.dispatch_chain.specs.Room.{AllCanOpen}
-use Rattle.chain_session.specs.Names.{CanKeep}
+use Rattle.session_parts.specs.Names.{CanKeep}
 use Rattle.device_shard.proofs.Roomy.{one_value_each}
 use Rattle.device_shard.proofs.room.reserve.Goals as goal
 

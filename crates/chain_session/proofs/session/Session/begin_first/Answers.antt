@@ -2,7 +2,7 @@ use Rattle.std.proofs.Common.{ap, refl}
 use Rattle.chain_build.specs.Setup.{setup_content}
 use Rattle.report_text.specs.Setups.{trace_setup}
 use Rattle.session_tables.proofs.Lists.{on_err}
-use Rattle.chain_session.specs.Opening.{begin_content}
+use Rattle.session_parts.specs.Opening.{begin_content}
 use Rattle.chain_session.proofs.Advancing.{begin_advances, begin_cut, can_begin, none_begun, shown_first, shown_in}
 use Rattle.chain_session.proofs.session.Session.begin_first.Goals as goal
 

@@ -2,7 +2,7 @@ use Rattle.std.proofs.Common.{◌∙◌, Some, ap, sym}
 use Rattle.std.specs.Option.{option_map}
 use Rattle.chain_build.specs.Setup.{setup_content}
 use Rattle.report_text.specs.Setups.{trace_setup}
-use Rattle.chain_session.specs.Opening.{begin_content}
+use Rattle.session_parts.specs.Opening.{begin_content}
 use Rattle.chain_session.proofs.Advancing.{begin_advances, begin_cut, can_begin, shown_since}
 use Rattle.chain_session.proofs.session.Session.begin_with.Goals as goal
 

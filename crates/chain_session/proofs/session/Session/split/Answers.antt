@@ -2,7 +2,8 @@ use Rattle.std.proofs.Common.{◌≡◌, ◌∙◌, ap, sym, subst}
 use Rattle.std.specs.Prelude.{IfOk}
 use Rattle.std.specs.Option.{option_map}
 use Rattle.dispatch_chain.specs.Seats.{kinds_of}
-use Rattle.chain_session.specs.Splitting.{AreSplit, KeepAlike, KeepNothing, kinds_in_force}
+use Rattle.session_parts.specs.Parts.{KeepAlike}
+use Rattle.chain_session.specs.Splitting.{AreSplit, KeepNothing, kinds_in_force}
 use Rattle.chain_session.proofs.session.Session.split.Goals as goal
 
 pub returns-in-None-clause-parts : goal.returns-in-None-clause-parts

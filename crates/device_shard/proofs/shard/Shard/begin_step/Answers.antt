@@ -3,7 +3,7 @@ use Rattle.std.specs.Prelude.{IsSome, find, slice_get, vec_capacity}
 use Rattle.std.specs.Prelude.{Contains, reverse, slice_set}
 use Rattle.std.specs.Option.{is_none}
 use Rattle.model_driver.specs.Driver.{call_shown}
-use Rattle.chain_session.specs.Room.{HasRoomToEnterAt, LosesNoRoom}
+use Rattle.session_parts.specs.Room.{HasRoomToEnterAt, LosesNoRoom}
 use Rattle.shard_model.specs.Replays.{Tells}
 use Rattle.device_shard.specs.Steps.{OfBegin, told_as}
 use Rattle.device_shard.proofs.Lists.{one}

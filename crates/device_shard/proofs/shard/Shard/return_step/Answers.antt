@@ -8,8 +8,8 @@ use Rattle.stream_log.specs.Log.{IsPast, OwnerView, appended, given, last_time, 
 use Rattle.trace_format.specs.Content.{TraceEvent, Begin, Return, content}
 use Rattle.stream_model.specs.FileParts.{StreamPart}
 use Rattle.stream_model.specs.Plans.{DevicePlan}
-use Rattle.chain_session.specs.Leaving.{CanLeaveAt, LeavesAt}
-use Rattle.chain_session.specs.Room.{HasRoomToLeaveAt, TakesResultsAt}
+use Rattle.session_parts.specs.Leaving.{CanLeaveAt, LeavesAt}
+use Rattle.session_parts.specs.Room.{HasRoomToLeaveAt, TakesResultsAt}
 use Rattle.device_shard.specs.declared.lane.Lane.{Lane}
 use Rattle.device_shard.specs.Lanes.{replies_read}
 use Rattle.device_shard.specs.Plans.{plan_content}

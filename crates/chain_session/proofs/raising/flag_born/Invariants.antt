@@ -1,9 +1,0 @@
-use Rattle.std.proofs.Common.{◌≡◌, ◌≤◌, ◌+◌, ◌++◌, length, map, take, vec_capacity}
-use Rattle.chain_session.proofs.raising.flag_born.Given as goal
-
-abbrev pub invariant-loop : goal.invariant-loop
-invariant-loop l = record {
-  flags : l.flags.items ≡ l.initial.flags.items ++ map (λ _. 1) (take l.index l.made);
-  count : length l.flags.items ≡ length l.initial.flags.items + l.index;
-  room : vec_capacity l.initial.flags ≤ vec_capacity l.flags;
-}

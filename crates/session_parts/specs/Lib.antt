@@ -1,0 +1,11 @@
+pub mod Opened
+pub mod Handed
+pub mod Names
+pub mod Passed
+pub mod Opening
+pub mod Judging
+pub mod Parts
+pub mod Entering
+pub mod Leaving
+pub mod Room
+pub mod Scratch
