@@ -1,3 +1,4 @@
+mod Answering
 mod Composed
 pub mod Playing
 pub mod PlayingLists

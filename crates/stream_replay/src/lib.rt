@@ -7,6 +7,7 @@ mod counting;
 mod following;
 mod laws;
 mod limits;
+mod one_seat;
 mod played;
 mod replaying;
 mod seats;

@@ -1,8 +1,9 @@
 //! All sections of a stream file.
 ghost use Rattle.std.specs.Prelude.{◌≡◌, ◌∷◌, ◌<◌, ◌^◌, false, length, map, IfOk};
-ghost use Rattle.std.specs.List.{list_any};
+ghost use Rattle.std.specs.List.{AllByRecursion, list_any};
 ghost use Rattle.std.specs.Option.{option_map};
 ghost use Rattle.trace_format.specs.Content.{content};
+ghost use Rattle.model_driver.specs.Seats.{IsPolicy};
 ghost use Rattle.replay_model.specs.Stop.{exceeds_layers};
 ghost use Rattle.chain_build.specs.Setup.{setup_content};
 ghost use Rattle.report_text.specs.Setups.{trace_setup};
@@ -71,6 +72,7 @@ pub fn replay_streams<H: Threads + Wait + Sync, D: SharedDriver, G: Gate>(
     requires last { list_any (exceeds_layers (trace_setup (setup_content setup.now))) (file_parts file.now).teardown ≡ false }
     ensures replayed { IfOk result (λ r. HasReplayed D.log (trace_setup (setup_content setup.now)) (file_parts file.now) (map content r.merge.items) r.lines.items (option_map (λ x. x.value.kept) r.session.started) r.seats.items) }
     ensures logs { IfOk result (λ r. AreLogsBehind (file_parts file.now) (map content r.merge.items) r.logs.items) }
+    ensures policy { IfOk result (λ r. AllByRecursion (λ seat. IsPolicy (D.answers_by seat) policy) r.seats.items) }
 {
     sections_follow_each_other();
     seats_are_told_what_the_trace_says();

@@ -1,3 +1,4 @@
+pub mod Answering
 pub mod Unbegun
 pub mod Ready
 pub mod Holding

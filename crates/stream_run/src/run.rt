@@ -50,6 +50,7 @@ fn work_on<N: ShardNames + Send + Sync, H: Threads + Wait + Sync, D: SharedDrive
     ensures plans { IfOk result (λ r. r.1 ≡ prepared.plans) }
     ensures worked { IfOk result (λ r. (file : FileParts) → IsPrepared file prepared → CanRun (option_map (λ x. x.value.kept) session.now.started) file prepared N.shards → HaveRoom D.room seats.items (calls_of_file file) →
         HaveWorked D.room D.log (course N.shards N.clock (map plan_content prepared.plans.items)) file seats.items r.2.items) }
+    ensures policy { IfOk result (λ r. map (λ w. D.answers_by w.seat) r.2.items ≡ map D.answers_by seats.items) }
 {
     let Prepared {
         plans,
@@ -112,7 +113,8 @@ fn run_on<N: ShardNames + Send + Sync, H: Threads + Wait + Sync, D: SharedDriver
     requires logs { logs_of N.shards ≡ map (λ l. l.0) prepared.logs.items }
     requires clock { N.clock ≡ prepared.clock }
     requires seats { HaveRoom D.room seats.items (calls_of_file (file_parts file.now)) }
-    ensures { IfOk result (λ r. HasRun D.log (option_map (λ x. x.value.kept) session.now.started) (file_parts file.now) seats.items (map content r.0.events.items) (map reply_shown r.0.replies.items) r.0.logs.items r.1.items) }
+    ensures ran { IfOk result (λ r. HasRun D.log (option_map (λ x. x.value.kept) session.now.started) (file_parts file.now) seats.items (map content r.0.events.items) (map reply_shown r.0.replies.items) r.0.logs.items r.1.items) }
+    ensures policy { IfOk result (λ r. map D.answers_by r.1.items ≡ map D.answers_by seats.items) }
 {
     a_ready_file_can_be_run();
     what_was_made_is_a_merge();
@@ -138,7 +140,8 @@ pub fn run_streams<H: Threads + Wait + Sync, D: SharedDriver, G: Gate>(
 ) -> Result<(Merged, Vec<D::Seat>), NoMemory>
     requires ready { IsReadyToRun (option_map (λ x. x.value.kept) session.now.started) (file_parts file.now) }
     requires seats { HaveRoom D.room seats.items (calls_of_file (file_parts file.now)) }
-    ensures { IfOk result (λ r. HasRun D.log (option_map (λ x. x.value.kept) session.now.started) (file_parts file.now) seats.items (map content r.0.events.items) (map reply_shown r.0.replies.items) r.0.logs.items r.1.items) }
+    ensures ran { IfOk result (λ r. HasRun D.log (option_map (λ x. x.value.kept) session.now.started) (file_parts file.now) seats.items (map content r.0.events.items) (map reply_shown r.0.replies.items) r.0.logs.items r.1.items) }
+    ensures policy { IfOk result (λ r. map D.answers_by r.1.items ≡ map D.answers_by seats.items) }
 {
     a_ready_file_can_be_run();
     let prepared = prepare(alloc, file)?;

@@ -125,12 +125,13 @@ pub(crate) fn file_of(alloc: Global, text: &str) -> Result<StreamFile, Fail>
     }
 }
 
-/// The replay of a text through the validation layer's three parts.
-pub(crate) fn replayed<H: Threads + Wait + Sync, D: SharedDriver, G: Gate>(
+/// The replay of a text through the validation layer's three parts, with a driver that answers by a policy.
+pub(crate) fn replayed_by<H: Threads + Wait + Sync, D: SharedDriver, G: Gate>(
     rt: &H,
     alloc: Global,
     of: Machine,
     text: &str,
+    policy: Policy,
     driver: &D,
     gate: &G,
 ) -> Result<Replayed<D::Seat>, Fail> {
@@ -139,15 +140,18 @@ pub(crate) fn replayed<H: Threads + Wait + Sync, D: SharedDriver, G: Gate>(
     if !is_within(alloc, &setup, &file.setup)? || !is_within(alloc, &setup, &file.teardown)? {
         return Err("too many layers".into());
     }
-    let made = replay_streams(
-        rt,
-        alloc,
-        &file,
-        &setup,
-        &kit(),
-        Policy::Fresh,
-        driver,
-        gate,
-    )?;
+    let made = replay_streams(rt, alloc, &file, &setup, &kit(), policy, driver, gate)?;
     Ok(made)
+}
+
+/// So with a driver whose handles are fresh.
+pub(crate) fn replayed<H: Threads + Wait + Sync, D: SharedDriver, G: Gate>(
+    rt: &H,
+    alloc: Global,
+    of: Machine,
+    text: &str,
+    driver: &D,
+    gate: &G,
+) -> Result<Replayed<D::Seat>, Fail> {
+    replayed_by(rt, alloc, of, text, Policy::Fresh, driver, gate)
 }

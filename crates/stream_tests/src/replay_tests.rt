@@ -1,10 +1,12 @@
 // Stream files through `replay_streams`. What is expected is by hand from the rules of the README.
-use crate::fixtures::{Machine, replayed};
+use crate::fixtures::{Machine, replayed, replayed_by};
 use command_tables::{CommandId, NoMemory};
-use model_driver::{RecordingSeat, RecordingShared, SharedModel};
+use model_driver::{Policy, RecordingSeat, RecordingShared, SharedModel};
 use std::alloc::{AllocError, Global};
 use std::process::Abort;
+use std::sync::Wait;
 use std::test::Fail;
+use std::thread::Threads;
 use stream_workers::NoGate;
 use trace_format::Event;
 
@@ -151,5 +153,52 @@ fn a_device_of_another_driver(rt: HostRuntime) -> Result<(), Fail> {
     };
     let drivers = drivers_of(alloc, seat)?;
     assert!(rt; drivers.as_slice() == [1].as_slice());
+    Ok(())
+}
+
+// The handles that the calls of a seat were answered.
+fn add_answers<S: Drop>(
+    alloc: Global,
+    seat: &RecordingSeat<S>,
+    answers: &mut Vec<u64>,
+) -> Result<(), NoMemory> {
+    let mut told = Vec::new(alloc);
+    seat.log(&mut told)?;
+    for exchange in &told {
+        answers.extend_from_slice(&exchange.1.handles)?;
+    }
+    Ok(())
+}
+
+// Those that all seats' were, in the seats' order, with a driver that answers by a policy.
+fn answers_by<H: Threads + Wait + Sync>(
+    rt: &H,
+    alloc: Global,
+    policy: Policy,
+) -> Result<Vec<u64>, Fail> {
+    let driver = RecordingShared::new(SharedModel::new());
+    let made = replayed_by(
+        rt,
+        alloc,
+        Machine::OneDriver,
+        TWO_OBJECTS,
+        policy,
+        &driver,
+        &NoGate,
+    )?;
+    let mut answers = Vec::new(alloc);
+    for seat in &made.seats {
+        add_answers(alloc, seat, &mut answers)?;
+    }
+    Ok(answers)
+}
+
+// An instance, a physical device and a device at the first seat, a buffer and a fence at the streams' own. Fresh numbers are a seat's own.
+#[test]
+fn each_seat_answers_by_the_policy(rt: HostRuntime) -> Result<(), Fail> {
+    let fresh = answers_by(&rt, rt.alloc(), Policy::Fresh)?;
+    assert!(rt; fresh.as_slice() == [1, 2, 3, 1, 1].as_slice());
+    let shared = answers_by(&rt, rt.alloc(), Policy::Share)?;
+    assert!(rt; shared.as_slice() == [1, 1, 1, 1, 1].as_slice());
     Ok(())
 }

@@ -31,6 +31,7 @@ pub fn run_all<N: ShardNames + Send + Sync, H: Threads + Wait + Sync, D: SharedD
     ensures len { length workers.new ≡ length workers.old }
     ensures done { (i : ℕ) (d : _) → i < length workers.old → (planned : List PlannedCall) → IsReadyFor D.room (course N.shards N.clock (map plan_content plans.now)) planned (slice_index_or workers.old i d) →
         HasDone D.room D.log (course N.shards N.clock (map plan_content plans.now)) planned (slice_index_or workers.old i d) (slice_index_or workers.new i d) }
+    ensures policy { (i : ℕ) (d : _) → i < length workers.old → D.answers_by (slice_index_or workers.new i d).seat ≡ D.answers_by (slice_index_or workers.old i d).seat }
 {
     each_with(
         rt,
@@ -40,8 +41,9 @@ pub fn run_all<N: ShardNames + Send + Sync, H: Threads + Wait + Sync, D: SharedD
             requires sync { IsSync H.row × IsSync D.row × IsSync G.row }
             requires course { IsCourse (course N.shards N.clock (map plan_content plans.now)) × AreRowsOf rows.now.rows N.shards × (clock.now ≡ N.clock) }
             requires ready { (planned : List PlannedCall) × IsReadyFor D.room (course N.shards N.clock (map plan_content plans.now)) planned worker.now }
-            ensures { (planned : List PlannedCall) → IsReadyFor D.room (course N.shards N.clock (map plan_content plans.entry.now)) planned worker.entry.now →
-                HasDone D.room D.log (course N.shards N.clock (map plan_content plans.entry.now)) planned worker.entry.now worker.exit.now }
+            ensures { ((planned : List PlannedCall) → IsReadyFor D.room (course N.shards N.clock (map plan_content plans.entry.now)) planned worker.entry.now →
+                HasDone D.room D.log (course N.shards N.clock (map plan_content plans.entry.now)) planned worker.entry.now worker.exit.now)
+                × (D.answers_by worker.exit.now.seat ≡ D.answers_by worker.entry.now.seat) }
         { work(rt, set, gate, rows, plans, clock, driver, worker) },
     );
 }

@@ -27,7 +27,8 @@ pub fn work<N: ShardNames, H: Wait, D: SharedDriver, G: Gate>(
 )
     requires course { IsCourse (course N.shards N.clock (map plan_content plans.now)) × AreRowsOf table.now.rows N.shards × (clock.now ≡ N.clock) }
     requires ready { (planned : List PlannedCall) × IsReadyFor D.room (course N.shards N.clock (map plan_content plans.now)) planned worker.old }
-    ensures { (planned : List PlannedCall) → IsReadyFor D.room (course N.shards N.clock (map plan_content plans.now)) planned worker.old → HasDone D.room D.log (course N.shards N.clock (map plan_content plans.now)) planned worker.old worker.new }
+    ensures done { (planned : List PlannedCall) → IsReadyFor D.room (course N.shards N.clock (map plan_content plans.now)) planned worker.old → HasDone D.room D.log (course N.shards N.clock (map plan_content plans.now)) planned worker.old worker.new }
+    ensures policy { D.answers_by worker.new.seat ≡ D.answers_by worker.old.seat }
 {
     let mut call = 0;
     while call < worker.places.len() {

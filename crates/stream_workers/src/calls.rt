@@ -43,8 +43,9 @@ pub fn begin_call<N: ShardNames, H: Wait, S: Drop, G: Gate>(
 )
     requires course { IsCourse (course N.shards N.clock (map plan_content plans.now)) × AreRowsOf table.now.rows N.shards × (clock.now ≡ N.clock) }
     requires ready { (room : S → SeatRoom) × (p : PlannedCall) × (rest : List PlannedCall) × IsReady room (course N.shards N.clock (map plan_content plans.now)) (p ∷ rest) worker.old × (p.place ≡ place) }
-    ensures { (room : S → SeatRoom) (p : PlannedCall) (rest : List PlannedCall) → IsReady room (course N.shards N.clock (map plan_content plans.now)) (p ∷ rest) worker.old → p.place ≡ place →
+    ensures begun { (room : S → SeatRoom) (p : PlannedCall) (rest : List PlannedCall) → IsReady room (course N.shards N.clock (map plan_content plans.now)) (p ∷ rest) worker.old → p.place ≡ place →
         HasBegun room (course N.shards N.clock (map plan_content plans.now)) p rest worker.old worker.new }
+    ensures seat { worker.new.seat ≡ worker.old.seat }
 {
     let shard = set.lock_at(place).unwrap();
     let log = set.log_at(place).unwrap();
@@ -80,7 +81,8 @@ fn is_marked(marks: &[bool]) -> bool
 /// The driver is told the open call of a worker, unless it is skipped, and its reply is left in `reply`. Takes no memory.
 pub fn send_call<D: SharedDriver>(driver: &D, worker: &mut Worker<D::Seat>)
     requires to_send { (c : Course) × (b : BegunCall) × (rest : List PlannedCall) × IsToSend D.room c b rest worker.old }
-    ensures { (c : Course) (b : BegunCall) (rest : List PlannedCall) → IsToSend D.room c b rest worker.old → HasSent D.room D.log c b rest worker.old worker.new }
+    ensures sent { (c : Course) (b : BegunCall) (rest : List PlannedCall) → IsToSend D.room c b rest worker.old → HasSent D.room D.log c b rest worker.old worker.new }
+    ensures policy { D.answers_by worker.new.seat ≡ D.answers_by worker.old.seat }
 {
     if is_marked(&worker.sent) {
         driver.call(&mut worker.seat, &worker.call, &mut worker.reply);
@@ -100,8 +102,9 @@ pub fn end_call<N: ShardNames, H: Wait, S: Drop, G: Gate>(
 )
     requires course { IsCourse (course N.shards N.clock (map plan_content plans.now)) × AreRowsOf table.now.rows N.shards × (clock.now ≡ N.clock) }
     requires replied { (room : S → SeatRoom) × (b : BegunCall) × (rest : List PlannedCall) × IsToReturn room (course N.shards N.clock (map plan_content plans.now)) b rest worker.old × (b.place ≡ place) }
-    ensures { (room : S → SeatRoom) (b : BegunCall) (rest : List PlannedCall) → IsToReturn room (course N.shards N.clock (map plan_content plans.now)) b rest worker.old → b.place ≡ place →
+    ensures returned { (room : S → SeatRoom) (b : BegunCall) (rest : List PlannedCall) → IsToReturn room (course N.shards N.clock (map plan_content plans.now)) b rest worker.old → b.place ≡ place →
         HasReturned room (course N.shards N.clock (map plan_content plans.now)) b rest worker.old worker.new }
+    ensures seat { worker.new.seat ≡ worker.old.seat }
 {
     let shard = set.lock_at(place).unwrap();
     let log = set.log_at(place).unwrap();

@@ -1,3 +1,4 @@
+mod Answering
 mod Ending
 mod Events
 mod Stopping

@@ -1,7 +1,10 @@
 -- How a run of the program for threads ends, and what then was read, written and said. Source: this project.
 use Rattle.std.specs.Prelude.{◌≡◌, ◌≢◌, ◌⊎◌, Option, Some, None, List, [], ◌∷◌, codes, ℕ}
+use Rattle.std.specs.List.{AllByRecursion}
 use Rattle.env_filters.specs.Variables.{Variable}
 use Rattle.model_driver.specs.Logs.{Log}
+use Rattle.model_driver.specs.Seats.{IsPolicy}
+use Rattle.model_driver.specs.declared.driver.Policy.{Policy}
 use Rattle.program_words.specs.Asked.{Asked, AsksRun, RunAsked, words_ask}
 use Rattle.program_words.specs.Words.{Word}
 use Rattle.replay_base.specs.Changes.{Change}
@@ -113,3 +116,7 @@ EndsAtOnce run other session seats = ⊥
 -- streams and the text of this trace, and each seat was told its part of the trace's driver calls.
 abbrev pub Ends : {S : Type 0} → (S → Log) → ThreadsRun → Status → Option (Option Kept) → List S → Type 0
 Ends log run st session seats = EndsAs log (threads_ask run.words) run st session seats ⊎ EndsAtOnce run st session seats
+
+-- each of these seats answers by the policy that the words choose for a replay, where it tells one
+abbrev pub AnswerBy : {S : Type 0} → (S → Option Policy) → Option Asked → List S → Type 0
+AnswerBy answers_by o seats = (asked : RunAsked) → o ≡ Some (AsksRun asked) → AllByRecursion (λ seat. IsPolicy (answers_by seat) asked.policy) seats

@@ -1,9 +1,10 @@
 // All that the program does.
 ghost use Rattle.std.specs.Prelude.{◌≡◌, ◌≢◌, ◌⊎◌, ◌≤◌, [], false, length, IfErr, IfOk, None, OnOk};
-ghost use Rattle.std.specs.List.{list_any};
+ghost use Rattle.std.specs.List.{AllByRecursion, list_any};
 ghost use Rattle.std.specs.Option.{option_map};
 ghost use Rattle.chain_build.specs.Setup.{setup_content};
 ghost use Rattle.layer_search.specs.Paths.{most_paths};
+ghost use Rattle.model_driver.specs.Seats.{IsPolicy};
 ghost use Rattle.program_words.specs.Content.{words_of};
 ghost use Rattle.replay_base.specs.Changes.{changed};
 ghost use Rattle.replay_core.specs.declared.status.Status.TheVariants as status;
@@ -15,7 +16,7 @@ ghost use Rattle.stream_model.specs.FileParts.{all_events};
 ghost use Rattle.stream_replay.specs.Replayed.{IsWholeFile};
 ghost use Rattle.threaded_replay.specs.Files.{file_parts};
 ghost use Rattle.threads_tool.specs.Ending.{AnswersStop, AnswersWith};
-ghost use Rattle.threads_tool.specs.Outcome.{Ends, threads_ask};
+ghost use Rattle.threads_tool.specs.Outcome.{AnswerBy, Ends, threads_ask};
 ghost use Rattle.threads_tool.specs.Stops.{NotShown, ShownAll, StopsRun, StopsUnder, WroteAll};
 ghost use Rattle.threads_tool.specs.declared.reading.Stop.TheVariants as stop;
 
@@ -83,6 +84,7 @@ fn show<H: Threads + Wait + Sync, K: Sink, D: SharedDriver, G: Gate>(
     ensures cut { let sink = changed (K.held out.old) (K.held out.new) (K.faults out.old) (K.faults out.new) in
         IfErr result (NotShown D.log (trace_setup (setup_content setup.now)) (file_parts file.now) sink) }
     ensures flushed { OnOk result (K.held_back out.new ≡ 0) }
+    ensures policy { IfOk result (λ r. AllByRecursion (λ seat. IsPolicy (D.answers_by seat) policy) r.1.items) }
     ensures untouched { IfErr result (λ e. e ≢ stop.Write → out.new ≡ out.old) }
 {
     the_events_of_a_whole_file_are_of_the_grammar();
@@ -119,6 +121,7 @@ fn perform_under<H: Threads + Wait + Sync, S: Source, K: Sink, D: SharedDriver, 
         let sink = changed (K.held out.old) (K.held out.new) (K.faults out.old) (K.faults out.new) in
         IfErr result (StopsUnder D.log (trace_setup (setup_content setup.now)) source sink) }
     ensures flushed { OnOk result (K.held_back out.new ≡ 0) }
+    ensures policy { IfOk result (λ r. AllByRecursion (λ seat. IsPolicy (D.answers_by seat) policy) r.1.items) }
     ensures untouched { IfErr result (λ e. e ≢ stop.Write → out.new ≡ out.old) }
 {
     a_file_that_was_read_is_whole();
@@ -150,6 +153,7 @@ fn perform<H: Threads + Wait + Sync, T: Tree, S: Source, K: Sink, D: SharedDrive
         let sink = changed (K.held out.old) (K.held out.new) (K.faults out.old) (K.faults out.new) in
         IfErr result (StopsRun D.log search source sink) }
     ensures flushed { OnOk result (K.held_back out.new ≡ 0) }
+    ensures policy { IfOk result (λ r. AllByRecursion (λ seat. IsPolicy (D.answers_by seat) words.entry.policy) r.1.items) }
     ensures untouched { IfErr result (λ e. e ≢ stop.Write → out.new ≡ out.old) }
 {
     match setup_of(alloc, words, env, tree) {
@@ -224,6 +228,8 @@ pub fn threads_main<
         (option_map (λ session. option_map (λ x. x.value.kept) session.started) result.session) result.seats.items }
     // Unless it failed, the sink holds nothing back at the end, or no method of it was called.
     ensures flushed { result.status ≢ status.WriteFault → (K.held_back out.new ≡ 0) ⊎ (out.new ≡ out.old) }
+    // Each seat that comes back answers by the policy that the words choose.
+    ensures policy { AnswerBy D.answers_by (threads_ask (words_of words.now)) result.seats.items }
     // No method of the tree is called but for a replay.
     ensures tree { IsLeftBy (threads_ask (words_of words.now)) tree.old tree.new }
 {

@@ -1,9 +1,10 @@
-use Rattle.std.proofs.Common.{◌≡◌, false, List, ap, map, refl, reverse, subst, sym}
-use Rattle.std.specs.List.{list_any}
+use Rattle.std.proofs.Common.{◌≡◌, ◌∙◌, false, List, ap, map, refl, reverse, subst, sym}
+use Rattle.std.specs.List.{AllByRecursion, list_any}
 use Rattle.std.specs.Option.{option_map}
 use Rattle.command_tables.specs.Calls.{ReplyContent}
 use Rattle.trace_format.specs.Content.{TraceEvent, content}
 use Rattle.model_driver.specs.Driver.{reply_shown}
+use Rattle.model_driver.specs.Seats.{IsPolicy}
 use Rattle.replay_model.specs.Stop.{exceeds_layers}
 use Rattle.chain_build.specs.Setup.{setup_content}
 use Rattle.report_text.specs.Setups.{trace_setup}
@@ -15,6 +16,7 @@ use Rattle.event_replay.specs.Through.{CanGoOn, GoesThrough, Passage}
 use Rattle.event_replay.proofs.Starting.{can_start, went_through}
 use Rattle.stream_replay.specs.Playing.{Follows}
 use Rattle.stream_replay.specs.Replayed.{HasReplayed, SectionReplies}
+use Rattle.stream_replay.proofs.Answering.{policies_kept}
 use Rattle.stream_replay.proofs.Composed.{can_merge, can_teardown, has_replayed, merge_stands, ready, tell_streams}
 use Rattle.stream_replay.proofs.replaying.replay_streams.Goals as goal
 
@@ -35,7 +37,7 @@ run_streams-requires-clause-ready g c κs within =
     let x = option_map (λ x. x.value.kept) c.new-session.result.started in
     let k0 = option_map (λ x. x.value.kept) c.replay_section.new.session.started in
     let p0 : Passage = record { old_log = g.D.SharedDriver.log c.in_ok-unused.unused; log = g.D.SharedDriver.log c.in_ok-before.before; old_lines = c.new-lines.result.items; lines = c.replay_section.new.lines.items } in
-    let goes = subst (λ (es : List TraceEvent). GoesThrough s x k0 es p0) (ap (map content) c.deref.ensures.value) c.in_ok-before.ensures in
+    let goes = subst (λ (es : List TraceEvent). GoesThrough s x k0 es p0) (ap (map content) c.deref.ensures.value) c.in_ok-before.ensures.goes in
     let went = went_through s x k0 file.setup p0 c.new-session.ensures (c.sections_follow_each_other.ensures.setup file c.requires.whole) goes in
     ready s k0 file went.replies (gives_guarded (setup_content c.args.setup.now)) c.requires.whole went.stands
 
@@ -47,11 +49,11 @@ follow-requires-clause-can g c =
     let x = option_map (λ x. x.value.kept) c.new-session.result.started in
     let k0 = option_map (λ x. x.value.kept) c.replay_section.new.session.started in
     let p0 : Passage = record { old_log = g.D.SharedDriver.log c.in_ok-unused.unused; log = g.D.SharedDriver.log c.in_ok-before.before; old_lines = c.new-lines.result.items; lines = c.replay_section.new.lines.items } in
-    let goes = subst (λ (es : List TraceEvent). GoesThrough s x k0 es p0) (ap (map content) c.deref.ensures.value) c.in_ok-before.ensures in
+    let goes = subst (λ (es : List TraceEvent). GoesThrough s x k0 es p0) (ap (map content) c.deref.ensures.value) c.in_ok-before.ensures.goes in
     let went = went_through s x k0 file.setup p0 c.new-session.ensures (c.sections_follow_each_other.ensures.setup file c.requires.whole) goes in
     let merge = map content c.in_ok-merged.merged.events.items in
-    let whole = c.sections_follow_each_other.ensures.whole file merge c.requires.whole c.in_ok-merged.ensures.merge in
-    let few = c.sections_follow_each_other.ensures.few file merge c.requires.whole c.in_ok-merged.ensures.merge in
+    let whole = c.sections_follow_each_other.ensures.whole file merge c.requires.whole c.in_ok-merged.ensures.ran.merge in
+    let few = c.sections_follow_each_other.ensures.few file merge c.requires.whole c.in_ok-merged.ensures.ran.merge in
     subst (λ (es : List TraceEvent). CanGoOn s k0 es) (sym (ap (map content) c.deref-2.ensures.value)) (can_merge s file merge whole few k0 went.replies went.stands)
 
 -- which makes no chain
@@ -60,7 +62,7 @@ follow-requires-clause-within g c =
     let file = file_parts c.args.file.now in
     let s = trace_setup (setup_content c.args.setup.now) in
     let merge = map content c.in_ok-merged.merged.events.items in
-    subst (λ (es : List TraceEvent). list_any (exceeds_layers s) es ≡ false) (sym (ap (map content) c.deref-2.ensures.value)) (c.sections_follow_each_other.ensures.within s file merge c.requires.whole c.in_ok-merged.ensures.merge)
+    subst (λ (es : List TraceEvent). list_any (exceeds_layers s) es ≡ false) (sym (ap (map content) c.deref-2.ensures.value)) (c.sections_follow_each_other.ensures.within s file merge c.requires.whole c.in_ok-merged.ensures.ran.merge)
 
 -- and then teardown
 pub replay_section-requires-2-clause-can : goal.replay_section-requires-2-clause-can
@@ -71,12 +73,12 @@ replay_section-requires-2-clause-can g c κs within =
     let k0 = option_map (λ x. x.value.kept) c.replay_section.new.session.started in
     let k1 = option_map (λ x. x.value.kept) c.follow.new.session.started in
     let p0 : Passage = record { old_log = g.D.SharedDriver.log c.in_ok-unused.unused; log = g.D.SharedDriver.log c.in_ok-before.before; old_lines = c.new-lines.result.items; lines = c.replay_section.new.lines.items } in
-    let goes = subst (λ (es : List TraceEvent). GoesThrough s x k0 es p0) (ap (map content) c.deref.ensures.value) c.in_ok-before.ensures in
+    let goes = subst (λ (es : List TraceEvent). GoesThrough s x k0 es p0) (ap (map content) c.deref.ensures.value) c.in_ok-before.ensures.goes in
     let went = went_through s x k0 file.setup p0 c.new-session.ensures (c.sections_follow_each_other.ensures.setup file c.requires.whole) goes in
     let merge = map content c.in_ok-merged.merged.events.items in
     let replies = map reply_shown c.in_ok-merged.merged.replies.items in
-    let whole = c.sections_follow_each_other.ensures.whole file merge c.requires.whole c.in_ok-merged.ensures.merge in
-    let few = c.sections_follow_each_other.ensures.few file merge c.requires.whole c.in_ok-merged.ensures.merge in
+    let whole = c.sections_follow_each_other.ensures.whole file merge c.requires.whole c.in_ok-merged.ensures.ran.merge in
+    let few = c.sections_follow_each_other.ensures.few file merge c.requires.whole c.in_ok-merged.ensures.ran.merge in
     let half = subst (λ (es : List TraceEvent). Follows s k0 k1 es (map reply_shown c.deref-3.result.now) c.replay_section.new.lines.items c.follow.new.lines.items) (ap (map content) c.deref-2.ensures.value) c.in_ok-follow.ensures in
     let follows = subst (λ (rs : List ReplyContent). Follows s k0 k1 merge rs c.replay_section.new.lines.items c.follow.new.lines.items) (ap (map reply_shown) c.deref-3.ensures.value) half in
     subst (λ (es : List TraceEvent). CanGoOn s k1 es) (sym (ap (map content) c.deref-4.ensures.value))
@@ -93,16 +95,16 @@ returns-clause-replayed g c =
     let k2 = option_map (λ x. x.value.kept) c.replay_section-2.new.session.started in
     let p0 : Passage = record { old_log = log c.in_ok-unused.unused; log = log c.in_ok-before.before; old_lines = c.new-lines.result.items; lines = c.replay_section.new.lines.items } in
     let p2 : Passage = record { old_log = log c.in_ok-before.before; log = log c.in_ok-after.after; old_lines = c.follow.new.lines.items; lines = c.replay_section-2.new.lines.items } in
-    let goes = subst (λ (es : List TraceEvent). GoesThrough s x k0 es p0) (ap (map content) c.deref.ensures.value) c.in_ok-before.ensures in
+    let goes = subst (λ (es : List TraceEvent). GoesThrough s x k0 es p0) (ap (map content) c.deref.ensures.value) c.in_ok-before.ensures.goes in
     let went = went_through s x k0 file.setup p0 c.new-session.ensures (c.sections_follow_each_other.ensures.setup file c.requires.whole) goes in
-    let ran = c.in_ok-merged.ensures in
+    let ran = c.in_ok-merged.ensures.ran in
     let merge = map content c.in_ok-merged.merged.events.items in
     let replies = map reply_shown c.in_ok-merged.merged.replies.items in
     let whole = c.sections_follow_each_other.ensures.whole file merge c.requires.whole ran.merge in
     let few = c.sections_follow_each_other.ensures.few file merge c.requires.whole ran.merge in
     let half = subst (λ (es : List TraceEvent). Follows s k0 k1 es (map reply_shown c.deref-3.result.now) c.replay_section.new.lines.items c.follow.new.lines.items) (ap (map content) c.deref-2.ensures.value) c.in_ok-follow.ensures in
     let follows = subst (λ (rs : List ReplyContent). Follows s k0 k1 merge rs c.replay_section.new.lines.items c.follow.new.lines.items) (ap (map reply_shown) c.deref-3.ensures.value) half in
-    let ended = subst (λ (es : List TraceEvent). GoesThrough s k1 k2 es p2) (ap (map content) c.deref-4.ensures.value) c.in_ok-after.ensures in
+    let ended = subst (λ (es : List TraceEvent). GoesThrough s k1 k2 es p2) (ap (map content) c.deref-4.ensures.value) c.in_ok-after.ensures.goes in
     let guarded = gives_guarded (setup_content c.args.setup.now) in
     let begun = ready s k0 file went.replies guarded c.requires.whole went.stands in
     let logs = map closed_lines c.in_ok-merged.merged.logs.items in
@@ -115,5 +117,14 @@ returns-clause-replayed g c =
 -- what the logs say
 pub returns-clause-logs : goal.returns-clause-logs
 returns-clause-logs g c =
-    let ran = c.in_ok-merged.ensures in
+    let ran = c.in_ok-merged.ensures.ran in
     record { devices = ran.devices; marks = marks_of ran.made; answers = map reply_shown c.in_ok-merged.merged.replies.items; gathered = ran.gathered; each = ran.each }
+
+-- the policy of each seat
+pub returns-clause-policy : goal.returns-clause-policy
+returns-clause-policy g c =
+    let answers_by = g.D.SharedDriver.answers_by in
+    let policy = c.args.policy in
+    let first = subst (λ told. IsPolicy told policy) (sym (c.in_ok-after.ensures.policy ∙ c.in_ok-before.ensures.policy)) c.in_ok-unused.ensures.policy in
+    let others = policies_kept answers_by policy c.in_ok-seats.seats.items c.in_ok-merged.told.items c.in_ok-merged.ensures.policy c.in_ok-seats.ensures.policy in
+    subst (AllByRecursion (λ seat. IsPolicy (answers_by seat) policy)) (sym c.in_ok-all.ensures) (first, others)

@@ -14,6 +14,7 @@ use Rattle.stream_workers.specs.Work.{course}
 use Rattle.stream_run.specs.Preparing.{calls_of_file}
 use Rattle.stream_run.specs.Spending.{tokens_held}
 use Rattle.stream_run.specs.Working.{IsLeft}
+use Rattle.stream_run.proofs.Answering.{map_of_seats}
 use Rattle.stream_run.proofs.Ran.{devices_named_by, has_run}
 use Rattle.stream_run.proofs.Ready.{plans_are}
 use Rattle.stream_run.proofs.Seen.{own_logs}
@@ -37,8 +38,8 @@ close_all-requires g c =
     (own_logs g.D.SharedDriver.room g.D.SharedDriver.log (course names g.N.ShardNames.clock plans) (map (λ (p : DevicePlan). p.device) plans) (calls_of_file file) worked.old c.in_ok-set.workers.items worked.done can.cut.distinct
     (devices_named_by _ plans names c.requires.names))
 
-pub returns : goal.returns
-returns g c =
+pub returns-clause-ran : goal.returns-clause-ran
+returns-clause-ran g c =
     let file = file_parts c.args.file.now in
     let names = g.N.ShardNames.shards in
     let plans = map plan_content c.args.prepared.plans.items in
@@ -51,3 +52,9 @@ returns g c =
     has_run g.D.SharedDriver.room g.D.SharedDriver.log _ file names g.N.ShardNames.clock plans worked.old workers c.args.seats.items ran.0.logs.items (map content ran.0.events.items) (map reply_shown ran.0.replies.items) ran.1.items
     (map (λ w. w.sent.items) workers) worked.done c.requires.ready c.requires.names (plans_are file plans (devices_cut file) c.requires.prepared.cut c.requires.prepared.devices) c.requires.prepared.devices can.cut.distinct worked.own left refl
     c.in_ok-ran.ensures.seats c.in_ok-ran.ensures.gathered c.what_was_made_is_a_merge.ensures.merge c.what_was_made_is_a_merge.ensures.each
+
+-- each seat answers as it did
+pub returns-clause-policy : goal.returns-clause-policy
+returns-clause-policy g c =
+    let answers_by = g.D.SharedDriver.answers_by in
+    ap (map answers_by) c.in_ok-ran.ensures.seats ∙ (map_of_seats answers_by c.in_ok-set.workers.items ∙ c.in_ok-set.ensures.policy)

@@ -6,6 +6,7 @@ use Rattle.device_shard.specs.Plans.{plan_content}
 use Rattle.stream_workers.specs.Work.{course}
 use Rattle.stream_run.specs.Preparing.{calls_of_file}
 use Rattle.stream_run.specs.Working.{AllDone}
+use Rattle.stream_run.proofs.Answering.{map_of_seats, policies_same}
 use Rattle.stream_run.proofs.Handed.{course_at, cut_at, done_of, few_at, named_at, planned_at, ready_each, ready_of, seats_count, sum_seen, threads_at}
 use Rattle.stream_run.proofs.run.work_on.Goals as goal
 
@@ -74,3 +75,14 @@ returns-clause-worked g c = λ file prepared can seats.
       own = record { threads = c.in_ok-workers.ensures.threads ∙ (c.deref-3.ensures.value ∙ prepared.threads); seats_are = c.in_ok-workers.ensures.seats; unused = c.in_ok-workers.ensures.unused };
       done = subst (λ ws. AllDone g.D.SharedDriver.room g.D.SharedDriver.log (course names g.N.ShardNames.clock plans) (calls_of_file file) workers ws) (sym (with_items_is c.in_ok-workers.workers new count)) done;
     }
+
+-- each seat answers as it did
+pub returns-clause-policy : goal.returns-clause-policy
+returns-clause-policy g c =
+    let answers_by = g.D.SharedDriver.answers_by in
+    let workers = c.in_ok-workers.workers.items in
+    let new = c.run_all.new.workers in
+    let count : length new ≡ c.in_ok-workers.workers.len = c.run_all.ensures.len ∙ (ap (λ ws. length ws) c.deref_mut.ensures.value ∙ sym c.in_ok-workers.workers.ok.0) in
+    ap (map (λ w. answers_by w.seat)) (with_items_is c.in_ok-workers.workers new count)
+    ∙ (policies_same answers_by c.deref_mut.result.now new c.run_all.ensures.len c.run_all.ensures.policy
+    ∙ (ap (map (λ w. answers_by w.seat)) c.deref_mut.ensures.value ∙ (sym (map_of_seats answers_by workers) ∙ ap (map answers_by) c.in_ok-workers.ensures.seats)))

@@ -95,8 +95,8 @@ overflow_add-index_mut g c =
     let count = count_read c.args.worker.now.made.items names r.1.place c.args.place c.index_mut-2.result.now r.3.opened.begun.name r.3.opened.holds.made_are r.4 r.3.opened.begun.is c.index_mut-2.ensures.value in
     let fits = open_fits r.0 k r.1 r.2 c.args.worker.now r.3 c.args.place r.4 c.index_mut-2.result.now c.requires.course.0 count in omega (arith, fits)
 
-pub returns : goal.returns
-returns g c room b rest open_ place_is =
+pub returns-clause-returned : goal.returns-clause-returned
+returns-clause-returned g c room b rest open_ place_is =
     let names : List ShardName = g.N.ShardNames.shards in
     let k : Course = course names g.N.ShardNames.clock (map plan_content c.args.plans.now) in
     let w = c.args.worker.now in

@@ -28,12 +28,12 @@ call-requires-clause-reply g c =
     let enough = r.3.reply in
     omega (arith, due, asked, enough)
 
-pub returns-then-is_marked : goal.returns-then-is_marked
-returns-then-is_marked g c k b rest open_ =
+pub returns-then-is_marked-clause-sent : goal.returns-then-is_marked-clause-sent
+returns-then-is_marked-clause-sent g c k b rest open_ =
     let goes = goes_on b.skip (sym (c.is_marked.ensures open_.front (not b.skip) (c.deref.ensures.value ∙ open_.marked)) ∙ c.if-is_marked.true) in
     is_sent g.D.SharedDriver.room g.D.SharedDriver.log k b rest c.args.worker.now open_ goes c.call.new.seat c.call.new.reply c.call.ensures.answers c.call.ensures.log c.call.ensures.room c.call.ensures.capacity
 
-pub returns-else-is_marked : goal.returns-else-is_marked
-returns-else-is_marked g c k b rest open_ =
+pub returns-else-is_marked-clause-sent : goal.returns-else-is_marked-clause-sent
+returns-else-is_marked-clause-sent g c k b rest open_ =
     let stops = stops_at b.skip (sym (c.is_marked.ensures open_.front (not b.skip) (c.deref.ensures.value ∙ open_.marked)) ∙ c.if-is_marked.false) in
     is_not_sent g.D.SharedDriver.room g.D.SharedDriver.log k b rest c.args.worker.now open_ stops
