@@ -5,6 +5,7 @@ pub mod Quiet
 pub mod Passing
 pub mod Sound
 pub mod OneByOne
+pub mod Handing
 pub mod Positions
 pub mod OneToOne
 pub mod Issuing

@@ -31,21 +31,22 @@ use Rattle.replay_model.specs.Direct.{Valued, valued, valued_of, last_values, dr
 use Rattle.layer_model.specs.Ids.{is_wrapped, is_bare, IssuedAll, no_ids}
 use Rattle.chain_model.specs.Tokens.{number_in, token_in}
 use Rattle.chain_model.specs.Mirrored.{entries_from, kept_from, Mirrors}
-use Rattle.chain_model.proofs.OneByOne.{with_value, AreOnce, AsksBorn, ArePlaced, AreApart, bear, births_after, values_after}
+use Rattle.chain_model.proofs.OneByOne.{with_value, AsksBorn, ArePlaced, AreApart, values_after}
 use Rattle.layer_model.specs.Walks.{PartState, Threads, Lifetimes, Unique, kind_of, has_unique, is_guarded, Walked, enter_parts, Left, leave_parts}
 use Rattle.chain_model.specs.Chained.{handle_by, is_unborn, form_by, handle_above, StatesMirror, AreForms}
 use Rattle.chain_model.proofs.Passing.{AreTyped, WalksWell, reaches_to, seen_begun, asking_by, births_then, retrievals_then, HaveMade, is_made, creates, owners_by, LeavesWell}
 use Rattle.layer_model.specs.Terminator.{told_call, terminator_leave}
-use Rattle.chain_model.specs.Handed.{Handed, hand_all, handle_in, handed_by}
+use Rattle.chain_model.specs.Handed.{Handed, hand_all, handle_in}
 use Rattle.chain_model.specs.Simulated.{Held, ChainKept, base_of, walk_of, held_of, after_walk, after_none, born_flags, other_held, after_reply, after_skipped, first_of, IsBottom, HeldStand, AreSole, ChainStands, found_by, after_begin, fresh_of, with_forms, with_parts}
+use Rattle.chain_model.proofs.Handing.{handle_in_all}
 use Rattle.chain_model.proofs.Sound.{Sound, IsBeside, IsFirst}
 use Rattle.layer_model.proofs.Same.{same_is}
-use Rattle.chain_model.proofs.OneToOne.{one_to_one, once_borne, number_after}
+use Rattle.chain_model.proofs.OneToOne.{one_to_one, number_after}
 use Rattle.chain_model.proofs.Walking.{walks, mirror_alike, above_kinds}
 use Rattle.chain_model.proofs.Borne.{births_then_is, retrievals_then_is, values_final, values_one_by_one, born_not_made}
-use Rattle.chain_model.proofs.Leaving.{leaves, all_born}
+use Rattle.chain_model.proofs.Leaving.{leaves}
 use Rattle.chain_model.proofs.Ending.{told_is, values_other, values_own}
-use Rattle.chain_model.proofs.Terminating.{Answered_by, answers_well, hand_one_is, handle_found}
+use Rattle.chain_model.proofs.Terminating.{Answered_by, answers_well}
 
 -- ---- forms
 
@@ -108,10 +109,9 @@ no_forms reach form k (s ∷ states) none = (none k (omega arith), no_forms reac
 -- ---- a begin
 
 -- the session's handles are those above the first part
-top_form : (states : List PartState) (bs : List Birth) (f : Object → ℕ) (handed : List Handed) (c : CallContent) (args : List (List Argument)) → handed ≡ handed_by (handle_above states bs f) bs → KnowsArgs (born_in bs) args
+top_form : (states : List PartState) (bs : List Birth) (f : Object → ℕ) (handed : List Handed) (c : CallContent) (args : List (List Argument)) → ((o : Object) → born_in bs o ≡ true → handle_in handed o ≡ handle_above states bs f o) → KnowsArgs (born_in bs) args
     → form_by (handle_in handed) c args ≡ form_by (handle_above states bs f) c args
-top_form states bs f handed c args is ks =
-    ap (λ hs. form_by (handle_in hs) c args) is ∙ forms_alike (born_in bs) (handle_in (handed_by (handle_above states bs f) bs)) (handle_above states bs f) c args (λ o born. handle_found (handle_above states bs f) bs o born) ks
+top_form states bs f handed c args is ks = forms_alike (born_in bs) (handle_in handed) (handle_above states bs f) c args is ks
 
 -- the walk of a call finds what the past says, and goes well
 pub walk_well : (k : ChainKept) (past : Past) (replies : List ReplyContent) (o : Opened) → ChainStands k past replies → Sound past k.states → AreTyped (row_of o.cmd).params o.args → KnowsArgs (born_in (births (history past))) o.args
@@ -142,8 +142,9 @@ begins_walked k past replies replies2 e o reports st so typed ks goes stop_is ba
       mirror = mirror_alike bs rs (first_of (valued (Began e o reports ∷ past) replies2)) (seen_begun (seen_past past) (call_of o) w.found.stop) (seen_past (Began e o reports ∷ past)) 1 w.states (λ j l. seen_is j)
           (subst (λ vs. StatesMirror bs rs (first_of vs) (seen_begun (seen_past past) (call_of o) w.found.stop) 1 w.states) v well.mirror);
       ids = subst (λ vs. Mirrors (List Value) is_bare (last_values vs) bs rs k.terminator) v st.ids;
-      handed = st.handed
-          ∙ (ap (λ vs. handed_by (handle_above k.states bs (first_of vs)) bs) v ∙ ap (λ (g : Object → ℕ). handed_by g bs) (sym (above_kinds w.states k.states bs (first_of (valued (Began e o reports ∷ past) replies2)) well.kinds)));
+      handed = λ x born.
+          st.handed x born
+          ∙ (ap (λ vs. handle_above k.states bs (first_of vs) x) v ∙ ap (λ (g : Object → ℕ). g x) (sym (above_kinds w.states k.states bs (first_of (valued (Began e o reports ∷ past) replies2)) well.kinds)));
       held = held_more w.states bs (held_of o w.forms w.bottom) o refl
           (forms_kinds (reaches o) (form_by (number_in bs) (base_of o) o.args) 1 k.states w.states w.forms (sym well.kinds)
           (subst (λ (r : ℕ → Bool). AreForms r (form_by (number_in bs) (base_of o) o.args) 1 k.states w.forms) (λ i j. sym (reach_is j) i) well.forms))
@@ -163,7 +164,7 @@ begins_none k past replies replies2 e o reports st none stopped back =
       mirror = mirror_alike bs rs (first_of (valued (Began e o reports ∷ past) replies2)) (seen_past past) (seen_past (Began e o reports ∷ past)) 1 k.states
           (λ j l. ap (λ t. cond t (Begins (call_of o) (stops_at o j) ∷ seen_past past j) (seen_past past j)) (none j l)) (subst (λ vs. StatesMirror bs rs (first_of vs) (seen_past past) 1 k.states) v st.mirror);
       ids = subst (λ vs. Mirrors (List Value) is_bare (last_values vs) bs rs k.terminator) v st.ids;
-      handed = st.handed ∙ ap (λ vs. handed_by (handle_above k.states bs (first_of vs)) bs) v;
+      handed = λ x born. st.handed x born ∙ ap (λ vs. handle_above k.states bs (first_of vs) x) v;
       held = held_more k.states bs (held_of o [] (base_of o)) o refl (no_forms (reaches o) (form_by (number_in bs) (base_of o) o.args) 1 k.states none) (λ r n. absurd (stopped r n)) k.held (open_calls past) st.held;
       sole = subst AreSole v st.sole;
     }
@@ -177,18 +178,6 @@ told_well k past replies o st typed ks bottom is driver =
     (told_is (valued past replies) (first_of (valued past replies)) (births (history past)) (retrievals past) k.terminator (λ x. refl) (λ x w. record { one = st.sole x w }) st.ids driver (row_of o.cmd).params o.args typed ks)
 
 -- ---- a return
-
--- the handles after all results
-hand_all_is : (created : Bool) (owners : List Object) (val : Born → ℕ) (rest : List ℕ) (made : List Born) (g : Object → ℕ) (bs : List Birth) → AreOnce bs
-    → hand_all (handed_by g bs) made (map val made ++ rest) ≡ handed_by (values_after val g made) (births_after created owners bs made)
-hand_all_is created owners val rest [] g bs once = refl
-hand_all_is created owners val rest (b ∷ made) g bs once =
-    ap (λ hs. hand_all hs made (map val made ++ rest)) (hand_one_is created owners g b.object (val b) bs once)
-    ∙ hand_all_is created owners val rest made (with_value g b.object (val b)) (bear created owners bs b.object) (once_borne created owners bs b.object once)
-
-handed_cong : (f g : Object → ℕ) (all bs : List Birth) → ((o : Object) → born_in all o ≡ true → f o ≡ g o) → AllByRecursion (λ b. born_in all b.object ≡ true) bs → handed_by f bs ≡ handed_by g bs
-handed_cong f g all [] alike ks = refl
-handed_cong f g all (b ∷ bs) alike ks = ap (λ h. record { object = b.object; handle = h } ∷ handed_by f bs) (alike b.object ks.0) ∙ ap (λ xs. record { object = b.object; handle = g b.object } ∷ xs) (handed_cong f g all bs alike ks.1)
 
 -- the other open calls stay open, in the tokens then
 held_left : (states states2 : List PartState) (bs bs2 : List Birth) (thread : ℕ) → map kind_of states ≡ map kind_of states2 → ((x : Object) → born_in bs x ≡ true → number_in bs2 x ≡ number_in bs x) → (held : List Held) (opens : List Opened)
@@ -288,14 +277,12 @@ returns_sent {X = X} k past replies o h made lost st so typed ks forms bottom re
       mirror = subst (λ b. StatesMirror b (retrievals (Returned o made ∷ past)) (first_of vs2) (seen_past (Returned o made ∷ past)) 1 up.states) tb_is
           (subst (λ r. StatesMirror tb r (first_of vs2) (seen_past (Returned o made ∷ past)) 1 up.states) tk_is left.mirror);
       ids = subst (λ b. Mirrors (List Value) is_bare (last_values vs2) b (retrievals (Returned o made ∷ past)) all.ids) tb_is (subst (λ r. Mirrors (List Value) is_bare (last_values vs2) tb r all.ids) tk_is ended.mirrors);
-      handed = subst (λ b. hand_all k.handed made up.results ≡ handed_by (handle_above up.states b (first_of vs2)) b) tb_is
-          (ap (λ hs. hand_all k.handed made hs) left.results
-          ∙ (ap (λ hs. hand_all hs made (map val_up made ++ map (λ _. 0) lost)) st.handed
-          ∙ (hand_all_is (creates (row_of o.cmd).effect) (owners_by bs o.args (row_of o.cmd).effect) val_up (map (λ _. 0) lost) made (handle_above k.states bs (first_of vs)) bs so.once
-          ∙ (handed_cong (values_after val_up (handle_above k.states bs (first_of vs)) made) (handle_above k.states tb (first_of vs2)) tb tb
-          (λ x b. values_final val_up (handle_above k.states tb (first_of vs2)) made (all_refl val_up made) (handle_above k.states bs (first_of vs)) x
-          (λ e. stays_above x (stays x (sym (born_not_made (creates (row_of o.cmd).effect) (owners_by bs o.args (row_of o.cmd).effect) bs made x e) ∙ b)) (keeps x e))) (all_born [] tb)
-          ∙ ap (λ (g : Object → ℕ). handed_by g tb) (sym (above_kinds up.states k.states tb (first_of vs2) left.kinds))))));
+      handed = subst (λ bs2. (x : Object) → born_in bs2 x ≡ true → handle_in (hand_all k.handed made up.results) x ≡ handle_above up.states bs2 (first_of vs2) x) tb_is
+          (λ x b. ap (λ hs. handle_in (hand_all k.handed made hs) x) left.results
+          ∙ (handle_in_all val_up (map (λ _. 0) lost) made k.handed x
+          ∙ (values_final val_up (handle_above k.states tb (first_of vs2)) made (all_refl val_up made) (handle_in k.handed) x
+          (λ e. let was : born_in bs x ≡ true = sym (born_not_made (creates (row_of o.cmd).effect) (owners_by bs o.args (row_of o.cmd).effect) bs made x e) ∙ b in st.handed x was ∙ stays_above x (stays x was) (keeps x e))
+          ∙ ap (λ (g : Object → ℕ). g x) (sym (above_kinds up.states k.states tb (first_of vs2) left.kinds)))));
       held = subst (λ b. HeldStand up.states b (other_held o.thread k.held) (filter (λ x. not (is_of o.thread x)) (open_calls past))) tb_is
           (held_left k.states up.states bs tb o.thread (sym left.kinds) stays k.held (open_calls past) so.open_known st.held);
       sole = λ x w d. subst (λ (g : Object → List Value). value_for d (g x) ≡ first_value (g x)) (values_one_by_one val vs made) (sole_after val made well.sole (last_values vs) x w (st.sole x w) d);
@@ -347,8 +334,9 @@ returns_skipped {X = X} k past replies o h lost st so typed ks asks forms =
           (subst (λ r. StatesMirror bs r (first_of vs) (seen_past (Returned o [] ∷ past)) 1 up.states) rs_is left.mirror));
       ids = subst (λ v. Mirrors (List Value) is_bare (last_values v) (births (history (Returned o [] ∷ past))) (retrievals (Returned o [] ∷ past)) k.terminator) vs_is
           (subst (λ b. Mirrors (List Value) is_bare (last_values vs) b (retrievals (Returned o [] ∷ past)) k.terminator) bs_is (subst (λ r. Mirrors (List Value) is_bare (last_values vs) bs r k.terminator) rs_is st.ids));
-      handed = subst (λ v. k.handed ≡ handed_by (handle_above up.states (births (history (Returned o [] ∷ past))) (first_of v)) (births (history (Returned o [] ∷ past)))) vs_is
-          (subst (λ b. k.handed ≡ handed_by (handle_above up.states b (first_of vs)) b) bs_is (st.handed ∙ ap (λ (g : Object → ℕ). handed_by g bs) (sym (above_kinds up.states k.states bs (first_of vs) left.kinds))));
+      handed = subst (λ v. (x : Object) → born_in (births (history (Returned o [] ∷ past))) x ≡ true → handle_in k.handed x ≡ handle_above up.states (births (history (Returned o [] ∷ past))) (first_of v) x) vs_is
+          (subst (λ b. (x : Object) → born_in b x ≡ true → handle_in k.handed x ≡ handle_above up.states b (first_of vs) x) bs_is
+          (λ x born. st.handed x born ∙ ap (λ (g : Object → ℕ). g x) (sym (above_kinds up.states k.states bs (first_of vs) left.kinds))));
       held = subst (λ b. HeldStand up.states b (other_held o.thread k.held) (filter (λ x. not (is_of o.thread x)) (open_calls past))) bs_is
           (held_left k.states up.states bs bs o.thread (sym left.kinds) (λ x b. refl) k.held (open_calls past) so.open_known st.held);
       sole = subst AreSole vs_is st.sole;
@@ -488,7 +476,7 @@ start_stands k past replies o ps st none first beside known born guard = record 
   guard = guard;
   mirror = fresh_mirror past o (first_of (valued past replies)) first known born ps 1 (omega arith);
   ids = st.ids;
-  handed = st.handed ∙ (ap (handed_by (handle_above k.states (births (history past)) (first_of (valued past replies)))) first.born ∙ sym (ap (handed_by (handle_above (map (fresh_of o) ps) (births (history past)) (first_of (valued past replies)))) first.born));
+  handed = λ x b. let none_born : false ≡ true = ap (λ bs. born_in bs x) (sym first.born) ∙ b in cc none_born;
   held = fresh_held o (births (history past)) ps k.held (open_calls past) beside (subst (λ states. HeldStand states (births (history past)) k.held (open_calls past)) none st.held);
   sole = st.sole;
 }

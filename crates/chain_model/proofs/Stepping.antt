@@ -137,4 +137,4 @@ return_fits s past thread ps fits = go (find (is_of thread) (open_calls past))
 -- ---- nothing yet
 
 pub nothing_stands : ChainStands no_chain [] []
-nothing_stands = record { guard = refl; mirror = tt; ids = record { entries = refl; kept = refl }; handed = refl; held = tt; sole = λ o w d. refl }
+nothing_stands = record { guard = refl; mirror = tt; ids = record { entries = refl; kept = refl }; handed = λ o born. cc born; held = tt; sole = λ o w d. refl }

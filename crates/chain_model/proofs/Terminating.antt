@@ -13,7 +13,7 @@ use Rattle.command_tables.specs.Calls.{CallContent}
 use Rattle.command_tables.specs.Table.{ParamSpec, row_of}
 use Rattle.command_tables.specs.Effects.{type_made}
 use Rattle.object_model.specs.Objects.{same}
-use Rattle.object_model.specs.History.{Birth, born_in}
+use Rattle.object_model.specs.History.{Birth}
 use Rattle.replay_model.specs.Past.{Retrieval}
 use Rattle.object_model.specs.Keys.{key_payload}
 use Rattle.object_model.specs.Values.{Answered, Value, first_value, values_answered}
@@ -21,15 +21,14 @@ use Rattle.replay_model.specs.Direct.{Valued, last_values}
 use Rattle.layer_model.specs.Ids.{is_wrapped, is_bare, IssuedAll, issue_all}
 use Rattle.chain_model.specs.Tokens.{issued_with, number_in}
 use Rattle.chain_model.specs.Mirrored.{Mirrors}
-use Rattle.chain_model.proofs.OneByOne.{with_value, Asking, AreDecided, AreApart, ArePlaced, AreOnce, AreRetrieved, AsksBorn, key_of, bear, values_after, offered, numbered}
+use Rattle.chain_model.proofs.OneByOne.{Asking, AreDecided, AreApart, ArePlaced, AreOnce, AreRetrieved, AsksBorn, key_of, values_after, offered, numbered}
 use Rattle.layer_model.specs.Reading.{read_call, read_params}
 use Rattle.layer_model.specs.Parts.{key_read}
 use Rattle.chain_model.specs.Chained.{form_by, handle_by, is_unborn, handle_above}
 use Rattle.chain_model.proofs.Passing.{AreTyped, creates, owners_by, asking_by, births_then, retrievals_then, HaveMade, is_made, results_above}
 use Rattle.layer_model.specs.Terminator.{Terminator, plain_handle, terminator_results, terminator_leave}
 use Rattle.chain_model.proofs.Owners.{is_bare_at, owner_is_bare}
-use Rattle.chain_model.specs.Handed.{hand_one, handle_in, handed_by}
-use Rattle.layer_model.proofs.Same.{same_is, same_self, same_sym}
+use Rattle.layer_model.proofs.Same.{same_is}
 use Rattle.chain_model.proofs.Issuing.{AllStepped, issue_mirrors}
 use Rattle.chain_model.proofs.Reading.{read_form}
 use Rattle.chain_model.proofs.Borne.{values_one_by_one}
@@ -166,64 +165,3 @@ module _ {X : Type 0} (now : List Birth) (kept_now : List Retrieval) (vs : List 
           → Good (terminator_results m (key_read c.cmd c.payload (read_call (form_by (handle_above [] now f) c args)) (row_of c.cmd).effect) mt (offered val made lost))
       go None is d = plain (subst (λ ms. AllByRecursion (λ b. is_wrapped b.object.ty ≡ true) ms) (sym d) tt)
       go (Some t) is d = by_type t is d (is_wrapped t) refl
-
--- ---- the session's handles
-
--- one handle more
-pub hand_one_is : (created : Bool) (owners : List Object) (g : Object → ℕ) (o : Object) (h : ℕ) (bs : List Birth) → AreOnce bs → hand_one o h (handed_by g bs) ≡ handed_by (with_value g o h) (bear created owners bs o)
-hand_one_is created owners g o h bs once = go bs once (born_in bs o) refl
-  where
-    other : (xs : List Birth) → born_in xs o ≡ false → handed_by (with_value g o h) xs ≡ handed_by g xs
-    other [] e = refl
-    other (x ∷ xs) e =
-        let a : same x.object o ≡ false = left (same x.object o) (born_in xs o) e in
-        ap (λ u. record { object = x.object; handle = cond u h (g x.object) } ∷ handed_by (with_value g o h) xs) (sym (same_sym x.object o) ∙ a) ∙ ap (λ ys. record { object = x.object; handle = g x.object } ∷ ys) (other xs (right (same x.object o) (born_in xs o) e))
-      where
-        left : (p q : Bool) → (p || q) ≡ false → p ≡ false
-        left false q e = refl
-        left true q e = cc e
-
-        right : (p q : Bool) → (p || q) ≡ false → q ≡ false
-        right false q e = e
-        right true q e = cc e
-
-    fresh : (xs : List Birth) → born_in xs o ≡ false → hand_one o h (handed_by g xs) ≡ handed_by (with_value g o h) (xs ++ record { object = o; created = created; owners = owners } ∷ [])
-    fresh [] e = ap (λ u. record { object = o; handle = cond u h (g o) } ∷ []) (sym (same_self o))
-    fresh (x ∷ xs) e =
-        let a : same x.object o ≡ false = left (same x.object o) (born_in xs o) e in
-        rw a (ap (λ ys. record { object = x.object; handle = g x.object } ∷ ys) (fresh xs (right (same x.object o) (born_in xs o) e))
-        ∙ ap (λ u. record { object = x.object; handle = cond u h (g x.object) } ∷ handed_by (with_value g o h) (xs ++ record { object = o; created = created; owners = owners } ∷ [])) (sym (sym (same_sym x.object o) ∙ a)))
-      where
-        left : (p q : Bool) → (p || q) ≡ false → p ≡ false
-        left false q e = refl
-        left true q e = cc e
-
-        right : (p q : Bool) → (p || q) ≡ false → q ≡ false
-        right false q e = e
-        right true q e = cc e
-
-    known : (xs : List Birth) → AreOnce xs → born_in xs o ≡ true → hand_one o h (handed_by g xs) ≡ handed_by (with_value g o h) xs
-    known [] n e = cc e
-    known (x ∷ xs) n e = at (same x.object o) refl (known xs n.1)
-      where
-        at : (u : Bool) → same x.object o ≡ u → (born_in xs o ≡ true → hand_one o h (handed_by g xs) ≡ handed_by (with_value g o h) xs) → hand_one o h (handed_by g (x ∷ xs)) ≡ handed_by (with_value g o h) (x ∷ xs)
-        at true k ih =
-            let gone : born_in xs o ≡ false = ap (born_in xs) (sym (same_is x.object o k)) ∙ n.0 in
-            rw k (ap (λ ys. record { object = x.object; handle = h } ∷ ys) (sym (other xs gone))
-            ∙ ap (λ u. record { object = x.object; handle = cond u h (g x.object) } ∷ handed_by (with_value g o h) xs) (sym (sym (same_sym x.object o) ∙ k)))
-        at false k ih =
-            rw k (ap (λ ys. record { object = x.object; handle = g x.object } ∷ ys) (ih (sym (ap (λ t. t || born_in xs o) k) ∙ e))
-            ∙ ap (λ u. record { object = x.object; handle = cond u h (g x.object) } ∷ handed_by (with_value g o h) xs) (sym (sym (same_sym x.object o) ∙ k)))
-
-    go : (xs : List Birth) → AreOnce xs → (u : Bool) → born_in xs o ≡ u → hand_one o h (handed_by g xs) ≡ handed_by (with_value g o h) (cond u xs (xs ++ record { object = o; created = created; owners = owners } ∷ []))
-    go xs n true e = known xs n e
-    go xs n false e = fresh xs e
-
--- the handle of a born object
-pub handle_found : (g : Object → ℕ) (bs : List Birth) (o : Object) → born_in bs o ≡ true → handle_in (handed_by g bs) o ≡ g o
-handle_found g [] o e = cc e
-handle_found g (b ∷ bs) o e = go (same b.object o) refl (handle_found g bs o)
-  where
-    go : (u : Bool) → same b.object o ≡ u → (born_in bs o ≡ true → handle_in (handed_by g bs) o ≡ g o) → handle_in (handed_by g (b ∷ bs)) o ≡ g o
-    go true k ih = rw k (ap g (same_is b.object o k))
-    go false k ih = rw k (ih (sym (ap (λ t. t || born_in bs o) k) ∙ e))

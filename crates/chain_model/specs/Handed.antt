@@ -1,10 +1,9 @@
 -- The handles of objects above the first part. Source: this project.
-use Rattle.std.specs.Prelude.{ℕ, if◌then◌else◌, List, [], ◌∷◌, map, find}
+use Rattle.std.specs.Prelude.{ℕ, if◌then◌else◌, List, [], ◌∷◌, find}
 use Rattle.std.specs.Option.{option_map_or}
 use Rattle.object_model.specs.declared.Object.{Object}
 use Rattle.replay_model.specs.declared.Born.{Born}
 use Rattle.object_model.specs.Objects.{same}
-use Rattle.object_model.specs.History.{Birth}
 
 -- ---- the session's handles
 
@@ -27,7 +26,3 @@ hand_all handed (b ∷ made) (h ∷ hs) = hand_all (hand_one b.object h handed) 
 -- the handle of an object
 abbrev pub handle_in : List Handed → Object → ℕ
 handle_in handed o = option_map_or (λ x. x.handle) (find (λ x. same x.object o) handed) 0
-
--- all born objects with these handles
-abbrev pub handed_by : (Object → ℕ) → List Birth → List Handed
-handed_by g bs = map (λ b. record { object = b.object; handle = g b.object }) bs

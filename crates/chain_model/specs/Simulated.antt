@@ -6,7 +6,7 @@ use Rattle.object_model.specs.declared.PartKind.{PartKind}
 use Rattle.object_model.specs.declared.PartKind.TheVariants as part
 use Rattle.command_tables.specs.Calls.{CallContent, ReplyContent}
 use Rattle.command_tables.specs.Table.{row_of}
-use Rattle.object_model.specs.History.{Birth, births}
+use Rattle.object_model.specs.History.{Birth, births, born_in}
 use Rattle.replay_model.specs.Past.{Opened, Past, history, retrievals, open_calls}
 use Rattle.object_model.specs.Findings.{Findings, is_failing, at_place}
 use Rattle.replay_model.specs.ChainPlaces.{seen_past, reaches}
@@ -20,7 +20,7 @@ use Rattle.command_tables.specs.Effects.{type_made}
 use Rattle.layer_model.specs.Routes.{routes_then}
 use Rattle.layer_model.specs.Terminator.{Terminator, terminator_leave}
 use Rattle.chain_model.specs.Chained.{AreForms, StatesMirror, form_by, handle_above}
-use Rattle.chain_model.specs.Handed.{Handed, hand_all, handed_by, handle_in}
+use Rattle.chain_model.specs.Handed.{Handed, hand_all, handle_in}
 use Rattle.chain_model.specs.Mirrored.{Mirrors}
 use Rattle.chain_model.specs.Tokens.{number_in}
 
@@ -112,7 +112,7 @@ pub record ChainStands (k : ChainKept) (past : Past) (replies : List ReplyConten
   pub guard : is_guarded k.states ≡ true
   pub mirror : StatesMirror (births (history past)) (retrievals past) (first_of (valued past replies)) (seen_past past) 1 k.states
   pub ids : Mirrors (List Value) is_bare (last_values (valued past replies)) (births (history past)) (retrievals past) k.terminator
-  pub handed : k.handed ≡ handed_by (handle_above k.states (births (history past)) (first_of (valued past replies))) (births (history past))
+  pub handed : (o : Object) → born_in (births (history past)) o ≡ true → handle_in k.handed o ≡ handle_above k.states (births (history past)) (first_of (valued past replies)) o
   pub held : HeldStand k.states (births (history past)) k.held (open_calls past)
   pub sole : AreSole (valued past replies)
 

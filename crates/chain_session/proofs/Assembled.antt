@@ -292,6 +292,7 @@ begins_so s x e number refusal judged sent verdict mid new log0 log1 lines0 line
         reports = p.begun.reports ∙ (ap (λ n. n + length verdict.findings.items) sh.reports ∙ ap (λ n. k.reports + n) (sym (length-map verdict.findings.items report_of) ∙ ap (λ rs. length rs) found));
         parts = record {
           names = ap (λ (n : NamesKept). n.names) named ∙ sh.parts.names;
+          count = ap (λ (n : NamesKept). n.count) named ∙ sh.parts.count;
           births = refl;
           retrieved = ap (λ (n : NamesKept). n.retrieved) named ∙ sh.parts.retrieved;
           states = stays ∙ states;

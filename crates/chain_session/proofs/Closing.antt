@@ -1,5 +1,5 @@
 -- The return of a call by what the program keeps.
-use Rattle.std.proofs.Common.{◌≡◌, ◌∙◌, ◌≤◌, ◌==◌, ◌++◌, ℕ, Bool, true, false, not, cond, filter, Option, Some, None, List, [], ◌∷◌, length, map, refl, ap, sym, subst, arith, eq-eqb}
+use Rattle.std.proofs.Common.{◌≡◌, ◌∙◌, ◌≤◌, ◌==◌, ◌+◌, ◌++◌, ℕ, Bool, true, false, not, cond, filter, Option, Some, None, List, [], ◌∷◌, length, map, refl, ap, sym, subst, arith, eq-eqb}
 use Rattle.std.proofs.lemmas.Bool.{eqb-true}
 use Rattle.std.specs.Prelude.{is_some}
 use Rattle.std.specs.List.{AllByRecursion, find, zip}
@@ -10,6 +10,7 @@ use Rattle.command_tables.specs.declared.types.Code.{Code}
 use Rattle.command_tables.specs.declared.types.CommandId.{CommandId}
 use Rattle.command_tables.specs.declared.types.CommandId.TheVariants as cmd
 use Rattle.command_tables.specs.Tests.{same_command}
+use Rattle.trace_format.specs.declared.event.Name.{Name}
 use Rattle.object_model.specs.declared.PartKind.{PartKind}
 use Rattle.object_model.specs.declared.Routed.{Routed}
 use Rattle.object_model.specs.History.{Birth, births_given, born_in}
@@ -19,14 +20,14 @@ use Rattle.model_driver.specs.declared.driver.DriverReply.{DriverReply}
 use Rattle.replay_model.specs.declared.Born.{Born}
 use Rattle.replay_model.specs.Births.{made_by}
 use Rattle.replay_model.specs.Direct.{Sent}
-use Rattle.replay_model.specs.Past.{Opened, is_of, is_skipped, named_of, objects_of, retrieved_by}
+use Rattle.replay_model.specs.Past.{Opened, is_of, is_skipped, named_of, object_in, objects_of, retrieved_by}
 use Rattle.replay_model.specs.Setup.{Setup, parts_of, refusal_of}
 use Rattle.replay_model.specs.Text.{return_text}
 use Rattle.layer_model.specs.Ids.{IssuedAll}
 use Rattle.layer_model.specs.Routes.{drivers_at, routes_then}
 use Rattle.layer_model.specs.Terminator.{Terminator, terminator_leave}
 use Rattle.layer_model.specs.Walks.{Left, PartState, is_guarded, leave_parts}
-use Rattle.chain_model.specs.Handed.{Handed, hand_all}
+use Rattle.chain_model.specs.Handed.{Handed, hand_all, handle_in}
 use Rattle.chain_model.specs.Simulated.{ChainKept, Held, after_reply, after_skipped, base_of, born_flags, fresh_of, other_held, with_forms, with_parts}
 use Rattle.chain_model.specs.Traces.{held_in_force, in_force, starts_chain}
 use Rattle.chain_model.proofs.Simulating.{left_kinds}
@@ -39,7 +40,8 @@ use Rattle.session_tables.specs.Shown.{args_shown}
 use Rattle.session_model.specs.Session.{SessionKept}
 use Rattle.session_model.specs.Returning.{chain_after_return, given_kept, held_of_thread, kept_after_return, lost_kept, made_kept, sent_of_thread}
 use Rattle.session_model.specs.Steps.{ComeUpApart}
-use Rattle.session_parts.specs.Leaving.{HasNoForms, Returns, chain_at}
+use Rattle.session_model.specs.Tables.{SaySame, with_tables}
+use Rattle.session_parts.specs.Leaving.{HasNoForms, KeepsChain, Returns, chain_at}
 use Rattle.chain_session.specs.declared.call.OpenCall.{OpenCall}
 use Rattle.chain_session.specs.declared.kept.Kept.{Kept}
 use Rattle.chain_session.specs.declared.reporting.Returning.{Returning}
@@ -312,12 +314,13 @@ module _ (s : Setup) (x : Kept) (k : SessionKept) (thread : ℕ) (p : OpenCall) 
           e (left_kinds p.thread (in_force s k.chain o).states (held_in_force s o h).forms (terminator_leave (in_force s k.chain o).terminator (held_in_force s o h).bottom (sent_of p).answers flags).results)
 
   -- what the program keeps then
-  module _ (y : Kept) (calls : y.calls ≡ x.calls) (skipped : y.skipped ≡ x.skipped) (reports : y.reports ≡ x.reports) (names : y.parts.names.kept.names ≡ x.parts.names.kept.names ++ map named_of made)
+  module _ (y : Kept) (calls : y.calls ≡ x.calls) (skipped : y.skipped ≡ x.skipped) (reports : y.reports ≡ x.reports) (names : (q : Name) → object_in y.parts.names.kept.names q ≡ object_in (x.parts.names.kept.names ++ map named_of made) q)
+      (count : y.parts.names.kept.count ≡ x.parts.names.kept.count + length made)
       (births : AreAdded x.parts.names.kept.births (births_given x.parts.names.kept.births (args_shown p.args.items) (row_of p.cmd).effect (objects_of made)) y.parts.names.kept.births)
       (retrieved : y.parts.names.kept.retrieved ≡ x.parts.names.kept.retrieved ++ retrieved_by x.parts.names.kept.births o made) (closed : y.open_calls ≡ filter (λ (c : OpenCall). not (is_of thread (opened_of c))) x.open_calls)
-      (chain : chain_at y.parts.states.kept y.parts.terminator y.parts.names.kept.handed ≡ chain_raised (chain_at x.parts.states.kept x.parts.terminator x.parts.names.kept.handed) p h.forms made) (drivers : y.parts.terminator.drivers ≡ x.parts.terminator.drivers) where
-    chain_is : chain_at y.parts.states.kept y.parts.terminator y.parts.names.kept.handed ≡ record (chain_after_return s k (sent_of p) h) { held = [] }
-    chain_is = chain ∙ raised_then
+      (chain : KeepsChain y.parts.states.kept y.parts.terminator y.parts.names.kept.handed (chain_raised (chain_at x.parts.states.kept x.parts.terminator x.parts.names.kept.handed) p h.forms made)) (drivers : y.parts.terminator.drivers ≡ x.parts.terminator.drivers) where
+    chain_is : chain_at y.parts.states.kept y.parts.terminator y.parts.names.kept.handed ≡ record (chain_after_return s k (sent_of p) h) { handed = y.parts.names.kept.handed; held = [] }
+    chain_is = chain.chain ∙ ap (λ (c : ChainKept). record c { handed = y.parts.names.kept.handed }) raised_then
 
     thread_is : p.thread ≡ thread
     thread_is = open_thread thread x.open_calls p opens
@@ -325,19 +328,26 @@ module _ (s : Setup) (x : Kept) (k : SessionKept) (thread : ℕ) (p : OpenCall) 
     pub since_then : AreAdded k.births (given_kept s k o) y.parts.names.kept.births
     since_then = subst (λ (bs : List Birth). AreAdded bs (births_given bs o.args (row_of o.cmd).effect (objects_of made)) y.parts.names.kept.births) shows.parts.births births
 
-    pub shows_then : Shows s y (kept_after_return s k (sent_of p) h y.parts.names.kept.births)
+    pub same_then : SaySame (kept_after_return s k (sent_of p) h y.parts.names.kept.births) y.parts.names.kept.names y.parts.names.kept.handed
+    same_then = record {
+      names = λ q. names q ∙ ap (λ ns. object_in (ns ++ map named_of made) q) shows.parts.names;
+      handed = λ q. chain.handed q ∙ ap (λ (c : ChainKept). handle_in c.handed q) raised_then;
+    }
+
+    pub shows_then : Shows s y (with_tables (kept_after_return s k (sent_of p) h y.parts.names.kept.births) y.parts.names.kept.names y.parts.names.kept.handed)
     shows_then = record {
       calls = calls ∙ shows.calls;
       skipped = skipped ∙ shows.skipped;
       reports = reports ∙ shows.reports;
       parts = record {
-        names = names ∙ ap (λ ns. ns ++ map named_of made) shows.parts.names;
+        names = refl;
+        count = count ∙ ap (λ n. n + length made) shows.parts.count;
         births = refl;
         retrieved = retrieved ∙ (ap (λ rs. rs ++ retrieved_by x.parts.names.kept.births o made) shows.parts.retrieved ∙ ap (λ (bs : List Birth). k.retrieved ++ retrieved_by bs o made) shows.parts.births);
         states = ap (λ (c : ChainKept). c.states) chain_is;
         ids = ap (λ (c : ChainKept). c.terminator) chain_is;
         routes = ap (λ (c : ChainKept). c.routes) chain_is;
-        handed = ap (λ (c : ChainKept). c.handed) chain_is;
+        handed = refl;
         drivers = drivers ∙ shows.parts.drivers;
       };
       sent = ap (map sent_of) closed ∙ (sent_filter thread x.open_calls ∙ (ap (filter (λ (c : Sent). not (is_of thread c.opened))) shows.sent ∙ ap (λ n. filter (λ (c : Sent). not (is_of n c.opened)) k.sent) (sym thread_is)));
@@ -373,26 +383,31 @@ none_finishes x y thread old_lines lines none = λ s k call held shows found hol
     cc e
 
 pub finishes_so : (x y : Kept) (thread : ℕ) (p : OpenCall) (born : List Born) (old_lines lines : List ℕ) → Some p ≡ find (λ (c : OpenCall). is_of thread (opened_of c)) x.open_calls
-    → born ≡ made_by x.parts.terminator.drivers x.parts.names.kept.births (born_in x.parts.names.kept.births) x.parts.names.kept.retrieved (opened_of p) → y.calls ≡ x.calls → y.skipped ≡ x.skipped → y.reports ≡ x.reports → y.parts.names.kept.names ≡ x.parts.names.kept.names ++ map named_of born
+    → born ≡ made_by x.parts.terminator.drivers x.parts.names.kept.births (born_in x.parts.names.kept.births) x.parts.names.kept.retrieved (opened_of p) → y.calls ≡ x.calls → y.skipped ≡ x.skipped → y.reports ≡ x.reports → ((q : Name) → object_in y.parts.names.kept.names q ≡ object_in (x.parts.names.kept.names ++ map named_of born) q)
+    → y.parts.names.kept.count ≡ x.parts.names.kept.count + length born
     → AreAdded x.parts.names.kept.births (births_given x.parts.names.kept.births (args_shown p.args.items) (row_of p.cmd).effect (objects_of born)) y.parts.names.kept.births
     → y.parts.names.kept.retrieved ≡ x.parts.names.kept.retrieved ++ retrieved_by x.parts.names.kept.births (opened_of p) born → y.open_calls ≡ filter (λ (c : OpenCall). not (is_of thread (opened_of c))) x.open_calls
-    → ((forms : List CallContent) → IsHeldOf p.held (kinds_of x.parts.states.kept) forms → chain_at y.parts.states.kept y.parts.terminator y.parts.names.kept.handed ≡ chain_raised (chain_at x.parts.states.kept x.parts.terminator x.parts.names.kept.handed) p forms born) → y.parts.terminator.drivers ≡ x.parts.terminator.drivers
+    → ((forms : List CallContent) → IsHeldOf p.held (kinds_of x.parts.states.kept) forms → KeepsChain y.parts.states.kept y.parts.terminator y.parts.names.kept.handed (chain_raised (chain_at x.parts.states.kept x.parts.terminator x.parts.names.kept.handed) p forms born)) → y.parts.terminator.drivers ≡ x.parts.terminator.drivers
     → ((s : Setup) → p.refusal ≡ refusal_at s p.cmd p.payload.items → s.drivers ≡ x.parts.terminator.drivers → lines ≡ old_lines ++ return_text s (opened_of p) (length born)) → Finishes x y thread old_lines lines
-finishes_so x y thread p born old_lines lines opens is calls skipped reports names births retrieved closed chain drivers line = λ s k call held shows found holds returns.
+finishes_so x y thread p born old_lines lines opens is calls skipped reports names count births retrieved closed chain drivers line = λ s k call held shows found holds returns.
     let same : call ≡ sent_of p = same_call s x k thread p call shows opens found in
     let mine : Returns s k (sent_of p) held = subst (λ (c : Sent). Returns s k c held) same returns in
     let made : born ≡ made_kept s k (opened_of p) = born_so s x k thread p call held born shows opens found holds returns is in
     let o : Opened = opened_of p in
-    let names2 : y.parts.names.kept.names ≡ x.parts.names.kept.names ++ map named_of (made_kept s k (opened_of p)) = names ∙ ap (λ (ms : List Born). x.parts.names.kept.names ++ map named_of ms) made in
+    let names2 : (q : Name) → object_in y.parts.names.kept.names q ≡ object_in (x.parts.names.kept.names ++ map named_of (made_kept s k (opened_of p))) q
+    = λ q. names q ∙ ap (λ (ms : List Born). object_in (x.parts.names.kept.names ++ map named_of ms) q) made in
+    let count2 : y.parts.names.kept.count ≡ x.parts.names.kept.count + length (made_kept s k (opened_of p)) = count ∙ ap (λ (ms : List Born). x.parts.names.kept.count + length ms) made in
     let births2 : AreAdded x.parts.names.kept.births (births_given x.parts.names.kept.births (args_shown p.args.items) (row_of p.cmd).effect (objects_of (made_kept s k (opened_of p)))) y.parts.names.kept.births
     = subst (λ (ms : List Born). AreAdded x.parts.names.kept.births (births_given x.parts.names.kept.births (args_shown p.args.items) (row_of p.cmd).effect (objects_of ms)) y.parts.names.kept.births) made births in
     let retrieved2 : y.parts.names.kept.retrieved ≡ x.parts.names.kept.retrieved ++ retrieved_by x.parts.names.kept.births (opened_of p) (made_kept s k (opened_of p)) = retrieved ∙ ap (λ (ms : List Born). x.parts.names.kept.retrieved ++ retrieved_by x.parts.names.kept.births (opened_of p) ms) made in
-    let chain2 : chain_at y.parts.states.kept y.parts.terminator y.parts.names.kept.handed ≡ chain_raised (chain_at x.parts.states.kept x.parts.terminator x.parts.names.kept.handed) p held.forms (made_kept s k (opened_of p))
-    = chain held.forms (held_is s x k thread p held shows opens holds mine) ∙ ap (chain_raised (chain_at x.parts.states.kept x.parts.terminator x.parts.names.kept.handed) p held.forms) made in
+    let chain2 : KeepsChain y.parts.states.kept y.parts.terminator y.parts.names.kept.handed (chain_raised (chain_at x.parts.states.kept x.parts.terminator x.parts.names.kept.handed) p held.forms (made_kept s k (opened_of p)))
+    = subst (λ (ms : List Born). KeepsChain y.parts.states.kept y.parts.terminator y.parts.names.kept.handed (chain_raised (chain_at x.parts.states.kept x.parts.terminator x.parts.names.kept.handed) p held.forms ms)) made
+    (chain held.forms (held_is s x k thread p held shows opens holds mine)) in
     subst (λ (c : Sent). Returned s k c held y old_lines lines) (sym same) (record {
       births = y.parts.names.kept.births;
-      since = since_then s x k thread p held shows opens holds mine y calls skipped reports names2 births2 retrieved2 closed chain2 drivers;
-      shows = shows_then s x k thread p held shows opens holds mine y calls skipped reports names2 births2 retrieved2 closed chain2 drivers;
+      since = since_then s x k thread p held shows opens holds mine y calls skipped reports names2 count2 births2 retrieved2 closed chain2 drivers;
+      same = same_then s x k thread p held shows opens holds mine y calls skipped reports names2 count2 births2 retrieved2 closed chain2 drivers;
+      shows = shows_then s x k thread p held shows opens holds mine y calls skipped reports names2 count2 births2 retrieved2 closed chain2 drivers;
       wrote = line s (refusal_is s x k thread p held shows opens holds mine) (sym shows.parts.drivers) ∙ ap (λ (ms : List Born). old_lines ++ return_text s (opened_of p) (length ms)) made;
     })
 

@@ -28,6 +28,7 @@ use Rattle.chain_model.proofs.Stepping.{held_found}
 use Rattle.session_model.specs.Session.{SessionKept}
 use Rattle.session_model.specs.Returning.{held_of_thread, kept_after_return, sent_of_thread}
 use Rattle.session_model.specs.Stands.{HasCall, ReturnsWell, Stands}
+use Rattle.session_model.specs.Tables.{with_tables}
 use Rattle.session_model.proofs.Returned.{opened_is, returns_well}
 use Rattle.session_model.proofs.Steps.{return_steps}
 use Rattle.session_model.proofs.Turns.{returns_busy}
@@ -174,7 +175,11 @@ return_advances s x new thread log lines0 lines1 guarded f = record {
       let so_far : IsGapped events = shorter (Return thread) events trace in
       let g : Returned s st.kept has.call has.form new lines0 lines1 = f s st.kept has.call has.form st.shows has.sent has.held (returns_of s st.kept events thread before has.call has.form guarded so_far st.stands has.sent has.held) in
       let well : ReturnsWell s st.kept events thread before has.call has.form = returns_well s st.kept events thread before has.call has.form guarded so_far st.stands has.sent has.held in
-      record { kept = kept_after_return s st.kept has.call has.form g.births; shows = g.shows; stands = well.stands g.births g.since };
+      record {
+        kept = with_tables (kept_after_return s st.kept has.call has.form g.births) new.parts.names.kept.names new.parts.names.kept.handed;
+        shows = g.shows;
+        stands = well.stands g.births new.parts.names.kept.names new.parts.names.kept.handed g.since g.same;
+      };
   each = λ events before st trace. refl;
   told = λ events before st trace. none_logged log;
   wrote = λ events before st trace.

@@ -8,15 +8,15 @@ use Rattle.chain_session.specs.Opened.{sent_of}
 use Rattle.chain_session.specs.Standing.{Holds}
 
 -- what the program counts is what the definitions keep
-pub holds_so : (x : Kept) (held : ℕ) → held ≡ length x.parts.names.kept.names + length x.parts.names.kept.births + length x.open_calls → AreApart x.parts.names.kept.births → Holds (Some x) held
+pub holds_so : (x : Kept) (held : ℕ) → held ≡ x.parts.names.kept.count + length x.parts.names.kept.births + length x.open_calls → AreApart x.parts.names.kept.births → Holds (Some x) held
 holds_so x held is apart = λ s k shows. (
   is
-      ∙ (ap (λ n. n + length x.parts.names.kept.births + length x.open_calls) (ap length shows.parts.names)
-      ∙ (ap (λ n. length k.names + n + length x.open_calls) (ap length shows.parts.births)
-      ∙ ap (λ n. length k.names + length k.births + n) (sym (length-map x.open_calls sent_of) ∙ ap length shows.sent))),
+      ∙ (ap (λ n. n + length x.parts.names.kept.births + length x.open_calls) shows.parts.count
+      ∙ (ap (λ n. k.count + n + length x.open_calls) (ap length shows.parts.births)
+      ∙ ap (λ n. k.count + length k.births + n) (sym (length-map x.open_calls sent_of) ∙ ap length shows.sent))),
   subst AreApart shows.parts.births apart,
 )
 
 -- nothing before the first begin
 pub holds_none : Holds None 0
-holds_none = λ s k is. subst (λ (y : SessionKept). (0 ≡ length y.names + length y.births + length y.sent) × AreApart y.births) (sym is) (refl, λ i j b c here there same. cc here)
+holds_none = λ s k is. subst (λ (y : SessionKept). (0 ≡ y.count + length y.births + length y.sent) × AreApart y.births) (sym is) (refl, λ i j b c here there same. cc here)

@@ -32,6 +32,7 @@ use Rattle.session_model.specs.Session.{SessionKept, nothing_kept}
 use Rattle.session_model.specs.Beginning.{begun_kept, calls_told, drivers_kept, kept_after_begin, loader_kept, walk_kept}
 use Rattle.session_model.specs.Returning.{chain_after_return, held_of_thread, kept_after_return, lost_kept, made_kept, sent_of_thread}
 use Rattle.session_model.specs.Stands.{AreRepliesTo, BeginsWell, HasNoCall, ReturnsWell}
+use Rattle.session_model.specs.Tables.{with_tables}
 use Rattle.layer_model.specs.Ids.{no_ids}
 use Rattle.session_model.proofs.Began.{begins_well}
 use Rattle.session_model.proofs.Running.{new_stands}
@@ -58,6 +59,7 @@ split_stand s k x events replies st alike =
       kept = st.kept;
       shows = record {
         names = ap (λ (n : NamesKept). n.names) alike.names ∙ shows.names;
+        count = ap (λ (n : NamesKept). n.count) alike.names ∙ shows.count;
         births = ap (λ (n : NamesKept). n.births) alike.names ∙ shows.births;
         retrieved = ap (λ (n : NamesKept). n.retrieved) alike.names ∙ shows.retrieved;
         states = alike.states ∙ shows.states;
@@ -211,28 +213,28 @@ found_still of thread other (x ∷ xs) y apart there = go (of x == other) refl (
     go false e true f there ih = ap (λ v. cond v (Some x) (find (λ x. of x == thread) (filter (λ x. not (of x == other)) xs))) f ∙ there
     go false e false f there ih = ap (λ v. cond v (Some x) (find (λ x. of x == thread) (filter (λ x. not (of x == other)) xs))) f ∙ ih there
 
--- names that are added change none
-one_more : (names more : List Named) (n : Option Name) (a : Argument) → IsRecalled names n a → IsRecalled (names ++ more) n a
-one_more names more n Null is = is
-one_more names more n Unborn is = tt
-one_more names more None (The o) is = absurd is
-one_more names more (Some n) (The o) is = go (find (λ (q : Named). same_name q.name n) names) refl is
+-- names that are added change none, in whatever way they are kept then
+one_more : (names more after : List Named) → ((q : Name) → object_in after q ≡ object_in (names ++ more) q) → (n : Option Name) (a : Argument) → IsRecalled names n a → IsRecalled after n a
+one_more names more after say n Null is = is
+one_more names more after say n Unborn is = tt
+one_more names more after say None (The o) is = absurd is
+one_more names more after say (Some n) (The o) is = say n ∙ go (find (λ (q : Named). same_name q.name n) names) refl is
   where
     go : (f : Option Named) → find (λ (q : Named). same_name q.name n) names ≡ f → option_map (λ (q : Named). q.object) f ≡ Some o → object_in (names ++ more) n ≡ Some o
     go None e h = cc h
     go (Some q) e h = ap (option_map (λ (q : Named). q.object)) (found_before (λ (q : Named). same_name q.name n) names more q e) ∙ h
 
-places_more : (names more : List Named) (written : List (Option Name)) (at : List Argument) → AreRecalled names written at → AreRecalled (names ++ more) written at
-places_more names more [] [] are = tt
-places_more names more [] (a ∷ at) are = absurd are
-places_more names more (n ∷ written) [] are = absurd are
-places_more names more (n ∷ written) (a ∷ at) are = (one_more names more n a are.0, places_more names more written at are.1)
+places_more : (names more after : List Named) → ((q : Name) → object_in after q ≡ object_in (names ++ more) q) → (written : List (Option Name)) (at : List Argument) → AreRecalled names written at → AreRecalled after written at
+places_more names more after say [] [] are = tt
+places_more names more after say [] (a ∷ at) are = absurd are
+places_more names more after say (n ∷ written) [] are = absurd are
+places_more names more after say (n ∷ written) (a ∷ at) are = (one_more names more after say n a are.0, places_more names more after say written at are.1)
 
-all_more : (names more : List Named) (written : List Arg) (args : List (List Argument)) → AllRecalled names written args → AllRecalled (names ++ more) written args
-all_more names more [] [] are = tt
-all_more names more [] (at ∷ args) are = absurd are
-all_more names more (w ∷ written) [] are = absurd are
-all_more names more (w ∷ written) (at ∷ args) are = (places_more names more w.names at are.0, all_more names more written args are.1)
+all_more : (names more after : List Named) → ((q : Name) → object_in after q ≡ object_in (names ++ more) q) → (written : List Arg) (args : List (List Argument)) → AllRecalled names written args → AllRecalled after written args
+all_more names more after say [] [] are = tt
+all_more names more after say [] (at ∷ args) are = absurd are
+all_more names more after say (w ∷ written) [] are = absurd are
+all_more names more after say (w ∷ written) (at ∷ args) are = (places_more names more after say w.names at are.0, all_more names more after say written args are.1)
 
 module _ (s : Setup) (x : SessionParts) (events : List TraceEvent) (replies : List ReplyContent) (ls : List LeftCall) (thread : ℕ) (l : LeftCall) (guarded : GivesGuarded s) (trace : IsGapped events) (st : PartsStand s x events replies ls)
     (there : find (is_left_by thread) ls ≡ Some l) (none : StartsNone l) where
@@ -277,6 +279,10 @@ module _ (s : Setup) (x : SessionParts) (events : List TraceEvent) (replies : Li
     d : Departed s st.kept mine.sent mine.form y count
     d = f s st.kept mine.sent mine.form st.shows mine.opens stays returns
 
+    -- what is kept then
+    abbrev kept_then : SessionKept
+    kept_then = with_tables (kept_after_return s st.kept mine.sent mine.form d.births) y.names.kept.names y.names.kept.handed
+
     returned : ReturnsWell s st.kept events thread replies mine.sent mine.form
     returned = returns_well s st.kept events thread replies mine.sent mine.form guarded trace st.stands sent_is held_is
 
@@ -292,7 +298,7 @@ module _ (s : Setup) (x : SessionParts) (events : List TraceEvent) (replies : Li
         go true e = sym (left_kinds mine.sent.opened.thread st.kept.chain.states mine.form.forms (map (λ _. 0) (lost_kept s st.kept mine.sent.opened)))
         go false e = sym (left_kinds mine.sent.opened.thread (in_force s st.kept.chain mine.sent.opened).states (held_in_force s mine.sent.opened mine.form).forms _ ∙ none_starts (starts_chain mine.sent.opened) (stays e))
 
-    still_left : (q : LeftCall) → (q.begin.thread == thread) ≡ false → IsLeftOpen st.kept q → IsLeftOpen (kept_after_return s st.kept mine.sent mine.form d.births) q
+    still_left : (q : LeftCall) → (q.begin.thread == thread) ≡ false → IsLeftOpen st.kept q → IsLeftOpen kept_then q
     still_left q apart is = record {
       sent = is.sent;
       form = is.form;
@@ -302,7 +308,7 @@ module _ (s : Setup) (x : SessionParts) (events : List TraceEvent) (replies : Li
         left = record {
           thread = is.opens.left.thread;
           cmd = is.opens.left.cmd;
-          args = all_more st.kept.names (map named_of (made_kept s st.kept mine.sent.opened)) q.begin.args is.sent.opened.args is.opens.left.args;
+          args = all_more st.kept.names (map named_of (made_kept s st.kept mine.sent.opened)) y.names.kept.names d.same.names q.begin.args is.sent.opened.args is.opens.left.args;
           results = is.opens.left.results;
           code = is.opens.left.code;
           payload = is.opens.left.payload;
@@ -316,18 +322,18 @@ module _ (s : Setup) (x : SessionParts) (events : List TraceEvent) (replies : Li
       };
     }
 
-    others_left : (qs : List LeftCall) → AreLeftOpen st.kept qs → AreLeftOpen (kept_after_return s st.kept mine.sent mine.form d.births) (filter (λ q. not (is_left_by thread q)) qs)
+    others_left : (qs : List LeftCall) → AreLeftOpen st.kept qs → AreLeftOpen kept_then (filter (λ q. not (is_left_by thread q)) qs)
     others_left [] are = tt
     others_left (q ∷ qs) are = go (q.begin.thread == thread) refl (others_left qs are.1)
       where
-        go : (u : Bool) → (q.begin.thread == thread) ≡ u → AreLeftOpen (kept_after_return s st.kept mine.sent mine.form d.births) (filter (λ q. not (is_left_by thread q)) qs)
-            → AreLeftOpen (kept_after_return s st.kept mine.sent mine.form d.births) (cond (not u) (q ∷ filter (λ q. not (is_left_by thread q)) qs) (filter (λ q. not (is_left_by thread q)) qs))
+        go : (u : Bool) → (q.begin.thread == thread) ≡ u → AreLeftOpen kept_then (filter (λ q. not (is_left_by thread q)) qs)
+            → AreLeftOpen kept_then (cond (not u) (q ∷ filter (λ q. not (is_left_by thread q)) qs) (filter (λ q. not (is_left_by thread q)) qs))
         go true e ih = ih
         go false e ih = (still_left q e are.0, ih)
 
     pub leaves_traced : LeavesTrace s events replies ls thread y count
     leaves_traced = record {
-      stands = record { kept = kept_after_return s st.kept mine.sent mine.form d.births; shows = d.shows; stands = returned.stands d.births d.since; opens = others_left ls st.opens };
+      stands = record { kept = kept_then; shows = d.shows; stands = returned.stands d.births y.names.kept.names y.names.kept.handed d.since d.same; opens = others_left ls st.opens };
       opened = mine.sent.opened;
       open_there = returned.opened;
       counted = d.counted ∙ ap (λ (ms : List Born). length ms) returned.made;
@@ -340,6 +346,7 @@ new_stand s x states ids routes drivers names = record {
   kept = nothing_kept;
   shows = record {
     names = ap (λ (n : NamesKept). n.names) names;
+    count = ap (λ (n : NamesKept). n.count) names;
     births = ap (λ (n : NamesKept). n.births) names;
     retrieved = ap (λ (n : NamesKept). n.retrieved) names;
     states = states;

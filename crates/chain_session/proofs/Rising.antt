@@ -6,6 +6,7 @@ use Rattle.command_tables.specs.Calls.{CallContent, ReplyContent, call_content}
 use Rattle.command_tables.specs.Effects.{type_made}
 use Rattle.command_tables.specs.Table.{row_of}
 use Rattle.command_tables.specs.declared.types.CommandId.{CommandId}
+use Rattle.object_model.specs.declared.Object.{Object}
 use Rattle.object_model.specs.declared.Routed.{Routed}
 use Rattle.object_model.specs.Values.{Value}
 use Rattle.replay_model.specs.declared.Born.{Born}
@@ -17,7 +18,7 @@ use Rattle.layer_model.specs.Parts.{there}
 use Rattle.layer_model.specs.Routes.{routes_then}
 use Rattle.layer_model.specs.Terminator.{Terminator, terminator_leave}
 use Rattle.layer_model.specs.Walks.{PartState, is_guarded, leave_parts}
-use Rattle.chain_model.specs.Handed.{Handed, hand_all}
+use Rattle.chain_model.specs.Handed.{Handed, hand_all, handle_in}
 use Rattle.chain_model.specs.Simulated.{ChainKept, after_skipped, base_of, born_flags, fresh_of}
 use Rattle.chain_model.specs.Traces.{starts_chain}
 use Rattle.chain_model.proofs.Simulating.{fresh_kinds}
@@ -25,7 +26,7 @@ use Rattle.terminator.specs.Calls.{TerminatorState, answered, born_where, driver
 use Rattle.dispatch_chain.specs.Holding.{HeldCalls, IsHeldOf}
 use Rattle.dispatch_chain.specs.Seats.{kinds_of}
 use Rattle.session_model.specs.Steps.{ComeUpApart}
-use Rattle.session_parts.specs.Leaving.{MayRise, chain_at}
+use Rattle.session_parts.specs.Leaving.{KeepsChain, MayRise, chain_at}
 use Rattle.chain_session.specs.declared.call.OpenCall.{OpenCall}
 use Rattle.chain_session.specs.Opened.{opened_of, sent_of}
 use Rattle.chain_session.specs.Raising.{HasAnswers, MayGoUp, MayRaise, chain_raised, chain_sent, forms_due, held_at, left_at, left_where, lost_of, routes_at, states_due}
@@ -69,24 +70,26 @@ below_so t ids c made flags below born left = ap (λ (x : IssuedAll (List Value)
 -- what is kept then
 pub sent_so : (states after : List PartState) (t u : TerminatorState) (handed more : List Handed) (c : OpenCall) (forms : List CallContent) (made : List Born) (flags below above : List ℕ)
     → born_where flags ≡ born_flags made (lost_of c made) → record { results = below; ids = u.ids } ≡ left_where t c (born_where flags) → u.routes ≡ routes_at t c below
-    → after ≡ (leave_parts c.thread states forms below).states → above ≡ (leave_parts c.thread states forms below).results → more ≡ hand_all handed made above → chain_at after u more ≡ chain_sent (chain_at states t handed) c forms made
+    → after ≡ (leave_parts c.thread states forms below).states → above ≡ (leave_parts c.thread states forms below).results → ((q : Object) → handle_in more q ≡ handle_in (hand_all handed made above) q)
+    → KeepsChain after u more (chain_sent (chain_at states t handed) c forms made)
 sent_so states after t u handed more c forms made flags below above born left routes stand up hands =
     let all : IssuedAll (List Value) = left_at t c made in
     let same : below ≡ (left_at t c made).results = below_so t u.ids c made flags below born left in
     let chain : List PartState → Terminator → List Routed → List Handed → ChainKept = λ ss m rs hs. record { states = ss; terminator = m; routes = rs; handed = hs; held = [] } in
-    ap (λ ss. chain ss u.ids u.routes more) (stand ∙ ap (λ rs. (leave_parts c.thread states forms rs).states) same)
-    ∙ (ap (λ m. chain (leave_parts c.thread states forms (left_at t c made).results).states m u.routes more) (ap (λ (x : IssuedAll (List Value)). x.ids) left ∙ ap (λ bs. (left_where t c bs).ids) born)
-    ∙ (ap (λ rs. chain (leave_parts c.thread states forms (left_at t c made).results).states (left_at t c made).ids rs more) (routes ∙ ap (routes_at t c) same)
-    ∙ ap (λ hs. chain (leave_parts c.thread states forms (left_at t c made).results).states (left_at t c made).ids (routes_at t c (left_at t c made).results) hs)
-    (hands ∙ ap (hand_all handed made) (up ∙ ap (λ rs. (leave_parts c.thread states forms rs).results) same))))
+    record {
+      chain = ap (λ ss. chain ss u.ids u.routes more) (stand ∙ ap (λ rs. (leave_parts c.thread states forms rs).states) same)
+          ∙ (ap (λ m. chain (leave_parts c.thread states forms (left_at t c made).results).states m u.routes more) (ap (λ (x : IssuedAll (List Value)). x.ids) left ∙ ap (λ bs. (left_where t c bs).ids) born)
+          ∙ ap (λ rs. chain (leave_parts c.thread states forms (left_at t c made).results).states (left_at t c made).ids rs more) (routes ∙ ap (routes_at t c) same));
+      handed = λ q. hands q ∙ ap (λ rs. handle_in (hand_all handed made rs) q) (up ∙ ap (λ rs. (leave_parts c.thread states forms rs).results) same);
+    }
 
 -- ---- a skipped call
 
 pub skipped_raised : (states after : List PartState) (t : TerminatorState) (handed : List Handed) (c : OpenCall) (forms : List CallContent) (made : List Born) → is_skipped (opened_of c) ≡ true
-    → after ≡ (leave_parts c.thread states forms (map (λ _. 0) (lost_of c made))).states → chain_at after t handed ≡ chain_raised (chain_at states t handed) c forms made
+    → after ≡ (leave_parts c.thread states forms (map (λ _. 0) (lost_of c made))).states → KeepsChain after t handed (chain_raised (chain_at states t handed) c forms made)
 skipped_raised states after t handed c forms made skipped stand =
-    ap (λ ss. chain_at ss t handed) stand
-    ∙ ap (λ b. cond b (after_skipped (chain_at states t handed) (opened_of c) (held_at c forms) (lost_of c made)) (chain_sent (chain_at (states_due states c) t handed) c (forms_due c forms) made)) (sym skipped)
+    subst (λ b. KeepsChain after t handed (cond b (after_skipped (chain_at states t handed) (opened_of c) (held_at c forms) (lost_of c made)) (chain_sent (chain_at (states_due states c) t handed) c (forms_due c forms) made))) (sym skipped)
+    (record { chain = ap (λ ss. chain_at ss t handed) stand; handed = λ q. refl })
 
 -- ---- a call that was sent
 
@@ -131,11 +134,12 @@ started_guard states mid t c made may goes starts e = ap is_guarded (e ∙ sym (
 
 pub started_raised : (states mid after : List PartState) (t u : TerminatorState) (handed more : List Handed) (c : OpenCall) (forms : List CallContent) (made : List Born) (held : HeldCalls) → is_skipped (opened_of c) ≡ false → starts_chain (opened_of c) ≡ true
     → mid ≡ new_parts c → IsHeldOf held (kinds_chained c.chain) (new_forms c)
-    → ((fs : List CallContent) → IsHeldOf held (kinds_of mid) fs → chain_at after u more ≡ chain_sent (chain_at mid t handed) c fs made) → chain_at after u more ≡ chain_raised (chain_at states t handed) c forms made
+    → ((fs : List CallContent) → IsHeldOf held (kinds_of mid) fs → KeepsChain after u more (chain_sent (chain_at mid t handed) c fs made)) → KeepsChain after u more (chain_raised (chain_at states t handed) c forms made)
 started_raised states mid after t u handed more c forms made held goes starts e h sent =
-    sent (new_forms c) (held_new mid c held e h)
-    ∙ (ap (λ ss. chain_sent (chain_at ss t handed) c (new_forms c) made) (e ∙ sym (due_states true states c starts))
+    subst (KeepsChain after u more)
+    (ap (λ ss. chain_sent (chain_at ss t handed) c (new_forms c) made) (e ∙ sym (due_states true states c starts))
     ∙ (ap (λ fs. chain_sent (chain_at (states_due states c) t handed) c fs made) (sym (due_forms true c forms starts)) ∙ sym (raised_is states t handed c forms made goes)))
+    (sent (new_forms c) (held_new mid c held e h))
 
 pub sent_rise : (states : List PartState) (t : TerminatorState) (c : OpenCall) (made : List Born) → MayRaise states t c made → is_skipped (opened_of c) ≡ false → starts_chain (opened_of c) ≡ false → MayRise c.thread states c.held (left_at t c made).results
 sent_rise states t c made may goes starts =
@@ -149,8 +153,10 @@ sent_rise states t c made may goes starts =
       apart = subst (λ ss. ComeUpApart c.thread ss may.forms (left_at t c made).results) there (subst (λ fs. ComeUpApart c.thread (states_due states c) fs (left_at t c made).results) form up.apart);
     }
 
-pub sent_raised : (states : List PartState) (t : TerminatorState) (handed : List Handed) (c : OpenCall) (forms : List CallContent) (made : List Born) → is_skipped (opened_of c) ≡ false → starts_chain (opened_of c) ≡ false
-    → chain_sent (chain_at states t handed) c forms made ≡ chain_raised (chain_at states t handed) c forms made
-sent_raised states t handed c forms made goes starts =
-    ap (λ ss. chain_sent (chain_at ss t handed) c forms made) (sym (due_states false states c starts))
-    ∙ (ap (λ fs. chain_sent (chain_at (states_due states c) t handed) c fs made) (sym (due_forms false c forms starts)) ∙ sym (raised_is states t handed c forms made goes))
+pub sent_raised : (states after : List PartState) (t u : TerminatorState) (handed more : List Handed) (c : OpenCall) (forms : List CallContent) (made : List Born) → is_skipped (opened_of c) ≡ false → starts_chain (opened_of c) ≡ false
+    → KeepsChain after u more (chain_sent (chain_at states t handed) c forms made) → KeepsChain after u more (chain_raised (chain_at states t handed) c forms made)
+sent_raised states after t u handed more c forms made goes starts sent =
+    subst (KeepsChain after u more)
+    (ap (λ ss. chain_sent (chain_at ss t handed) c forms made) (sym (due_states false states c starts))
+    ∙ (ap (λ fs. chain_sent (chain_at (states_due states c) t handed) c fs made) (sym (due_forms false c forms starts)) ∙ sym (raised_is states t handed c forms made goes)))
+    sent

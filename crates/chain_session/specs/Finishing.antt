@@ -7,6 +7,7 @@ use Rattle.chain_model.specs.Simulated.{Held}
 use Rattle.session_model.specs.Session.{SessionKept}
 use Rattle.session_tables.specs.Lined.{AreAdded}
 use Rattle.session_model.specs.Returning.{given_kept, held_of_thread, kept_after_return, return_line, sent_of_thread}
+use Rattle.session_model.specs.Tables.{SaySame, with_tables}
 use Rattle.session_parts.specs.Leaving.{Returns}
 use Rattle.chain_session.specs.declared.kept.Kept.{Kept}
 use Rattle.chain_session.specs.Shown.{Shows}
@@ -22,11 +23,12 @@ pub record CanFinish (x : Kept) (thread : ℕ) : Type 0 where
   pub holds : held_of_thread kept thread ≡ Some held
   pub returns : Returns setup kept call held
 
--- what a return comes to: the births of what lives then, what is kept, and its line
+-- what a return comes to: the births of what lives then, what is kept, with names and handles that say the same, and its line
 pub record Returned (s : Setup) (k : SessionKept) (call : Sent) (held : Held) (new : Kept) (old_lines lines : List ℕ) : Type 0 where
   pub births : List Birth
   pub since : AreAdded k.births (given_kept s k call.opened) births
-  pub shows : Shows s new (kept_after_return s k call held births)
+  pub same : SaySame (kept_after_return s k call held births) new.parts.names.kept.names new.parts.names.kept.handed
+  pub shows : Shows s new (with_tables (kept_after_return s k call held births) new.parts.names.kept.names new.parts.names.kept.handed)
   pub wrote : lines ≡ old_lines ++ return_line s k call.opened
 
 -- so it is for whatever the program keeps

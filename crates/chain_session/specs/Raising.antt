@@ -1,5 +1,5 @@
 -- How the results of a call come up at its return. Source: this project.
-use Rattle.std.specs.Prelude.{◌≡◌, ◌≤◌, ℕ, Bool, true, false, ◌++◌, if◌then◌else◌, List, [], drop, length, map}
+use Rattle.std.specs.Prelude.{◌≡◌, ◌≤◌, ◌+◌, ℕ, Bool, true, false, ◌++◌, if◌then◌else◌, List, [], drop, length, map}
 use Rattle.command_tables.specs.Calls.{CallContent, call_content}
 use Rattle.command_tables.specs.Effects.{type_made}
 use Rattle.command_tables.specs.Table.{row_of}
@@ -7,7 +7,7 @@ use Rattle.trace_format.specs.declared.event.Name.{Name}
 use Rattle.object_model.specs.declared.Routed.{Routed}
 use Rattle.object_model.specs.Values.{Value}
 use Rattle.replay_model.specs.declared.Born.{Born}
-use Rattle.replay_model.specs.Past.{is_skipped, named_of, objects_of, retrieved_by}
+use Rattle.replay_model.specs.Past.{is_skipped, named_of, object_in, objects_of, retrieved_by}
 use Rattle.layer_model.specs.Ids.{IssuedAll}
 use Rattle.layer_model.specs.Routes.{routes_then}
 use Rattle.layer_model.specs.Terminator.{terminator_leave}
@@ -23,7 +23,7 @@ use Rattle.replay_model.specs.Births.{made_by}
 use Rattle.session_tables.specs.Lined.{AreAdded}
 use Rattle.session_tables.specs.Shown.{args_shown}
 use Rattle.session_parts.specs.declared.parts.SessionParts.{SessionParts}
-use Rattle.session_parts.specs.Leaving.{chain_at}
+use Rattle.session_parts.specs.Leaving.{KeepsChain, chain_at}
 use Rattle.chain_session.specs.declared.call.OpenCall.{OpenCall}
 use Rattle.chain_session.specs.Opened.{opened_of, sent_of}
 use Rattle.chain_session.specs.Shown.{kinds_chained}
@@ -103,9 +103,10 @@ made_at x p = made_by x.terminator.drivers x.names.kept.births (born_in x.names.
 -- call.
 pub record ComesBack (old : SessionParts) (p : OpenCall) (new : SessionParts) (count : ℕ) : Type 0 where
   pub counted : count ≡ length (made_at old p)
-  pub names : new.names.kept.names ≡ old.names.kept.names ++ map named_of (made_at old p)
+  pub names : (q : Name) → object_in new.names.kept.names q ≡ object_in (old.names.kept.names ++ map named_of (made_at old p)) q
+  pub names_count : new.names.kept.count ≡ old.names.kept.count + length (made_at old p)
   pub births : AreAdded old.names.kept.births (births_given old.names.kept.births (args_shown p.args.items) (row_of p.cmd).effect (objects_of (made_at old p))) new.names.kept.births
   pub retrieved : new.names.kept.retrieved ≡ old.names.kept.retrieved ++ retrieved_by old.names.kept.births (opened_of p) (made_at old p)
   pub chain : (forms : List CallContent) → IsHeldOf p.held (kinds_of old.states.kept) forms
-      → chain_at new.states.kept new.terminator new.names.kept.handed ≡ chain_raised (chain_at old.states.kept old.terminator old.names.kept.handed) p forms (made_at old p)
+      → KeepsChain new.states.kept new.terminator new.names.kept.handed (chain_raised (chain_at old.states.kept old.terminator old.names.kept.handed) p forms (made_at old p))
   pub drivers : new.terminator.drivers ≡ old.terminator.drivers

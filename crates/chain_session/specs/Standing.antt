@@ -64,9 +64,9 @@ ReturnsAs old new thread old_lines lines = (s : Setup) → GivesGuarded s → (l
 abbrev pub Counts : Option Kept → ℕ → ℕ → ℕ → Type 0
 Counts x calls skipped reports = (s : Setup) (k : SessionKept) → ShowsOnce s x k → (calls ≡ k.calls) × ((skipped ≡ k.skipped) × (reports ≡ k.reports))
 
--- so many entries are kept: one for each name, for each object that lives and for each open call, and no object has two
+-- so many names came to stand for objects, so many objects live and so many calls are open, in one sum, and no object that lives has two births
 abbrev pub Holds : Option Kept → ℕ → Type 0
-Holds x held = (s : Setup) (k : SessionKept) → ShowsOnce s x k → (held ≡ length k.names + length k.births + length k.sent) × AreApart k.births
+Holds x held = (s : Setup) (k : SessionKept) → ShowsOnce s x k → (held ≡ k.count + length k.births + length k.sent) × AreApart k.births
 
 -- a begin that memory cut short: the first so many of its calls were told
 abbrev pub CutBefore : Setup → Option Kept → BeginEvent → Log → Log → Type 0

@@ -27,9 +27,9 @@ fn living_count(objects: &ObjectTable) -> usize
 }
 
 impl Kept {
-    /// How many names, living objects and open calls have an entry.
+    /// How many names came to stand for objects, how many objects live and how many calls are open, in one sum.
     pub(crate) fn held(&self) -> usize
-        ensures count { result ≡ length self.now.parts.names.kept.names + length self.now.parts.names.kept.births + length self.now.open_calls }
+        ensures count { result ≡ self.now.parts.names.kept.count + length self.now.parts.names.kept.births + length self.now.open_calls }
         ensures apart { AreApart self.now.parts.names.kept.births }
     {
         self.parts.names.named().len()

@@ -6,7 +6,7 @@ ghost use Rattle.chain_model.specs.Simulated.{born_flags};
 ghost use Rattle.terminator.specs.Calls.{born_where};
 ghost use Rattle.dispatch_chain.specs.Holding.{IsHeldOf};
 ghost use Rattle.dispatch_chain.specs.Seats.{kinds_of};
-ghost use Rattle.session_parts.specs.Leaving.{MayRise, chain_at};
+ghost use Rattle.session_parts.specs.Leaving.{KeepsChain, MayRise, chain_at};
 ghost use Rattle.chain_session.specs.Raising.{HasAnswers, MayRaise, chain_raised, chain_sent, left_at, left_where, lost_of, routes_at};
 
 use crate::call::OpenCall;
@@ -54,7 +54,7 @@ fn raise_flagged(
     requires answers { HasAnswers terminator.old call.now }
     requires rise { MayRise call.now.thread states.old.kept held.now (left_at terminator.old call.now made.now).results }
     requires flags { born_where results.old ≡ born_flags made.now (lost_of call.now made.now) }
-    ensures chain { OnOk result ((forms : List CallContent) → IsHeldOf held.now (kinds_of states.old.kept) forms → chain_at states.new.kept terminator.new names.new.kept.handed ≡ chain_sent (chain_at states.old.kept terminator.old names.old.kept.handed) call.now forms made.now) }
+    ensures chain { OnOk result ((forms : List CallContent) → IsHeldOf held.now (kinds_of states.old.kept) forms → KeepsChain states.new.kept terminator.new names.new.kept.handed (chain_sent (chain_at states.old.kept terminator.old names.old.kept.handed) call.now forms made.now)) }
     ensures drivers { terminator.new.drivers ≡ terminator.old.drivers }
     ensures rest { names.new.kept ≡ record names.old.kept { handed = names.new.kept.handed } }
     ensures kinds { kinds_of states.new.kept ≡ kinds_of states.old.kept }
@@ -80,7 +80,7 @@ fn raise_sent(
     requires guarded { is_guarded states.old.kept ≡ true }
     requires answers { HasAnswers terminator.old call.now }
     requires rise { MayRise call.now.thread states.old.kept held.now (left_at terminator.old call.now made.now).results }
-    ensures chain { OnOk result ((forms : List CallContent) → IsHeldOf held.now (kinds_of states.old.kept) forms → chain_at states.new.kept terminator.new names.new.kept.handed ≡ chain_sent (chain_at states.old.kept terminator.old names.old.kept.handed) call.now forms made.now) }
+    ensures chain { OnOk result ((forms : List CallContent) → IsHeldOf held.now (kinds_of states.old.kept) forms → KeepsChain states.new.kept terminator.new names.new.kept.handed (chain_sent (chain_at states.old.kept terminator.old names.old.kept.handed) call.now forms made.now)) }
     ensures drivers { terminator.new.drivers ≡ terminator.old.drivers }
     ensures rest { names.new.kept ≡ record names.old.kept { handed = names.new.kept.handed } }
     ensures kinds { kinds_of states.new.kept ≡ kinds_of states.old.kept }
@@ -120,7 +120,7 @@ pub(crate) fn raise(
 ) -> Result<(), NoMemory>
     requires table { table.old.rows ≡ kinds_of states.old.kept }
     requires may { MayRaise states.old.kept terminator.old call.now made.now }
-    ensures chain { OnOk result ((forms : List CallContent) → IsHeldOf call.now.held (kinds_of states.old.kept) forms → chain_at states.new.kept terminator.new names.new.kept.handed ≡ chain_raised (chain_at states.old.kept terminator.old names.old.kept.handed) call.now forms made.now) }
+    ensures chain { OnOk result ((forms : List CallContent) → IsHeldOf call.now.held (kinds_of states.old.kept) forms → KeepsChain states.new.kept terminator.new names.new.kept.handed (chain_raised (chain_at states.old.kept terminator.old names.old.kept.handed) call.now forms made.now)) }
     ensures drivers { terminator.new.drivers ≡ terminator.old.drivers }
     ensures rest { names.new.kept ≡ record names.old.kept { handed = names.new.kept.handed } }
     ensures table { table.new.rows ≡ kinds_of states.new.kept }

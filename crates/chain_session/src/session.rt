@@ -201,7 +201,7 @@ impl Session {
         }
     }
 
-    /// For how many names, living objects and open calls there is an entry. Takes no memory.
+    /// How many names came to stand for objects, how many objects live and how many calls are open, in one sum. Takes no memory.
     pub fn held(&self) -> usize
         ensures { Holds (option_map (λ x. x.value.kept) self.now.started) result }
     {

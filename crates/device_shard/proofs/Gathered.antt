@@ -43,7 +43,7 @@ born_more n m (Lifetimes s ∷ states) le born = born_more n m states le born
 born_more n m (Unique s ∷ states) le born = born_more n m states le born
 
 pub is_idle : (k : Option Kept) (plans : List DevicePlan) (held : ℕ) → AreCutFrom k plans → Holds k held → ((kept : Kept) (plans : List DevicePlan) (n : ℕ) (threads : List ℕ) → AreCutFrom (Some kept) plans → AllLight n threads kept.parts.states.kept)
-    → ((s : Setup) (kept : Kept) (events : List TraceEvent) (replies : List ReplyContent) → StandsFor s (Some kept) events replies → HaveBorn (length kept.parts.names.kept.names) kept.parts.states.kept) → IsIdle k held
+    → ((s : Setup) (kept : Kept) (events : List TraceEvent) (replies : List ReplyContent) → StandsFor s (Some kept) events replies → HaveBorn kept.parts.names.kept.count kept.parts.states.kept) → IsIdle k held
 is_idle None plans held cut holds light born = record {
   setup = cut.setup;
   kept = cut.stands.kept;
@@ -53,14 +53,14 @@ is_idle None plans held cut holds light born = record {
 }
 is_idle (Some kept) plans held cut holds light born =
     let all = (holds cut.setup cut.stands.kept cut.stands.shows).0 in
-    let names = ap (λ ns. length ns) cut.stands.shows.parts.names in
+    let names = cut.stands.shows.parts.count in
     record {
       setup = cut.setup;
       kept = cut.stands.kept;
       shows = cut.stands.shows;
       light = λ x n threads split. subst (AllLight n threads) (sym split.states) (light kept plans n threads cut);
       born = λ x split. subst (HaveBorn held) (sym split.states)
-          (born_more (length kept.parts.names.kept.names) held kept.parts.states.kept (omega (arith, all, names)) (born cut.setup kept (reverse (parts cut.lines).setup) cut.replies cut.stands));
+          (born_more kept.parts.names.kept.count held kept.parts.states.kept (omega (arith, all, names)) (born cut.setup kept (reverse (parts cut.lines).setup) cut.replies cut.stands));
     }
 
 -- ---- names

@@ -2,10 +2,9 @@
 use Rattle.std.proofs.Common.{◌≡◌, ◌+◌, ℕ, Bool, true, false, cond, ◌||◌, List, [], ◌∷◌, length, map, unwrap_or, refl, ◌∙◌, ap}
 use Rattle.std.specs.List.{AllByRecursion}
 use Rattle.std.proofs.lemmas.List.{length-map}
-use Rattle.command_tables.specs.Calls.{CallContent, DriverCallContent}
+use Rattle.command_tables.specs.Calls.{CallContent}
 use Rattle.command_tables.specs.Table.{ParamSpec, row_of}
 use Rattle.command_tables.specs.Tests.{same_command}
-use Rattle.command_tables.specs.declared.types.Code.{Code}
 use Rattle.command_tables.specs.declared.types.CommandId.TheVariants as cmd
 use Rattle.command_tables.specs.declared.types.ObjectType.{ObjectType}
 use Rattle.trace_format.specs.Content.{BeginEvent}

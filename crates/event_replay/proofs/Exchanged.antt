@@ -25,7 +25,7 @@ use Rattle.chain_session.specs.Standing.{ShowsOnce, StandsFor}
 -- what of that which is kept a begin's calls are made of
 read : ℕ → List Named → List Birth → List PartState → Terminator → List Routed → List Handed → SessionKept
 read calls names births states ids routes handed =
-    record { calls = calls; skipped = 0; reports = 0; names = names; births = births; retrieved = []; sent = []; chain = record { states = states; terminator = ids; routes = routes; handed = handed; held = [] } }
+    record { calls = calls; skipped = 0; reports = 0; count = 0; names = names; births = births; retrieved = []; sent = []; chain = record { states = states; terminator = ids; routes = routes; handed = handed; held = [] } }
 
 told_by : (s : Setup) (k : SessionKept) (e : BeginEvent) → calls_told s k e ≡ calls_told s (read k.calls k.names k.births k.chain.states k.chain.terminator k.chain.routes k.chain.handed) e
 unfolding read

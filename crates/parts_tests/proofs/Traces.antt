@@ -226,6 +226,7 @@ roomy_step state x y step states terminator names =
         kept = step.parts_stand.kept;
         shows = record {
           names = ap (λ (k : NamesKept). k.names) names ∙ shows.names;
+          count = ap (λ (k : NamesKept). k.count) names ∙ shows.count;
           births = ap (λ (k : NamesKept). k.births) names ∙ shows.births;
           retrieved = ap (λ (k : NamesKept). k.retrieved) names ∙ shows.retrieved;
           states = ap (λ (c : ChainState). c.kept) states ∙ shows.states;

@@ -83,6 +83,7 @@ module _ (s : Setup) (k : SessionKept) (events : List TraceEvent) (e : BeginEven
     skipped = ap (λ n. n + cond (is_skipped b.opened) 1 0) st.skipped;
     reports = ap (λ n. n + length b.reports) st.reports;
     names = st.names;
+    count = st.count;
     living = lives_on births on;
     retrieved = st.retrieved;
     open_calls = map-append (λ (c : Sent). c.opened) k.sent (call own ∷ []) ∙ ap (λ os. os ++ b.opened ∷ []) st.open_calls;

@@ -7,12 +7,12 @@ use Rattle.command_tables.specs.Calls.{DriverCallContent, ReplyContent}
 use Rattle.command_tables.specs.Table.{row_of}
 use Rattle.trace_format.specs.Content.{BeginEvent, TraceEvent, Begin}
 use Rattle.object_model.specs.declared.Object.{Object}
+use Rattle.object_model.specs.declared.Argument.{Argument}
 use Rattle.object_model.specs.Findings.{Findings}
 use Rattle.object_model.specs.History.{alive}
 use Rattle.object_model.specs.Objects.{first_in}
 use Rattle.object_model.specs.Routes.{receivers}
 use Rattle.object_model.specs.Rules.{loader_failures}
-use Rattle.replay_model.specs.declared.Named.{Named}
 use Rattle.replay_model.specs.Setup.{Setup}
 use Rattle.replay_model.specs.Past.{Opened, Past, arguments_in, call_of, calls_in, history, named, routed}
 use Rattle.replay_model.specs.ChainPlaces.{checked, findings}
@@ -30,6 +30,7 @@ use Rattle.chain_model.proofs.Tracing.{goes_down}
 use Rattle.session_model.specs.Session.{SessionKept}
 use Rattle.session_model.specs.Beginning.{begin_lines, begun_kept, calls_told, drivers_kept, findings_kept, loader_kept, walk_kept}
 use Rattle.session_model.specs.Stands.{Stands}
+use Rattle.session_model.proofs.Named.{arguments_alike}
 
 -- what is chosen where a call isn't skipped
 either : (t : Bool) (to there : List ℕ) → (t ≡ false → cond t [] there ≡ to) → cond t [] to ≡ cond t [] there
@@ -50,17 +51,20 @@ module _ (s : Setup) (k : SessionKept) (events : List TraceEvent) (e : BeginEven
   down : GoesDown s k.chain events e replies replies o
   down = goes_down s k.chain events e replies replies trace st.simulates
 
-  abbrev walk_with : ℕ → List Named → Walked
-  walk_with n names =
-      walk_of k.chain (record { number = n + 1; thread = e.thread; cmd = e.cmd; args = arguments_in names e.args; results = e.results; code = e.code; payload = e.payload; stop = None; refused = false; drivers = [] })
+  args_are : arguments_in k.names e.args ≡ arguments_in (named past) e.args
+  args_are = arguments_alike k.names (named past) st.names e.args
+
+  abbrev walk_with : ℕ → List (List Argument) → Walked
+  walk_with n args =
+      walk_of k.chain (record { number = n + 1; thread = e.thread; cmd = e.cmd; args = args; results = e.results; code = e.code; payload = e.payload; stop = None; refused = false; drivers = [] })
 
   pub walk_is : walk_kept k e ≡ walk_of k.chain (begun_of s (judged s events) e).opened
-  walk_is = ap (λ n. walk_with n k.names) st.calls ∙ ap (λ ns. walk_with (calls_in past) ns) st.names
+  walk_is = ap (λ n. walk_with n (arguments_in k.names e.args)) st.calls ∙ ap (λ args. walk_with (calls_in past) args) args_are
 
   pub loader_is : loader_kept k e ≡ loader_finds (judged s events) (begun_of s (judged s events) e).opened
   loader_is =
       ap (λ (f : Object → Bool). loader_failures f (row_of e.cmd).params (arguments_in k.names e.args)) (λ i x. st.living.lives x i)
-      ∙ ap (λ ns. loader_failures (alive (history past)) (row_of e.cmd).params (arguments_in ns e.args)) st.names
+      ∙ ap (λ args. loader_failures (alive (history past)) (row_of e.cmd).params args) args_are
 
   found_is : findings_kept s k e ≡ findings (checked s past (call_of o))
   found_is = go (is_refused s e.cmd e.payload) refl
@@ -77,14 +81,14 @@ module _ (s : Setup) (k : SessionKept) (events : List TraceEvent) (e : BeginEven
       ∙ either (o.refused || is_some o.stop) (drivers_at s.drivers k.chain.routes (walk_of k.chain o).bottom) (receivers s.drivers (routed past) (first_in o.args 0))
       (λ goes. let parts = or_parts o.refused (is_some o.stop) goes in down.drivers parts.0 (is_nothing o.stop parts.1)))
 
-  abbrev begun_with_all : ℕ → List Named → Findings → List ℕ → Begun
-  begun_with_all n names found drivers =
+  abbrev begun_with_all : ℕ → List (List Argument) → Findings → List ℕ → Begun
+  begun_with_all n args found drivers =
       record {
         opened = record {
           number = n + 1;
           thread = e.thread;
           cmd = e.cmd;
-          args = arguments_in names e.args;
+          args = args;
           results = e.results;
           code = e.code;
           payload = e.payload;
@@ -97,9 +101,9 @@ module _ (s : Setup) (k : SessionKept) (events : List TraceEvent) (e : BeginEven
 
   pub begun_is : begun_kept s k e ≡ begun_of s (judged s events) e
   begun_is =
-      ap (λ n. begun_with_all n k.names (findings_kept s k e) (drivers_kept s k e)) st.calls
-      ∙ (ap (λ ns. begun_with_all (calls_in past) ns (findings_kept s k e) (drivers_kept s k e)) st.names
-      ∙ (ap (λ f. begun_with_all (calls_in past) (named past) f (drivers_kept s k e)) found_is ∙ ap (λ ds. begun_with_all (calls_in past) (named past) (findings (checked s past (call_of o))) ds) drivers_is))
+      ap (λ n. begun_with_all n (arguments_in k.names e.args) (findings_kept s k e) (drivers_kept s k e)) st.calls
+      ∙ (ap (λ args. begun_with_all (calls_in past) args (findings_kept s k e) (drivers_kept s k e)) args_are
+      ∙ (ap (λ f. begun_with_all (calls_in past) (arguments_in (named past) e.args) f (drivers_kept s k e)) found_is ∙ ap (λ ds. begun_with_all (calls_in past) (arguments_in (named past) e.args) (findings (checked s past (call_of o))) ds) drivers_is))
 
   pub told_is : calls_told s k e ≡ driver_calls (valued (judged s events) replies) (begun_of s (judged s events) e).opened
   told_is =

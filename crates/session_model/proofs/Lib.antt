@@ -1,4 +1,5 @@
 pub mod Living
+pub mod Named
 pub mod Begun
 pub mod Began
 pub mod Returned

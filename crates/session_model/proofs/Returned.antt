@@ -1,6 +1,7 @@
 -- A return more: what is kept then stands for the trace with it.
-use Rattle.std.proofs.Common.{◌≡◌, ℕ, Bool, true, false, not, cond, Option, Some, List, [], ◌∷◌, ◌++◌, map, length, refl, sym, ◌∙◌, ap, subst}
+use Rattle.std.proofs.Common.{◌≡◌, ℕ, ◌+◌, Bool, true, false, not, cond, Option, Some, List, [], ◌∷◌, ◌++◌, map, length, refl, sym, ◌∙◌, ap, subst}
 use Rattle.std.proofs.lemmas.Bool.{eqb-true}
+use Rattle.std.proofs.lemmas.List.{length-append, length-map}
 use Rattle.std.specs.Prelude.{find}
 use Rattle.std.specs.List.{filter}
 use Rattle.std.specs.Option.{option_map_or}
@@ -11,16 +12,19 @@ use Rattle.trace_format.specs.Content.{TraceEvent, Return}
 use Rattle.object_model.specs.History.{Birth, alive, births, births_given}
 use Rattle.object_model.specs.Values.{Answered}
 use Rattle.replay_model.specs.declared.Born.{Born}
+use Rattle.replay_model.specs.declared.Named.{Named}
 use Rattle.replay_model.specs.Setup.{Setup}
-use Rattle.replay_model.specs.Past.{Opened, Past, Returned, calls_in, history, is_of, is_skipped, named, named_of, objects_of, open_calls, retrievals, retrieved_by}
+use Rattle.replay_model.specs.Past.{Opened, Past, Returned, calls_in, history, is_of, is_skipped, named, named_of, object_in, objects_of, open_calls, retrievals, retrieved_by}
 use Rattle.replay_model.specs.Births.{made_by}
 use Rattle.replay_model.specs.Judged.{judged, made_of, returned_by}
 use Rattle.replay_model.specs.Direct.{Sent, answers_of, sends_in, sent}
 use Rattle.replay_model.specs.Text.{judged_lines, lines_at, reports_in, return_text, skipped_in}
 use Rattle.chain_model.specs.Gaps.{IsGapped}
+use Rattle.chain_model.specs.Handed.{Handed}
 use Rattle.chain_model.specs.Simulated.{Held, after_reply, after_skipped}
 use Rattle.chain_model.specs.Traces.{GivesGuarded, Simulates, held_in_force, in_force}
 use Rattle.chain_model.proofs.Accepted.{accepted_judged}
+use Rattle.chain_model.proofs.Handing.{simulates_handed}
 use Rattle.chain_model.proofs.Grammar.{shaped}
 use Rattle.chain_model.proofs.Tracing.{sent_up, skipped_up}
 use Rattle.session_model.specs.Session.{SessionKept}
@@ -28,6 +32,8 @@ use Rattle.session_tables.specs.Lined.{AreAdded}
 use Rattle.session_model.specs.Living.{AreOfLiving}
 use Rattle.session_model.specs.Returning.{chain_after_return, given_kept, held_of_thread, kept_after_return, lost_kept, made_kept, return_line, sent_of_thread}
 use Rattle.session_model.specs.Stands.{ReturnsWell, Stands}
+use Rattle.session_model.specs.Tables.{SaySame, with_tables}
+use Rattle.session_model.proofs.Named.{objects_behind}
 use Rattle.session_model.proofs.Enough.{living_since, made_alike, retrieved_alike}
 use Rattle.session_model.proofs.Owning.{IsOwning, MakesWell, makes_well, owning_judged}
 
@@ -120,12 +126,25 @@ module _ (s : Setup) (k : SessionKept) (events : List TraceEvent) (thread : ℕ)
       living_since (history past) (retrievals past) own k.births st.living o makes.known makes.typed made makes.bearing makes.have births
       (subst (λ (ms : List Born). AreAdded k.births (births_given k.births o.args (row_of o.cmd).effect (objects_of ms)) births) made_is too)
 
-  stands_then : (births : List Birth) → AreAdded k.births (given_kept s k o) births → Stands s (kept_after_return s k c h births) (Return thread ∷ events) replies
-  stands_then births too = record {
+  names_then : (n : Name) → object_in (k.names ++ map named_of (made_kept s k o)) n ≡ object_in (named (judged s (Return thread ∷ events))) n
+  names_then n =
+      objects_behind k.names (named past) st.names (map named_of (made_kept s k o)) n
+      ∙ (ap (λ (ms : List Born). object_in (named past ++ map named_of ms) n) made_is ∙ sym (ap (λ (p : Past). object_in (named p) n) past_is))
+
+  count_then : k.count + length (made_kept s k o) ≡ length (named (judged s (Return thread ∷ events)))
+  count_then =
+      ap (λ n. n + length (made_kept s k o)) st.count
+      ∙ (ap (λ (ms : List Born). length (named past) + length ms) made_is
+      ∙ (ap (λ n. length (named past) + n) (sym (length-map made named_of)) ∙ (sym (length-append (named past) (map named_of made)) ∙ sym (ap (λ (p : Past). length (named p)) past_is))))
+
+  stands_then : (births : List Birth) (names : List Named) (handed : List Handed) → AreAdded k.births (given_kept s k o) births → SaySame (kept_after_return s k c h births) names handed
+      → Stands s (with_tables (kept_after_return s k c h births) names handed) (Return thread ∷ events) replies
+  stands_then births names handed too alike = record {
     calls = st.calls ∙ sym (ap calls_in past_is);
     skipped = st.skipped ∙ sym (ap skipped_in past_is);
     reports = st.reports ∙ sym (ap reports_in past_is);
-    names = ap (λ ns. ns ++ map named_of (made_kept s k o)) st.names ∙ (ap (λ (ms : List Born). named past ++ map named_of ms) made_is ∙ sym (ap named past_is));
+    names = λ n. alike.names n ∙ names_then n;
+    count = count_then;
     living = subst (λ (p : Past). AreOfLiving births (history p)) (sym past_is) (lives_then births too);
     retrieved = ap (λ rs. rs ++ retrieved_by k.births o (made_kept s k o)) st.retrieved
         ∙ (ap (λ (ms : List Born). retrievals past ++ retrieved_by k.births o ms) made_is
@@ -133,7 +152,7 @@ module _ (s : Setup) (k : SessionKept) (events : List TraceEvent) (thread : ℕ)
     open_calls = sent_rest o.thread k.sent ∙ (ap (filter (λ x. not (is_of o.thread x))) st.open_calls ∙ sym (ap open_calls past_is));
     sent = ap (filter (λ x. not (is_of o.thread x.opened))) st.sent ∙ sym (ap (λ (p : Past). sent p replies) past_is);
     each = st.each ∙ sym (ap sends_in past_is);
-    simulates = simulates_then;
+    simulates = simulates_handed s (chain_after_return s k c h) (Return thread ∷ events) replies handed simulates_then alike.handed;
   }
 
   pub returns_well : ReturnsWell s k events thread replies c h

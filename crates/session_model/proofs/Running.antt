@@ -3,6 +3,7 @@ use Rattle.std.proofs.Common.{◌≡◌, ℕ, List, [], ◌∷◌, ◌++◌, len
 use Rattle.std.proofs.lemmas.List.{append-nil, append_assoc, reverse-append}
 use Rattle.command_tables.specs.Calls.{ReplyContent}
 use Rattle.trace_format.specs.Content.{BeginEvent, TraceEvent, Begin, Return}
+use Rattle.object_model.specs.History.{Birth}
 use Rattle.replay_model.specs.Setup.{Setup}
 use Rattle.replay_model.specs.Past.{Past}
 use Rattle.replay_model.specs.Judged.{begun_of, judged}
@@ -14,10 +15,10 @@ use Rattle.chain_model.specs.Gaps.{IsGapped, may_all_come, may_come}
 use Rattle.chain_model.specs.Simulated.{Held}
 use Rattle.chain_model.specs.Traces.{GivesGuarded}
 use Rattle.chain_model.proofs.Tracing.{nothing_simulates}
-use Rattle.session_model.specs.Session.{nothing_kept}
+use Rattle.session_model.specs.Session.{SessionKept, nothing_kept}
 use Rattle.session_model.specs.Living.{births_past, births_since}
 use Rattle.session_model.specs.Beginning.{begin_lines, begun_kept, calls_told}
-use Rattle.session_model.specs.Returning.{given_kept, held_of_thread, return_line, sent_of_thread}
+use Rattle.session_model.specs.Returning.{given_kept, held_of_thread, kept_after_return, return_line, sent_of_thread}
 use Rattle.session_model.specs.Stands.{AreRepliesTo, BeginsWell, HasCall, ReturnsWell, Stands}
 use Rattle.session_model.specs.Running.{AreAnsweredInRun, RanWell, SessionRun, session_begins, session_of, session_returns, session_runs, session_started}
 use Rattle.session_model.proofs.Began.{begins_well}
@@ -26,7 +27,7 @@ use Rattle.session_model.proofs.Returned.{past_is, returns_well}
 use Rattle.session_model.proofs.Turns.{returns_busy}
 
 pub new_stands : (s : Setup) → Stands s nothing_kept [] []
-new_stands s = record { calls = refl; skipped = refl; reports = refl; names = refl; living = record { lives = λ x. refl; created = λ x lives. refl; owners = λ x lives. refl }; retrieved = refl; open_calls = refl; sent = refl; each = refl; simulates = nothing_simulates s }
+new_stands s = record { calls = refl; skipped = refl; reports = refl; names = λ n. refl; count = refl; living = record { lives = λ x. refl; created = λ x lives. refl; owners = λ x lives. refl }; retrieved = refl; open_calls = refl; sent = refl; each = refl; simulates = nothing_simulates s }
 
 -- ---- one event
 
@@ -55,11 +56,13 @@ returns_on s guarded r before thread trace w =
     let earlier : IsGapped before = shorter (Return thread) before trace in
     let one : ReturnsWell s r.kept before thread w.taken there.call there.form = returns_well s r.kept before thread w.taken there.call there.form guarded earlier w.stands there.sent there.held in
     let past : Past = judged s before in
+    let given : List Birth = given_kept s r.kept there.call.opened in
+    let after : SessionKept = kept_after_return s r.kept there.call there.form (births_since r.kept.births given) in
     subst (λ (c : Option Sent). RanWell s (session_returns s r c (held_of_thread r.kept thread)) (Return thread ∷ before)) (sym there.sent)
     (subst (λ (h : Option Held). RanWell s (session_returns s r (Some there.call) h) (Return thread ∷ before)) (sym there.held)
     (record {
       taken = w.taken;
-      stands = one.stands (births_since r.kept.births (given_kept s r.kept there.call.opened)) (since_listed r.kept.births (given_kept s r.kept there.call.opened));
+      stands = one.stands (births_since r.kept.births given) after.names after.chain.handed (since_listed r.kept.births given) (record { names = λ n. refl; handed = λ o. refl });
       lines = ap (λ ls. ls ++ return_line s r.kept there.call.opened) w.lines ∙ (ap (λ ls. lines s past ++ ls) one.line ∙ sym (lines-judge s past (Return thread)));
       told = w.told ∙ sym (ap (λ (p : Past). direct p w.taken) (past_is s r.kept before thread w.taken there.call there.form guarded earlier w.stands there.sent there.held));
     }))

@@ -1,6 +1,7 @@
 pub mod Session
 pub mod Beginning
 pub mod Returning
+pub mod Tables
 pub mod Stands
 pub mod Living
 pub mod Enough

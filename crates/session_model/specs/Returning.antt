@@ -1,5 +1,5 @@
 -- A return by what a session keeps: the open call, what is born, what is kept then, and its line. Source: this project.
-use Rattle.std.specs.Prelude.{ℕ, ◌==◌, not, if◌then◌else◌, Option, List, ◌++◌, map, filter, find, drop, length}
+use Rattle.std.specs.Prelude.{ℕ, ◌+◌, ◌==◌, not, if◌then◌else◌, Option, List, ◌++◌, map, filter, find, drop, length}
 use Rattle.command_tables.specs.Table.{row_of}
 use Rattle.trace_format.specs.declared.event.Name.{Name}
 use Rattle.object_model.specs.History.{Birth, births_given, born_in}
@@ -49,6 +49,7 @@ chain_after_return s k c h =
 abbrev pub kept_after_return : Setup → SessionKept → Sent → Held → List Birth → SessionKept
 kept_after_return s k c h births =
     record k {
+      count = k.count + length (made_kept s k c.opened);
       names = k.names ++ map named_of (made_kept s k c.opened);
       births = births;
       retrieved = k.retrieved ++ retrieved_by k.births c.opened (made_kept s k c.opened);

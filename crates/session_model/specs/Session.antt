@@ -6,12 +6,13 @@ use Rattle.replay_model.specs.Past.{Retrieval}
 use Rattle.replay_model.specs.Direct.{Sent}
 use Rattle.chain_model.specs.Simulated.{ChainKept, no_chain}
 
--- the numbers of calls, skipped calls and reports; the names with their objects; the births of the objects that live, with their owners, in any order;
--- the retrieved objects with their keys; the open calls with what was answered; and what is kept of the chain
+-- the numbers of calls, skipped calls and reports, and how many names came to stand for objects; the names with their objects; the births of the objects that live,
+-- with their owners, in any order; the retrieved objects with their keys; the open calls with what was answered; and what is kept of the chain
 pub record SessionKept : Type 0 where
   pub calls : ℕ
   pub skipped : ℕ
   pub reports : ℕ
+  pub count : ℕ
   pub names : List Named
   pub births : List Birth
   pub retrieved : List Retrieval
@@ -20,4 +21,4 @@ pub record SessionKept : Type 0 where
 
 -- nothing was replayed yet
 abbrev pub nothing_kept : SessionKept
-nothing_kept = record { calls = 0; skipped = 0; reports = 0; names = []; births = []; retrieved = []; sent = []; chain = no_chain }
+nothing_kept = record { calls = 0; skipped = 0; reports = 0; count = 0; names = []; births = []; retrieved = []; sent = []; chain = no_chain }

@@ -4,13 +4,16 @@ use Rattle.std.specs.Prelude.{◌≡◌, ℕ, Some, None, List, [], ◌∷◌, �
 use Rattle.std.specs.List.{zip}
 use Rattle.command_tables.specs.Calls.{DriverCallContent, ReplyContent}
 use Rattle.model_driver.specs.Driver.{IsAnsweredBy}
+use Rattle.trace_format.specs.declared.event.Name.{Name}
 use Rattle.trace_format.specs.Content.{BeginEvent, TraceEvent, Begin, Return}
 use Rattle.object_model.specs.History.{Birth}
+use Rattle.replay_model.specs.declared.Named.{Named}
 use Rattle.replay_model.specs.Setup.{Setup}
-use Rattle.replay_model.specs.Past.{calls_in, history, is_of, named, open_calls, retrievals}
+use Rattle.replay_model.specs.Past.{calls_in, history, is_of, named, object_in, open_calls, retrievals}
 use Rattle.replay_model.specs.Judged.{begun_of, judged, made_of}
 use Rattle.replay_model.specs.Direct.{Sent, driver_calls, exchanges_at, own_replies, sends_at, sends_in, sent, valued}
 use Rattle.replay_model.specs.Text.{lines_at, reports_in, skipped_in}
+use Rattle.chain_model.specs.Handed.{Handed}
 use Rattle.chain_model.specs.Simulated.{Held}
 use Rattle.chain_model.specs.Traces.{Replies, Simulates}
 use Rattle.session_model.specs.Session.{SessionKept}
@@ -18,13 +21,15 @@ use Rattle.session_tables.specs.Lined.{AreAdded}
 use Rattle.session_model.specs.Living.{AreOfLiving, ArePast}
 use Rattle.session_model.specs.Beginning.{begin_lines, begun_kept, calls_told, kept_after_begin}
 use Rattle.session_model.specs.Returning.{given_kept, held_of_thread, kept_after_return, made_kept, return_line, sent_of_thread}
+use Rattle.session_model.specs.Tables.{SaySame, with_tables}
 
 -- What is kept is what later events read of the judged trace, what is kept of the chain simulates it, and there is one reply for each driver call.
 pub record Stands (s : Setup) (k : SessionKept) (events : List TraceEvent) (replies : List ReplyContent) : Type 0 where
   pub calls : k.calls ≡ calls_in (judged s events)
   pub skipped : k.skipped ≡ skipped_in (judged s events)
   pub reports : k.reports ≡ reports_in (judged s events)
-  pub names : k.names ≡ named (judged s events)
+  pub names : (n : Name) → object_in k.names n ≡ object_in (named (judged s events)) n
+  pub count : k.count ≡ length (named (judged s events))
   pub living : AreOfLiving k.births (history (judged s events))
   pub retrieved : k.retrieved ≡ retrievals (judged s events)
   pub open_calls : map (λ c. c.opened) k.sent ≡ open_calls (judged s events)
@@ -58,12 +63,13 @@ pub record BeginsWell (s : Setup) (k : SessionKept) (events : List TraceEvent) (
 -- ---- a return
 
 -- What the return of an open call comes to: the call is the trace's, what is born and the line are the trace's, and what is kept then stands for the
--- trace with the return.
+-- trace with the return, also with any names and handles that say the same.
 pub record ReturnsWell (s : Setup) (k : SessionKept) (events : List TraceEvent) (thread : ℕ) (replies : List ReplyContent) (c : Sent) (h : Held) : Type 0 where
   pub opened : find (is_of thread) (open_calls (judged s events)) ≡ Some c.opened
   pub made : made_kept s k c.opened ≡ made_of s (judged s events) c.opened
   pub line : return_line s k c.opened ≡ lines_at s (judged s events) (Return thread)
-  pub stands : (births : List Birth) → AreAdded k.births (given_kept s k c.opened) births → Stands s (kept_after_return s k c h births) (Return thread ∷ events) replies
+  pub stands : (births : List Birth) (names : List Named) (handed : List Handed) → AreAdded k.births (given_kept s k c.opened) births → SaySame (kept_after_return s k c h births) names handed
+      → Stands s (with_tables (kept_after_return s k c h births) names handed) (Return thread ∷ events) replies
 
 -- ---- who has an open call
 

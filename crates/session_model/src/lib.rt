@@ -43,7 +43,8 @@ pub fn a_begin_is_replayed()
         IsGapped (Begin e ∷ events) → Stands s k events replies → BeginsWell s k events e replies }
 {}
 
-/// A return more: what is born and the line are the trace's, and what is kept then stands for the trace with the return.
+/// A return more: what is born and the line are the trace's, and what is kept then stands for the trace with the return, with any lists of names
+/// and handles that say the same by look-up.
 pub fn a_return_is_replayed()
     ensures { (s : Setup) (k : SessionKept) (events : List TraceEvent) (thread : ℕ) (replies : List ReplyContent) (c : Sent) (h : Held) → GivesGuarded s →
         IsGapped events → Stands s k events replies → sent_of_thread k thread ≡ Some c → held_of_thread k thread ≡ Some h → ReturnsWell s k events thread replies c h }

@@ -4,24 +4,23 @@ use Rattle.command_tables.specs.Calls.{CallContent, ReplyContent}
 use Rattle.command_tables.specs.Table.{row_of}
 use Rattle.trace_format.specs.Content.{BeginEvent}
 use Rattle.trace_format.specs.declared.event.Name.{Name}
-use Rattle.object_model.specs.declared.Argument.{Argument}
+use Rattle.object_model.specs.declared.Object.{Object}
 use Rattle.object_model.specs.History.{Birth, births_given, born_in}
 use Rattle.object_model.specs.Values.{Value}
 use Rattle.replay_model.specs.declared.Born.{Born}
 use Rattle.replay_model.specs.Births.{made_by}
-use Rattle.replay_model.specs.Past.{Opened, Retrieval, arguments_in, named_of, objects_of, retrieved_by}
+use Rattle.replay_model.specs.Past.{Opened, Retrieval, named_of, object_in, objects_of, retrieved_by}
 use Rattle.layer_model.specs.Ids.{IssuedAll}
 use Rattle.layer_model.specs.Walks.{leave_parts}
-use Rattle.chain_model.specs.Handed.{hand_all}
+use Rattle.chain_model.specs.Handed.{Handed, hand_all, handle_in}
 use Rattle.terminator.specs.Calls.{TerminatorState, routes_left}
 use Rattle.dispatch_chain.specs.Holding.{HeldCalls, IsHeldOf}
 use Rattle.dispatch_chain.specs.Seats.{kinds_of}
 use Rattle.dispatch_chain.specs.Room.{ChainState}
 use Rattle.session_tables.specs.Lined.{AreAdded}
 use Rattle.session_parts.specs.declared.parts.SessionParts.{SessionParts}
-use Rattle.session_parts.specs.Leaving.{ComesUp, HasComeUp, MayComeUp, Rising, chain_of, chain_up, left_of, made_of, opened_again, recalled, rising_again, rising_of, chain_at}
+use Rattle.session_parts.specs.Leaving.{ComesUp, HasComeUp, KeepsChain, MayComeUp, Rising, chain_up, left_of, made_of, opened_again, rising_again, rising_of}
 use Rattle.session_parts.specs.Names.{CanKeep, CanSettle, NameTableState, NamesKept, NamesRoom, TakesRoom}
-use Rattle.session_parts.specs.Opening.{opened_read}
 use Rattle.session_parts.specs.Room.{HasRoomToComeUp, TakesResults, key_bytes}
 use Rattle.session_parts.specs.Scratch.{KeepsScratch}
 use Rattle.session_parts.proofs.Fewer.{made_few}
@@ -32,22 +31,24 @@ use Rattle.session_parts.proofs.Passing.{times_within}
 -- the terminator, the parts and the handles
 pub risen : (x : SessionParts) (r : Rising) (forms : List CallContent) (all : IssuedAll (List Value)) (states : ChainState) (t : TerminatorState) (above : List ℕ) (names : NameTableState) → all ≡ left_of x.terminator r → t.ids ≡ all.ids
     → t.routes ≡ routes_left x.terminator r.call all.results → states.kept ≡ (leave_parts r.thread x.states.kept forms all.results).states → above ≡ (leave_parts r.thread x.states.kept forms all.results).results
-    → names.kept.handed ≡ hand_all x.names.kept.handed r.made above → chain_of (record { states = states; terminator = t; names = names }) ≡ chain_up x r forms
-risen x r forms all states t above names is ids routes stand up hands =
-    (λ i. record {
-      states = stand i;
-      terminator = ids i;
-      routes = routes i;
-      handed = (hands ∙ ap (hand_all x.names.kept.handed r.made) up) i;
-      held = [];
-    })
-    ∙ (λ i. record {
-      states = (leave_parts r.thread x.states.kept forms (is i).results).states;
-      terminator = (is i).ids;
-      routes = routes_left x.terminator r.call (is i).results;
-      handed = hand_all x.names.kept.handed r.made (leave_parts r.thread x.states.kept forms (is i).results).results;
-      held = [];
-    })
+    → ((q : Object) → handle_in names.kept.handed q ≡ handle_in (hand_all x.names.kept.handed r.made above) q) → KeepsChain states.kept t names.kept.handed (chain_up x r forms)
+risen x r forms all states t above names is ids routes stand up hands = record {
+  chain = (λ i. record {
+    states = stand i;
+    terminator = ids i;
+    routes = routes i;
+    handed = names.kept.handed;
+    held = [];
+  })
+      ∙ (λ i. record {
+        states = (leave_parts r.thread x.states.kept forms (is i).results).states;
+        terminator = (is i).ids;
+        routes = routes_left x.terminator r.call (is i).results;
+        handed = names.kept.handed;
+        held = [];
+      });
+  handed = λ q. hands q ∙ (ap (λ hs. handle_in (hand_all x.names.kept.handed r.made hs) q) up ∙ (λ i. handle_in (hand_all x.names.kept.handed r.made (leave_parts r.thread x.states.kept forms (is i).results).results) q));
+}
 
 -- ---- all steps
 
@@ -67,16 +68,18 @@ module _ (x : SessionParts) (o : Opened) (call : CallContent) (held : HeldCalls)
   may_rise r is may = subst (λ (q : Rising). MayComeUp x q held) (sym is) may
 
   pub came_up : (y : SessionParts) (settled : NameTableState) (r : Rising) (count : ℕ) (born : List Born) → born ≡ made_of x o → count ≡ length born → r ≡ rising_of x o call replies
-      → ((forms : List CallContent) → IsHeldOf held (kinds_of x.states.kept) forms → chain_of y ≡ chain_up x r forms) → y.terminator.drivers ≡ x.terminator.drivers → y.names.kept ≡ record x.names.kept { handed = y.names.kept.handed }
-      → settled.kept.names ≡ y.names.kept.names ++ map named_of born → AreAdded y.names.kept.births (births_given y.names.kept.births o.args (row_of o.cmd).effect (objects_of born)) settled.kept.births
+      → ((forms : List CallContent) → IsHeldOf held (kinds_of x.states.kept) forms → KeepsChain y.states.kept y.terminator y.names.kept.handed (chain_up x r forms)) → y.terminator.drivers ≡ x.terminator.drivers → y.names.kept ≡ record x.names.kept { handed = y.names.kept.handed }
+      → ((q : Name) → object_in settled.kept.names q ≡ object_in (y.names.kept.names ++ map named_of born) q) → settled.kept.count ≡ y.names.kept.count + length born → AreAdded y.names.kept.births (births_given y.names.kept.births o.args (row_of o.cmd).effect (objects_of born)) settled.kept.births
       → settled.kept.retrieved ≡ y.names.kept.retrieved ++ retrieved_by y.names.kept.births o born → settled.kept.handed ≡ y.names.kept.handed → HasComeUp x o call held replies (record y { names = settled }) count
-  came_up y settled r count born is counted rises chain drivers old kept births retrieved handed = record {
+  came_up y settled r count born is counted rises chain drivers old kept many births retrieved handed = record {
     counted = counted ∙ ap (λ (ms : List Born). length ms) is;
-    names = kept ∙ (λ i. (old i).names ++ map named_of (is i));
+    names = λ q. kept q ∙ (λ i. object_in ((old i).names ++ map named_of (is i)) q);
+    names_count = many ∙ (λ i. (old i).count + length (is i));
     births = subst (λ (bs : List Birth). AreAdded bs (births_given bs o.args (row_of o.cmd).effect (objects_of (made_of x o))) settled.kept.births) (ap (λ (n : NamesKept). n.births) old)
         (subst (λ (ms : List Born). AreAdded y.names.kept.births (births_given y.names.kept.births o.args (row_of o.cmd).effect (objects_of ms)) settled.kept.births) is births);
     retrieved = retrieved ∙ (λ i. (old i).retrieved ++ retrieved_by (old i).births o (is i));
-    chain = λ forms h. ap (chain_at y.states.kept y.terminator) handed ∙ (chain forms h ∙ (λ i. chain_up x (rises i) forms));
+    chain = λ forms h. subst (λ (hs : List Handed). KeepsChain y.states.kept y.terminator hs (chain_up x (rising_of x o call replies) forms)) (sym handed)
+        (subst (λ (q : Rising). KeepsChain y.states.kept y.terminator y.names.kept.handed (chain_up x q forms)) rises (chain forms h));
     drivers = drivers;
   }
 
@@ -134,10 +137,6 @@ took_with c k a b n y is there keeps took =
 
 -- ---- by an event
 
--- the open call, by what its names stand for
-pub again_so : (x : SessionParts) (e : BeginEvent) (call : CallContent) (args : List (List Argument)) → args ≡ recalled call.unborn (arguments_in x.names.kept.names e.args) → opened_read 0 e args ≡ opened_again x e call
-again_so x e call args is = ap (λ (xs : List (List Argument)). opened_read 0 e xs) is
-
 -- while the names lend their lists
 module _ (x : SessionParts) (e : BeginEvent) (call : CallContent) (held : HeldCalls) (replies : List ReplyContent) (n : NameTableState) (o : Opened) (same : n.kept ≡ x.names.kept) (is : o ≡ opened_again x e call) where
   abbrev lent : NamesKept → SessionParts
@@ -156,6 +155,7 @@ module _ (x : SessionParts) (e : BeginEvent) (call : CallContent) (held : HeldCa
       subst (λ (p : Opened). HasComeUp x p call held replies (record y { names = last }) count) is (record {
         counted = g.counted;
         names = g.names;
+        names_count = g.names_count;
         births = g.births;
         retrieved = g.retrieved;
         chain = g.chain;

@@ -1,5 +1,5 @@
 -- A call that has left, by what the definitions say.
-use Rattle.std.proofs.Common.{◌≡◌, ◌∙◌, ◌++◌, ◌&&◌, ◌||◌, ℕ, Bool, true, false, not, cond, None, List, [], drop, length, map, refl, ap, sym, subst}
+use Rattle.std.proofs.Common.{◌≡◌, ◌∙◌, ◌+◌, ◌++◌, ◌&&◌, ◌||◌, ℕ, Bool, true, false, not, cond, None, List, [], arith, drop, length, map, refl, ap, sym, subst}
 use Rattle.std.proofs.lemmas.List.{append-nil}
 use Rattle.std.specs.List.{enumerate_from}
 use Rattle.std.specs.Option.{option_map_or}
@@ -16,15 +16,16 @@ use Rattle.object_model.specs.declared.Object.{Object}
 use Rattle.object_model.specs.History.{Birth, births_given, born_in}
 use Rattle.object_model.specs.Values.{Value}
 use Rattle.replay_model.specs.declared.Born.{Born}
+use Rattle.replay_model.specs.declared.Named.{Named}
 use Rattle.replay_model.specs.Births.{bearable, bears, born_with, made_by, owner_lives, result_object}
 use Rattle.replay_model.specs.Direct.{Sent}
-use Rattle.replay_model.specs.Past.{Opened, Retrieval, arguments_in, is_skipped, named_of, objects_of, owner_by, retrieval, retrieved_by, retrieves}
+use Rattle.replay_model.specs.Past.{Opened, Retrieval, arguments_in, is_skipped, named_of, object_in, objects_of, owner_by, retrieval, retrieved_by, retrieves}
 use Rattle.replay_model.specs.Setup.{Setup, parts_of}
 use Rattle.layer_model.specs.Ids.{IssuedAll}
 use Rattle.layer_model.specs.Routes.{drivers_at, routes_then}
 use Rattle.layer_model.specs.Terminator.{terminator_leave}
 use Rattle.layer_model.specs.Walks.{PartState, is_guarded, leave_parts}
-use Rattle.chain_model.specs.Handed.{hand_all}
+use Rattle.chain_model.specs.Handed.{Handed, hand_all, handle_in}
 use Rattle.chain_model.specs.Simulated.{ChainKept, Held, after_reply, after_skipped, born_flags, with_forms, with_parts}
 use Rattle.chain_model.specs.Traces.{held_in_force, in_force, starts_chain}
 use Rattle.terminator.specs.Calls.{answered, drivers_for}
@@ -36,7 +37,7 @@ use Rattle.session_model.specs.Returning.{chain_after_return, lost_kept, made_ke
 use Rattle.session_model.specs.Steps.{ComeUpApart}
 use Rattle.session_tables.specs.Lined.{AreAdded, IsBornAlike}
 use Rattle.session_parts.specs.declared.parts.SessionParts.{SessionParts}
-use Rattle.session_parts.specs.Leaving.{Returns, CanLeave, ComesUp, Departed, IsOpen, Leaves, MayComeUp, chain_of, chain_up, left_of, made_again, opened_again, recalled, rising_again}
+use Rattle.session_parts.specs.Leaving.{Returns, CanLeave, ComesUp, Departed, IsOpen, KeepsChain, Leaves, MayComeUp, chain_up, left_of, made_again, opened_again, recalled, rising_again}
 use Rattle.session_parts.specs.Parts.{PartsShow}
 use Rattle.session_parts.proofs.Recalled.{marked_all}
 
@@ -193,19 +194,25 @@ module _ (s : Setup) (x : SessionParts) (k : SessionKept) (e : BeginEvent) (call
 
     pub departed_sent : (y : SessionParts) (count : ℕ) → ComesUp x e call held replies y count → Departed s k c h y count
     departed_sent y count up =
-        let chain : chain_of y ≡ record (chain_after_return s k c h) { held = [] } = up.chain h.forms holds_so ∙ chain_is in
+        let keeps : KeepsChain y.states.kept y.terminator y.names.kept.handed (record (chain_after_return s k c h) { held = [] })
+        = subst (KeepsChain y.states.kept y.terminator y.names.kept.handed) chain_is (up.chain h.forms holds_so) in
         record {
           births = y.names.kept.births;
           since = subst (λ (given : List Birth). AreAdded k.births given y.names.kept.births) (λ i. births_given k.births (args_are i) (row_of (sym opens.left.cmd i)).effect (objects_of (made_is i)))
               (subst (λ (bs : List Birth). AreAdded bs (births_given bs (opened_again x e call).args (row_of e.cmd).effect (objects_of (made_again x e call))) y.names.kept.births) shows.births up.births);
+          same = record {
+            names = λ q. up.names q ∙ (λ i. object_in (shows.names i ++ map named_of (made_is i)) q);
+            handed = keeps.handed;
+          };
           shows = record {
-            names = up.names ∙ (λ i. shows.names i ++ map named_of (made_is i));
+            names = refl;
+            count = up.names_count ∙ (λ i. shows.count i + length (made_is i));
             births = refl;
             retrieved = up.retrieved ∙ (λ i. shows.retrieved i ++ retrieved_by (shows.births i) (again_is i) (made_is i));
-            states = ap (λ (ck : ChainKept). ck.states) chain;
-            ids = ap (λ (ck : ChainKept). ck.terminator) chain;
-            routes = ap (λ (ck : ChainKept). ck.routes) chain;
-            handed = ap (λ (ck : ChainKept). ck.handed) chain;
+            states = ap (λ (ck : ChainKept). ck.states) keeps.chain;
+            ids = ap (λ (ck : ChainKept). ck.terminator) keeps.chain;
+            routes = ap (λ (ck : ChainKept). ck.routes) keeps.chain;
+            handed = refl;
             drivers = up.drivers ∙ shows.drivers;
           };
           counted = up.counted ∙ ap (λ (ms : List Born). length ms) made_is;
@@ -223,15 +230,20 @@ module _ (s : Setup) (x : SessionParts) (k : SessionKept) (e : BeginEvent) (call
       record {
         births = k.births;
         since = subst (λ (given : List Birth). AreAdded k.births given k.births) (sym (ap (λ (ms : List Born). births_given k.births o.args (row_of o.cmd).effect (objects_of ms)) none ∙ none_given k.births o.args (row_of o.cmd).effect)) (none_added k.births);
+        same = record {
+          names = λ q. ap (λ (ns : List Named). object_in ns q) (shows.names ∙ (sym (append-nil k.names) ∙ ap (λ (ms : List Born). k.names ++ map named_of ms) (sym none)));
+          handed = λ q. ap (λ (hs : List Handed). handle_in hs q) (shows.handed ∙ ap (λ (ck : ChainKept). ck.handed) chain);
+        };
         shows = record {
-          names = shows.names ∙ (sym (append-nil k.names) ∙ ap (λ (ms : List Born). k.names ++ map named_of ms) (sym none));
+          names = refl;
+          count = let more : k.count ≡ k.count + 0 = omega arith in shows.count ∙ (more ∙ ap (λ (ms : List Born). k.count + length ms) (sym none));
           births = shows.births;
           retrieved = shows.retrieved ∙ (sym (append-nil k.retrieved) ∙ ap (λ (rs : List Retrieval). k.retrieved ++ rs) (sym (ap (retrieved_by k.births o) none ∙ none_retrieved k.births o)));
           states = left h.forms holds_so
               ∙ ((λ i. (leave_parts (sym opens.left.thread i) (shows.states i) h.forms (map (λ (n : Name). 0) (sym lost i))).states) ∙ ap (λ (ck : ChainKept). ck.states) chain);
           ids = shows.ids ∙ ap (λ (ck : ChainKept). ck.terminator) chain;
           routes = shows.routes ∙ ap (λ (ck : ChainKept). ck.routes) chain;
-          handed = shows.handed ∙ ap (λ (ck : ChainKept). ck.handed) chain;
+          handed = refl;
           drivers = shows.drivers;
         };
         counted = ap (λ (ms : List Born). length ms) (sym none);

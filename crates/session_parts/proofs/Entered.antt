@@ -82,14 +82,14 @@ abbrev pub shown_parts : Setup → SessionKept → List PartRoom → TerminatorS
 shown_parts s k rooms t r = record {
   states = record { kept = k.chain.states; rooms = rooms };
   terminator = record { ids = k.chain.terminator; routes = k.chain.routes; drivers = s.drivers; spare = t.spare; values = t.values; bytes = t.bytes };
-  names = record { kept = record { names = k.names; births = k.births; retrieved = k.retrieved; handed = k.chain.handed }; room = r };
+  names = record { kept = record { names = k.names; count = k.count; births = k.births; retrieved = k.retrieved; handed = k.chain.handed }; room = r };
 }
 
 parts_same : (s : Setup) (x : SessionParts) (k : SessionKept) → PartsShow s x k → x ≡ shown_parts s k x.states.rooms x.terminator x.names.room
 parts_same s x k sh = λ i. record {
   states = record { kept = sh.states i; rooms = x.states.rooms };
   terminator = record { ids = sh.ids i; routes = sh.routes i; drivers = sh.drivers i; spare = x.terminator.spare; values = x.terminator.values; bytes = x.terminator.bytes };
-  names = record { kept = record { names = sh.names i; births = sh.births i; retrieved = sh.retrieved i; handed = sh.handed i }; room = x.names.room };
+  names = record { kept = record { names = sh.names i; count = sh.count i; births = sh.births i; retrieved = sh.retrieved i; handed = sh.handed i }; room = x.names.room };
 }
 
 -- ---- an entered call
@@ -182,6 +182,7 @@ module _ (s : Setup) (k : SessionKept) (rooms : List PartRoom) (t : TerminatorSt
     past = past_is;
     shows = λ own. record {
       names = ap (λ (n : NamesKept). n.names) down.passes.names;
+      count = ap (λ (n : NamesKept). n.count) down.passes.names;
       births = refl;
       retrieved = ap (λ (n : NamesKept). n.retrieved) down.passes.names;
       states = states_are;

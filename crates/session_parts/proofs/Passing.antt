@@ -3,6 +3,11 @@ use Rattle.std.proofs.Common.{◌≡◌, ◌∙◌, ◌≤◌, ◌<◌, ◌+◌,
 use Rattle.std.proofs.lemmas.List.{map-append, take_more}
 use Rattle.std.proofs.lemmas.List.Elements.{filter-append}
 use Rattle.std.proofs.Math.Nat.{mul-le-mul_right, suc-mul}
+use Rattle.trace_format.specs.declared.event.Name.{Name}
+use Rattle.replay_model.specs.Past.{named_of, object_in}
+use Rattle.replay_model.specs.declared.Born.{Born}
+use Rattle.replay_model.specs.declared.Named.{Named}
+use Rattle.session_model.proofs.Named.{objects_behind}
 
 -- what passes of one more
 pub passed_more : {X Y : Type 0} (f : X → Y) (p : X → Bool) (xs : List X) (i : ℕ) (d : X) (old now new : List Y) → i < length xs → now ≡ old ++ map f (filter p (take i xs)) → new ≡ now ++ map f (filter p (get_or xs i d ∷ []))
@@ -14,6 +19,15 @@ passed_more f p xs i d old now new less so_far grown =
     ∙ ap (λ ys. old ++ ys)
     (sym (map-append f (filter p (take i xs)) (filter p (get_or xs i d ∷ [])))
     ∙ ap (map f) (sym (filter-append p (take i xs) (get_or xs i d ∷ [])) ∙ ap (filter p) (sym (take_more xs i d less))))))
+
+-- one name more
+pub names_more : (made : List Born) (i : ℕ) (d : Born) (old now new : List Named) → i < length made → ((q : Name) → object_in now q ≡ object_in (old ++ map named_of (take i made)) q)
+    → ((q : Name) → object_in new q ≡ object_in (now ++ named_of (get_or made i d) ∷ []) q) → (q : Name) → object_in new q ≡ object_in (old ++ map named_of (take (i + 1) made)) q
+names_more made i d old now new less so_far grown q =
+    let x : Named = named_of (get_or made i d) in
+    grown q
+    ∙ (objects_behind now (old ++ map named_of (take i made)) so_far (x ∷ []) q
+    ∙ ap (λ (ns : List Named). object_in ns q) (append_assoc old (map named_of (take i made)) (x ∷ []) ∙ ap (λ (ns : List Named). old ++ ns) (sym (map-append named_of (take i made) (get_or made i d ∷ [])) ∙ ap (map named_of) (sym (take_more made i d less)))))
 
 -- ---- how much room is taken
 

@@ -1,122 +1,71 @@
--- The place of an object, and the handle that stands there.
-use Rattle.std.proofs.Common.{◌≡◌, ◌<◌, ◌∙◌, ℕ, suc, cond, Bool, true, false, Option, Some, None, List, [], ◌∷◌, ◌++◌, length, refl, sym, ap, arith, set, get_or, drop, min, ◌-◌, length-drop}
-use Rattle.std.specs.Option.{option_map, option_map_or}
-use Rattle.std.specs.Prelude.{find}
-use Rattle.std.proofs.lemmas.Option.{same_Some}
+-- The handles that are kept of objects.
+use Rattle.std.proofs.Common.{◌≡◌, ◌<◌, ◌∙◌, ◌||◌, ℕ, zero, suc, cond, Bool, true, false, Option, Some, None, List, [], ◌∷◌, length, map, refl, sym, ap, arith, drop, get_or, min, ◌-◌, length-drop}
+use Rattle.std.specs.Option.{option_map_or}
+use Rattle.std.specs.Prelude.{find, is_some, unwrap_or}
 use Rattle.object_model.specs.declared.Object.{Object}
 use Rattle.replay_model.specs.declared.Born.{Born}
-use Rattle.object_model.specs.Objects.{same}
+use Rattle.object_model.specs.Objects.{is_in, same}
 use Rattle.layer_model.proofs.Same.{same_is}
+use Rattle.session_tables.specs.declared.object_places.ObjectPlaces.{ObjectPlaces}
+use Rattle.session_tables.specs.Filing.{kept, objects_kept}
+use Rattle.session_tables.proofs.FiledObjects.{kept_among}
 use Rattle.chain_model.specs.Handed.{Handed, hand_all, hand_one, handle_in}
-use Rattle.session_parts.specs.Handed.{handed_shown, place_in}
+use Rattle.chain_model.proofs.Handing.{handle_in_one}
+use Rattle.session_parts.specs.Handed.{handed_shown, handle_kept}
 
--- ---- the place
+-- ---- a look-up
 
-after : (m : Option ℕ) (p : ℕ) → option_map (λ (n : ℕ). suc n) m ≡ Some p → (n : ℕ) × (m ≡ Some n) × (p ≡ suc n)
-after None p e = cc e
-after (Some n) p e = (n, refl, sym (same_Some (suc n) p e))
+abbrev handed_as : (Object → ℕ) → Object → Handed
+handed_as g o = record { object = o; handle = g o }
 
-none_after : (m : Option ℕ) → option_map (λ (n : ℕ). suc n) m ≡ None → m ≡ None
-none_after None e = refl
-none_after (Some n) e = cc e
-
--- it lies within the list
-pub place_within : (os : List Object) (o : Object) (p : ℕ) → place_in os o ≡ Some p → p < length os
-place_within [] o p is = cc is
-place_within (x ∷ os) o p is = go (same x o) is (λ n. place_within os o n)
+-- the handle of one of these objects
+listed : (g : Object → ℕ) (os : List Object) (o : Object) → handle_in (map (handed_as g) os) o ≡ cond (is_in os o) (g o) 0
+listed g [] o = refl
+listed g (x ∷ os) o = go (same x o) refl (listed g os o)
   where
-    go : (t : Bool) → cond t (Some 0) (option_map (λ (n : ℕ). suc n) (place_in os o)) ≡ Some p → ((n : ℕ) → place_in os o ≡ Some n → n < length os) → p < suc (length os)
-    go true e behind = let first : 0 ≡ p = same_Some 0 p e in omega arith
-    go false e behind =
-        let rest = after (place_in os o) p e in
-        let within : rest.0 < length os = behind rest.0 rest.1 in
-        omega (arith, rest.2)
+    go : (t : Bool) → same x o ≡ t → handle_in (map (handed_as g) os) o ≡ cond (is_in os o) (g o) 0
+        → option_map_or (λ (h : Handed). h.handle) (cond t (Some (handed_as g x)) (find (λ (h : Handed). same h.object o) (map (handed_as g) os))) 0 ≡ cond (t || is_in os o) (g o) 0
+    go true e ih = ap g (same_is x o e)
+    go false e ih = ih
 
--- ---- the handle
-
-abbrev handed : Object → ℕ → Handed
-handed o h = record { object = o; handle = h }
-
--- an object has the handle that stands in its place
-pub handle_found : (os : List Object) (hs : List ℕ) (o : Object) (p h : ℕ) → length os ≡ length hs → place_in os o ≡ Some p → h ≡ get_or hs p h → h ≡ handle_in (handed_shown os hs) o
-handle_found [] hs o p h all is at = cc is
-handle_found (x ∷ os) [] o p h all is at = absurd (omega (arith, all))
-handle_found (x ∷ os) (k ∷ hs) o p h all is at = go (same x o) is (λ n f. handle_found os hs o n h (omega (arith, all)) f)
+-- what is shown of an object is what is kept of it
+pub handle_shown : (m : ObjectPlaces ℕ) (o : Object) → handle_in (handed_shown m) o ≡ handle_kept m o
+handle_shown m o = listed (handle_kept m) (objects_kept m) o ∙ go (is_in (objects_kept m) o) refl (is_some (kept m o)) refl
   where
-    go : (t : Bool) → cond t (Some 0) (option_map (λ (n : ℕ). suc n) (place_in os o)) ≡ Some p → ((n : ℕ) → place_in os o ≡ Some n → h ≡ get_or hs n h → h ≡ handle_in (handed_shown os hs) o)
-        → h ≡ option_map_or (λ (e : Handed). e.handle) (cond t (Some (handed x k)) (find (λ (e : Handed). same e.object o) (handed_shown os hs))) 0
-    go true f behind =
-        let first : 0 ≡ p = same_Some 0 p f in
-        at ∙ ap (λ (n : ℕ). get_or (k ∷ hs) n h) (sym first)
-    go false f behind =
-        let rest = after (place_in os o) p f in
-        behind rest.0 rest.1 (at ∙ ap (λ (n : ℕ). get_or (k ∷ hs) n h) rest.2)
+    none : (x : Option ℕ) → is_some x ≡ false → 0 ≡ unwrap_or x 0
+    none None e = refl
+    none (Some h) e = cc e
 
--- an object without a place has none
-pub handle_missing : (os : List Object) (hs : List ℕ) (o : Object) → place_in os o ≡ None → 0 ≡ handle_in (handed_shown os hs) o
-handle_missing [] hs o is = refl
-handle_missing (x ∷ os) [] o is = refl
-handle_missing (x ∷ os) (k ∷ hs) o is = go (same x o) is (handle_missing os hs o)
+    go : (t : Bool) → is_in (objects_kept m) o ≡ t → (u : Bool) → is_some (kept m o) ≡ u → cond t (handle_kept m o) 0 ≡ handle_kept m o
+    go true e u f = refl
+    go false e true f = let wrong : false ≡ true = sym e ∙ kept_among m o f in cc wrong
+    go false e false f = none (kept m o) f
+
+-- another handle of an object
+pub handed_one : (m n : ObjectPlaces ℕ) (o : Object) (h : ℕ) → ((q : Object) → kept n q ≡ cond (same o q) (Some h) (kept m q)) → (q : Object) → handle_in (handed_shown n) q ≡ handle_in (hand_one o h (handed_shown m)) q
+handed_one m n o h put q = handle_shown n q ∙ (ap (λ (x : Option ℕ). unwrap_or x 0) (put q) ∙ (go (same o q) ∙ sym (handle_in_one o h (handed_shown m) q)))
   where
-    go : (t : Bool) → cond t (Some 0) (option_map (λ (n : ℕ). suc n) (place_in os o)) ≡ None → (place_in os o ≡ None → 0 ≡ handle_in (handed_shown os hs) o)
-        → 0 ≡ option_map_or (λ (e : Handed). e.handle) (cond t (Some (handed x k)) (find (λ (e : Handed). same e.object o) (handed_shown os hs))) 0
-    go true e behind = cc e
-    go false e behind = behind (none_after (place_in os o) e)
+    go : (t : Bool) → unwrap_or (cond t (Some h) (kept m q)) 0 ≡ cond t h (handle_in (handed_shown m) q)
+    go true = refl
+    go false = sym (handle_shown m q)
 
--- another handle in the place
-pub hand_found : (os : List Object) (hs : List ℕ) (o : Object) (h p : ℕ) → length os ≡ length hs → place_in os o ≡ Some p → handed_shown os (set hs p h) ≡ hand_one o h (handed_shown os hs)
-hand_found [] hs o h p all is = cc is
-hand_found (x ∷ os) [] o h p all is = absurd (omega (arith, all))
-hand_found (x ∷ os) (k ∷ hs) o h p all is = go (same x o) is (λ n. hand_found os hs o h n (omega (arith, all)))
-  where
-    go : (t : Bool) → cond t (Some 0) (option_map (λ (n : ℕ). suc n) (place_in os o)) ≡ Some p → ((n : ℕ) → place_in os o ≡ Some n → handed_shown os (set hs n h) ≡ hand_one o h (handed_shown os hs))
-        → handed_shown (x ∷ os) (set (k ∷ hs) p h) ≡ cond t (handed x h ∷ handed_shown os hs) (handed x k ∷ hand_one o h (handed_shown os hs))
-    go true f behind =
-        let first : 0 ≡ p = same_Some 0 p f in
-        ap (λ (n : ℕ). handed_shown (x ∷ os) (set (k ∷ hs) n h)) (sym first)
-    go false f behind =
-        let rest = after (place_in os o) p f in
-        ap (λ (n : ℕ). handed_shown (x ∷ os) (set (k ∷ hs) n h)) rest.2 ∙ ap (λ (es : List Handed). handed x k ∷ es) (behind rest.0 rest.1)
+-- the handle stays
+pub handed_still : (m n : ObjectPlaces ℕ) → ((q : Object) → kept n q ≡ kept m q) → (q : Object) → handle_in (handed_shown n) q ≡ handle_in (handed_shown m) q
+handed_still m n still q = handle_shown n q ∙ (ap (λ (x : Option ℕ). unwrap_or x 0) (still q) ∙ sym (handle_shown m q))
 
--- ---- one object more
-
-pub hand_new : (os : List Object) (hs : List ℕ) (o : Object) (h : ℕ) → length os ≡ length hs → place_in os o ≡ None → handed_shown (os ++ o ∷ []) (hs ++ h ∷ []) ≡ hand_one o h (handed_shown os hs)
-hand_new [] [] o h all is = refl
-hand_new [] (k ∷ hs) o h all is = absurd (omega (arith, all))
-hand_new (x ∷ os) [] o h all is = absurd (omega (arith, all))
-hand_new (x ∷ os) (k ∷ hs) o h all is = go (same x o) is (hand_new os hs o h (omega (arith, all)))
-  where
-    go : (t : Bool) → cond t (Some 0) (option_map (λ (n : ℕ). suc n) (place_in os o)) ≡ None → (place_in os o ≡ None → handed_shown (os ++ o ∷ []) (hs ++ h ∷ []) ≡ hand_one o h (handed_shown os hs))
-        → handed x k ∷ handed_shown (os ++ o ∷ []) (hs ++ h ∷ []) ≡ cond t (handed x h ∷ handed_shown os hs) (handed x k ∷ hand_one o h (handed_shown os hs))
-    go true e behind = cc e
-    go false e behind = ap (λ (es : List Handed). handed x k ∷ es) (behind (none_after (place_in os o) e))
-
-pub place_new : (os : List Object) (o : Object) → place_in os o ≡ None → (q : Object) → place_in (os ++ o ∷ []) q ≡ cond (same o q) (Some (length os)) (place_in os q)
-place_new [] o is q = refl
-place_new (x ∷ os) o is q = go (same x o) refl is (same x q) refl (same o q) refl (λ f. place_new os o f q)
-  where
-    go : (t : Bool) → same x o ≡ t → cond t (Some 0) (option_map (λ (n : ℕ). suc n) (place_in os o)) ≡ None
-        → (u : Bool) → same x q ≡ u → (v : Bool) → same o q ≡ v → (place_in os o ≡ None → place_in (os ++ o ∷ []) q ≡ cond v (Some (length os)) (place_in os q))
-        → cond u (Some 0) (option_map (λ (n : ℕ). suc n) (place_in (os ++ o ∷ []) q)) ≡ cond v (Some (suc (length os))) (cond u (Some 0) (option_map (λ (n : ℕ). suc n) (place_in os q)))
-    go true tis f u uis v vis more = cc f
-    go false tis f true uis false vis more = refl
-    go false tis f true uis true vis more =
-        let no : true ≡ false = sym uis ∙ (ap (same x) (sym (same_is o q vis)) ∙ tis) in
-        cc no
-    go false tis f false uis false vis more = ap (option_map (λ (n : ℕ). suc n)) (more (none_after (place_in os o) f))
-    go false tis f false uis true vis more = ap (option_map (λ (n : ℕ). suc n)) (more (none_after (place_in os o) f))
-
--- ---- nothing more
-
--- the lists stay
-pub lists_stay : (before after : Object → Option ℕ) (os os1 : List Object) (hs hs1 : List ℕ) → (length os ≡ length hs) × ((o : Object) → before o ≡ place_in os o) → ((o : Object) → after o ≡ before o) → os1 ≡ os → hs1 ≡ hs
-    → (length os1 ≡ length hs1) × ((o : Object) → after o ≡ place_in os1 o)
-lists_stay before after os os1 hs hs1 held same os_are hs_are = (
-  ap (λ (xs : List Object). length xs) os_are ∙ (held.0 ∙ sym (ap (λ (xs : List ℕ). length xs) hs_are)),
-  (λ o. same o ∙ (held.1 o ∙ ap (λ (xs : List Object). place_in xs o) (sym os_are))),
-)
+-- where the same is kept of the same objects, the same is shown
+pub shown_same : (m n : ObjectPlaces ℕ) → objects_kept n ≡ objects_kept m → ((q : Object) → kept n q ≡ kept m q) → handed_shown n ≡ handed_shown m
+shown_same m n objects handles = λ i. map (λ (o : Object). record { object = o; handle = unwrap_or (handles o i) 0 }) (objects i)
 
 -- ---- results in turn
+
+-- one result is handed, and the rest is left
+pub hand_turn : (a : List Handed) (made : List Born) (hs : List ℕ) (n : ℕ) (b : Born) (h : ℕ) → n < length made → n < length hs → b ≡ get_or made n b → h ≡ get_or hs n h
+    → hand_all (hand_one b.object h a) (drop (suc n) made) (drop (suc n) hs) ≡ hand_all a (drop n made) (drop n hs)
+hand_turn a [] hs n b h l m e f = absurd (omega (arith, l))
+hand_turn a (x ∷ made) [] n b h l m e f = absurd (omega (arith, m))
+hand_turn a (x ∷ made) (y ∷ hs) zero b h l m e f = λ i. hand_all (hand_one (e i).object (f i) a) made hs
+hand_turn a (x ∷ made) (y ∷ hs) (suc n) b h l m e f = hand_turn a made hs n b h (omega (arith, l)) (omega (arith, m)) e f
 
 -- nothing is left beyond the shorter of the lists
 pub none_left : (handed : List Handed) (made : List Born) (hs : List ℕ) (n : ℕ) → n ≡ min (length made) (length hs) → handed ≡ hand_all handed (drop n made) (drop n hs)

@@ -1,8 +1,8 @@
--- The columns of the table of handles as the list of the definitions, and the place of an object among them. Source: this project.
-use Rattle.std.specs.Prelude.{ℕ, suc, if◌then◌else◌, Option, Some, None, List, [], ◌∷◌}
-use Rattle.std.specs.Option.{option_map}
+-- The table of handles as the list of the definitions. Source: this project.
+use Rattle.std.specs.Prelude.{ℕ, List, map, unwrap_or}
 use Rattle.object_model.specs.declared.Object.{Object}
-use Rattle.object_model.specs.Objects.{same}
+use Rattle.session_tables.specs.declared.object_places.ObjectPlaces.{ObjectPlaces}
+use Rattle.session_tables.specs.Filing.{kept, objects_kept}
 use Rattle.chain_model.specs.Handed.{Handed}
 
 -- handles of objects, and for how many further ones there is room
@@ -10,13 +10,10 @@ pub record HandedState : Type 0 where
   pub handed : List Handed
   pub spare : ℕ
 
--- each object with the handle in its place
-abbrev pub handed_shown : List Object → List ℕ → List Handed
-handed_shown [] handles = []
-handed_shown (o ∷ objects) [] = []
-handed_shown (o ∷ objects) (h ∷ handles) = record { object = o; handle = h } ∷ handed_shown objects handles
+-- the handle that is kept for an object, and 0 where there is none
+abbrev pub handle_kept : ObjectPlaces ℕ → Object → ℕ
+handle_kept m o = unwrap_or (kept m o) 0
 
--- the place where an object stands first
-abbrev pub place_in : List Object → Object → Option ℕ
-place_in [] o = None
-place_in (p ∷ objects) o = if same p o then Some 0 else option_map (λ n. suc n) (place_in objects o)
+-- all objects that have one, each with its handle
+abbrev pub handed_shown : ObjectPlaces ℕ → List Handed
+handed_shown m = map (λ o. record { object = o; handle = handle_kept m o }) (objects_kept m)

@@ -1,5 +1,5 @@
 -- The return of a call that had entered, by what the parts of a session keep. Source: this project.
-use Rattle.std.specs.Prelude.{◌≡◌, ◌++◌, ℕ, Bool, true, false, if◌then◌else◌, Some, List, [], ◌∷◌, drop, length, map}
+use Rattle.std.specs.Prelude.{◌≡◌, ◌+◌, ◌++◌, ℕ, Bool, true, false, if◌then◌else◌, Some, List, [], ◌∷◌, drop, length, map}
 use Rattle.std.specs.List.{AllByRecursion}
 use Rattle.command_tables.specs.Calls.{CallContent, ReplyContent}
 use Rattle.command_tables.specs.Table.{row_of}
@@ -7,17 +7,18 @@ use Rattle.trace_format.specs.Content.{BeginEvent, TraceEvent, Begin, Return}
 use Rattle.trace_format.specs.declared.event.Name.{Name}
 use Rattle.object_model.specs.declared.Argument.{Argument}
 use Rattle.object_model.specs.declared.Argument.TheVariants.{Unborn}
+use Rattle.object_model.specs.declared.Object.{Object}
 use Rattle.object_model.specs.History.{Birth, births_given, born_in}
 use Rattle.object_model.specs.Values.{Value}
 use Rattle.replay_model.specs.declared.Born.{Born}
 use Rattle.replay_model.specs.Births.{made_by}
 use Rattle.replay_model.specs.Direct.{Sent, answers_to}
-use Rattle.replay_model.specs.Past.{Opened, arguments_in, is_skipped, named_of, objects_of, retrieved_by}
+use Rattle.replay_model.specs.Past.{Opened, arguments_in, is_skipped, named_of, object_in, objects_of, retrieved_by}
 use Rattle.replay_model.specs.Setup.{Setup}
 use Rattle.layer_model.specs.Ids.{IssuedAll}
 use Rattle.layer_model.specs.Terminator.{terminator_leave}
 use Rattle.layer_model.specs.Walks.{PartState, is_guarded, leave_parts}
-use Rattle.chain_model.specs.Handed.{Handed, hand_all}
+use Rattle.chain_model.specs.Handed.{Handed, hand_all, handle_in}
 use Rattle.chain_model.specs.Simulated.{ChainKept, Held, born_flags}
 use Rattle.chain_model.specs.Traces.{held_in_force, in_force, starts_chain}
 use Rattle.terminator.specs.Calls.{TerminatorState, answered, drivers_for, routes_left}
@@ -26,6 +27,7 @@ use Rattle.dispatch_chain.specs.Seats.{kinds_of}
 use Rattle.session_model.specs.Session.{SessionKept}
 use Rattle.session_model.specs.Returning.{given_kept, held_of_thread, kept_after_return, made_kept, sent_of_thread}
 use Rattle.session_model.specs.Steps.{ComeUpApart, ReturnSteps}
+use Rattle.session_model.specs.Tables.{SaySame, with_tables}
 use Rattle.session_tables.specs.Lined.{AreAdded}
 use Rattle.session_parts.specs.declared.parts.SessionParts.{SessionParts}
 use Rattle.session_parts.specs.Entering.{IsLeft}
@@ -102,6 +104,11 @@ chain_up x r forms =
     let up = leave_parts r.thread x.states.kept forms all.results in
     record { states = up.states; terminator = all.ids; routes = routes_left x.terminator r.call all.results; handed = hand_all x.names.kept.handed r.made up.results; held = [] }
 
+-- parts, a terminator and handles that keep this of the chain: of the handles, what a look-up finds
+pub record KeepsChain (states : List PartState) (t : TerminatorState) (hs : List Handed) (k : ChainKept) : Type 0 where
+  pub chain : chain_at states t hs ≡ record k { handed = hs }
+  pub handed : (q : Object) → handle_in hs q ≡ handle_in k.handed q
+
 -- results may come up through all parts: the call came to each of them, and they are new once to each checking part
 pub record MayRise (thread : ℕ) (states : List PartState) (held : HeldCalls) (results : List ℕ) : Type 0 where
   pub forms : List CallContent
@@ -120,10 +127,11 @@ pub record MayComeUp (x : SessionParts) (r : Rising) (held : HeldCalls) : Type 0
 -- they have come up.
 pub record HasComeUp (old : SessionParts) (o : Opened) (call : CallContent) (held : HeldCalls) (replies : List ReplyContent) (new : SessionParts) (count : ℕ) : Type 0 where
   pub counted : count ≡ length (made_of old o)
-  pub names : new.names.kept.names ≡ old.names.kept.names ++ map named_of (made_of old o)
+  pub names : (q : Name) → object_in new.names.kept.names q ≡ object_in (old.names.kept.names ++ map named_of (made_of old o)) q
+  pub names_count : new.names.kept.count ≡ old.names.kept.count + length (made_of old o)
   pub births : AreAdded old.names.kept.births (births_given old.names.kept.births o.args (row_of o.cmd).effect (objects_of (made_of old o))) new.names.kept.births
   pub retrieved : new.names.kept.retrieved ≡ old.names.kept.retrieved ++ retrieved_by old.names.kept.births o (made_of old o)
-  pub chain : (forms : List CallContent) → IsHeldOf held (kinds_of old.states.kept) forms → chain_of new ≡ chain_up old (rising_of old o call replies) forms
+  pub chain : (forms : List CallContent) → IsHeldOf held (kinds_of old.states.kept) forms → KeepsChain new.states.kept new.terminator new.names.kept.handed (chain_up old (rising_of old o call replies) forms)
   pub drivers : new.terminator.drivers ≡ old.terminator.drivers
 
 -- so has that of an event
@@ -166,11 +174,12 @@ pub record CanLeave (x : SessionParts) (e : BeginEvent) (call : CallContent) (he
   pub stays : is_skipped sent.opened ≡ false → starts_chain sent.opened ≡ false
   pub returns : Returns setup kept sent form
 
--- what a call comes to that has left: the births of what lives then, what is kept, and how many of its results are born
+-- what a call comes to that has left: the births of what lives then, what is kept, with names and handles that say the same, and how many of its results are born
 pub record Departed (s : Setup) (k : SessionKept) (c : Sent) (h : Held) (new : SessionParts) (count : ℕ) : Type 0 where
   pub births : List Birth
   pub since : AreAdded k.births (given_kept s k c.opened) births
-  pub shows : PartsShow s new (kept_after_return s k c h births)
+  pub same : SaySame (kept_after_return s k c h births) new.names.kept.names new.names.kept.handed
+  pub shows : PartsShow s new (with_tables (kept_after_return s k c h births) new.names.kept.names new.names.kept.handed)
   pub counted : count ≡ length (made_kept s k c.opened)
 
 -- so it is for whatever the parts keep

@@ -6,10 +6,11 @@ use Rattle.replay_model.specs.Past.{Retrieval}
 use Rattle.chain_model.specs.Handed.{Handed}
 use Rattle.session_parts.specs.Scratch.{KeepsScratch, ScratchRoom}
 
--- the names with the objects that they stand for; the births of what lives, with their owners; the retrieved objects with their owners and keys; and
--- the value of each object above the first part of the chain
+-- the names with the objects that they stand for, in any order, and how many were kept; the births of what lives, with their owners; the retrieved objects with their owners and keys; and
+-- the value of each object above the first part of the chain, in any order
 pub record NamesKept : Type 0 where
   pub names : List Named
+  pub count : ℕ
   pub births : List Birth
   pub retrieved : List Retrieval
   pub handed : List Handed
@@ -58,4 +59,4 @@ pub record CanKeep (count key : ℕ) (room : NamesRoom) : Type 0 where
 
 -- nothing is kept yet
 abbrev pub no_names : NamesKept
-no_names = record { names = []; births = []; retrieved = []; handed = [] }
+no_names = record { names = []; count = 0; births = []; retrieved = []; handed = [] }

@@ -7,6 +7,7 @@ use Rattle.session_parts.specs.declared.parts.SessionParts.{SessionParts}
 -- what the parts keep is what is kept here beside the open calls and the counts, under a setup
 pub record PartsShow (s : Setup) (x : SessionParts) (k : SessionKept) : Type 0 where
   pub names : x.names.kept.names ≡ k.names
+  pub count : x.names.kept.count ≡ k.count
   pub births : x.names.kept.births ≡ k.births
   pub retrieved : x.names.kept.retrieved ≡ k.retrieved
   pub states : x.states.kept ≡ k.chain.states

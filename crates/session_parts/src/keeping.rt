@@ -1,9 +1,10 @@
 // What a session keeps of the results that are born.
 ghost use Rattle.std.specs.Prelude.{◌≡◌, ◌≤◌, ◌+◌, ◌*◌, ◌++◌, ◌∷◌, [], length, map, filter, IsOk, OnOk};
+ghost use Rattle.trace_format.specs.declared.event.Name.{Name};
 ghost use Rattle.object_model.specs.Keys.{key_payload};
 ghost use Rattle.command_tables.specs.Table.{row_of};
 ghost use Rattle.object_model.specs.History.{births_given};
-ghost use Rattle.replay_model.specs.Past.{is_new, named_of, objects_of, retrieval, retrieved_by};
+ghost use Rattle.replay_model.specs.Past.{is_new, named_of, object_in, objects_of, retrieval, retrieved_by};
 ghost use Rattle.session_tables.specs.Lined.{AreAdded, owners_made};
 ghost use Rattle.session_tables.specs.Shown.{args_shown};
 ghost use Rattle.session_parts.specs.Opened.{returning_shown};
@@ -19,7 +20,8 @@ use std::alloc::{AllocError, Global};
 
 // Keeps the names that stand for objects.
 fn keep_names(names: &mut NamedTable, made: &[Born]) -> Result<(), AllocError>
-    ensures names { OnOk result (names.new.names ≡ names.old.names ++ map named_of made.now) }
+    ensures names { OnOk result ((q : Name) → object_in names.new.names q ≡ object_in (names.old.names ++ map named_of made.now) q) }
+    ensures count { OnOk result (names.new.count ≡ names.old.count + length made.now) }
     ensures succeeds { length made.now ≤ names.old.spare → IsOk result }
     ensures spare { names.old.spare ≤ names.new.spare + length made.now }
 {
@@ -102,7 +104,8 @@ pub(crate) fn settle(
     objects: &mut ObjectTable,
     retrieved: &mut RetrievedTable,
 ) -> Result<(), AllocError>
-    ensures names { OnOk result (names.new.names ≡ names.old.names ++ map named_of born.now) }
+    ensures names { OnOk result ((q : Name) → object_in names.new.names q ≡ object_in (names.old.names ++ map named_of born.now) q) }
+    ensures count { OnOk result (names.new.count ≡ names.old.count + length born.now) }
     ensures births { OnOk result (AreAdded objects.old.births (births_given objects.old.births (args_shown call.entry.args.now) (row_of call.entry.cmd).effect (objects_of born.now)) objects.new.births) }
     ensures retrieved { OnOk result (retrieved.new.kept ≡ retrieved.old.kept ++ retrieved_by objects.old.births (returning_shown call.entry) born.now) }
     ensures succeeds { length (owners_made objects.old.births (args_shown call.entry.args.now) (row_of call.entry.cmd).effect) ≤ 3 → 3 ≤ objects.old.owners → length born.now ≤ names.old.spare → length born.now ≤ objects.old.spare → 3 * length born.now ≤ objects.old.links →

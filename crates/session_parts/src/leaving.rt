@@ -8,7 +8,7 @@ ghost use Rattle.dispatch_chain.specs.Holding.{IsHeldOf};
 ghost use Rattle.dispatch_chain.specs.Seats.{kinds_of};
 ghost use Rattle.dispatch_chain.specs.Room.{AllHaveBirths, KeepUses};
 ghost use Rattle.terminator.specs.Room.{HasRoomForResults, bytes_with};
-ghost use Rattle.session_parts.specs.Leaving.{ComesUp, HasComeUp, MayComeUp, chain_of, chain_up, opened_again, rising_again, rising_of};
+ghost use Rattle.session_parts.specs.Leaving.{ComesUp, HasComeUp, KeepsChain, MayComeUp, chain_up, opened_again, rising_again, rising_of};
 ghost use Rattle.session_parts.specs.Opened.{returning_shown};
 ghost use Rattle.session_parts.specs.Opening.{begin_content};
 ghost use Rattle.session_parts.specs.Room.{HasRoomToComeUp, TakesResults};
@@ -41,7 +41,7 @@ fn rise_flagged(
     requires table { table.now.rows ≡ kinds_of parts.old.states.kept }
     requires flags { born_where results.old ≡ born_flags made.now lost.now }
     requires may { MayComeUp parts.old (record { thread = thread; call = call_content call.now; replies = map reply_shown replies.now; made = made.now; lost = lost.now }) held.now }
-    ensures chain { OnOk result ((forms : List CallContent) → IsHeldOf held.now (kinds_of parts.old.states.kept) forms → chain_of parts.new ≡ chain_up parts.old (record { thread = thread; call = call_content call.now; replies = map reply_shown replies.now; made = made.now; lost = lost.now }) forms) }
+    ensures chain { OnOk result ((forms : List CallContent) → IsHeldOf held.now (kinds_of parts.old.states.kept) forms → KeepsChain parts.new.states.kept parts.new.terminator parts.new.names.kept.handed (chain_up parts.old (record { thread = thread; call = call_content call.now; replies = map reply_shown replies.now; made = made.now; lost = lost.now }) forms)) }
     ensures drivers { parts.new.terminator.drivers ≡ parts.old.terminator.drivers }
     ensures rest { parts.new.names.kept ≡ record parts.old.names.kept { handed = parts.new.names.kept.handed } }
     ensures kinds { kinds_of parts.new.states.kept ≡ kinds_of parts.old.states.kept }
@@ -74,7 +74,7 @@ fn rise(
 ) -> Result<(), NoMemory>
     requires table { table.now.rows ≡ kinds_of parts.old.states.kept }
     requires may { MayComeUp parts.old (record { thread = thread; call = call_content call.now; replies = map reply_shown replies.now; made = made.now; lost = lost.now }) held.now }
-    ensures chain { OnOk result ((forms : List CallContent) → IsHeldOf held.now (kinds_of parts.old.states.kept) forms → chain_of parts.new ≡ chain_up parts.old (record { thread = thread; call = call_content call.now; replies = map reply_shown replies.now; made = made.now; lost = lost.now }) forms) }
+    ensures chain { OnOk result ((forms : List CallContent) → IsHeldOf held.now (kinds_of parts.old.states.kept) forms → KeepsChain parts.new.states.kept parts.new.terminator parts.new.names.kept.handed (chain_up parts.old (record { thread = thread; call = call_content call.now; replies = map reply_shown replies.now; made = made.now; lost = lost.now }) forms)) }
     ensures drivers { parts.new.terminator.drivers ≡ parts.old.terminator.drivers }
     ensures rest { parts.new.names.kept ≡ record parts.old.names.kept { handed = parts.new.names.kept.handed } }
     ensures kinds { kinds_of parts.new.states.kept ≡ kinds_of parts.old.states.kept }

@@ -1,12 +1,14 @@
 // What a session keeps of names and objects.
 ghost use Rattle.std.specs.Prelude.{◌≡◌, ◌≤◌, ◌+◌, ◌*◌, ◌++◌, length, map, IfOk, IsOk, OnOk};
+ghost use Rattle.object_model.specs.declared.Object.{Object};
+ghost use Rattle.trace_format.specs.declared.event.Name.{Name};
 ghost use Rattle.object_model.specs.Keys.{key_payload};
 ghost use Rattle.command_tables.specs.Table.{row_of};
 ghost use Rattle.object_model.specs.History.{births_given, ends_by};
-ghost use Rattle.replay_model.specs.Past.{named_of, objects_of, retrieved_by};
+ghost use Rattle.replay_model.specs.Past.{named_of, object_in, objects_of, retrieved_by};
 ghost use Rattle.session_tables.specs.Lined.{AreAdded, AreLeft, AreLined, owners_made};
 ghost use Rattle.session_tables.specs.Shown.{args_shown};
-ghost use Rattle.chain_model.specs.Handed.{hand_all};
+ghost use Rattle.chain_model.specs.Handed.{hand_all, handle_in};
 ghost use Rattle.session_parts.specs.Names.{CanKeep, CanSettle, TakesRoom, no_names};
 ghost use Rattle.session_parts.specs.Scratch.{HoldsCalls, scratch_room};
 ghost use Rattle.session_parts.specs.Opened.{returning_shown};
@@ -42,7 +44,7 @@ impl Model for NameTable {
 
     ghost Value = { NameTableState };
 
-    ghost view = { λ t. record { kept = record { names = t.named.names; births = t.objects.births; retrieved = t.retrieved.kept; handed = t.handed.handed }; room = record { names = t.named.spare; births = t.objects.spare; links = t.objects.links; owners = t.objects.owners; handed = t.handed.spare; retrieved = t.retrieved.spare; bytes = t.retrieved.bytes; scratch = scratch_room t.scratch } } };
+    ghost view = { λ t. record { kept = record { names = t.named.names; count = t.named.count; births = t.objects.births; retrieved = t.retrieved.kept; handed = t.handed.handed }; room = record { names = t.named.spare; births = t.objects.spare; links = t.objects.links; owners = t.objects.owners; handed = t.handed.spare; retrieved = t.retrieved.spare; bytes = t.retrieved.bytes; scratch = scratch_room t.scratch } } };
 }
 
 impl NameTable {
@@ -92,7 +94,8 @@ impl NameTable {
 
     /// The names with their objects.
     pub fn named(&self) -> &session_tables::NamedTable
-        ensures { result.now.names ≡ self.now.kept.names }
+        ensures names { result.now.names ≡ self.now.kept.names }
+        ensures count { result.now.count ≡ self.now.kept.count }
     {
         &self.named
     }
@@ -147,7 +150,7 @@ impl NameTable {
 
     /// Gives each object that a call made its handle: the results that aren't lost, in turn.
     pub fn hand_each(&mut self, made: &[Born], handles: &[u64]) -> Result<(), AllocError>
-        ensures handed { OnOk result (self.new.kept.handed ≡ hand_all self.old.kept.handed made.now handles.now) }
+        ensures handed { OnOk result ((o : Object) → handle_in self.new.kept.handed o ≡ handle_in (hand_all self.old.kept.handed made.now handles.now) o) }
         ensures rest { self.new.kept ≡ record self.old.kept { handed = self.new.kept.handed } }
         ensures succeeds { length made.now ≤ self.old.room.handed → IsOk result }
         ensures room { self.new.room ≡ record self.old.room { handed = self.new.room.handed } }
@@ -158,7 +161,8 @@ impl NameTable {
 
     /// Adds what a call made: its names, its births and what it retrieved first. Where there is room for so many, this takes no memory.
     pub fn settle(&mut self, call: ReturningCall<'_>, born: &[Born]) -> Result<(), AllocError>
-        ensures names { OnOk result (self.new.kept.names ≡ self.old.kept.names ++ map named_of born.now) }
+        ensures names { OnOk result ((q : Name) → object_in self.new.kept.names q ≡ object_in (self.old.kept.names ++ map named_of born.now) q) }
+        ensures count { OnOk result (self.new.kept.count ≡ self.old.kept.count + length born.now) }
         ensures births { OnOk result (AreAdded self.old.kept.births (births_given self.old.kept.births (args_shown call.entry.args.now) (row_of call.entry.cmd).effect (objects_of born.now)) self.new.kept.births) }
         ensures retrieved { OnOk result (self.new.kept.retrieved ≡ self.old.kept.retrieved ++ retrieved_by self.old.kept.births (returning_shown call.entry) born.now) }
         ensures handed { self.new.kept.handed ≡ self.old.kept.handed }

@@ -11,18 +11,9 @@ use crate::returning_call::ReturningCall;
 use command_tables::{CommandId, Effect, ObjectType};
 use object_model::Object;
 use replay_model::Born;
-use session_tables::{BirthTable, ObjectTable, RetrievedKey, RetrievedTable, owner};
+use session_tables::{BirthTable, ObjectTable, RetrievedKey, RetrievedTable, own_object, owner};
 use std::alloc::AllocError;
 use trace_format::Name;
-
-fn own(ty: ObjectType, name: Name) -> Object
-    ensures { result ≡ own_object ty name }
-{
-    Object {
-        ty,
-        number: u64::from(name.number) * 2048 + u64::from(name.thread),
-    }
-}
 
 /// The payload as far as it is part of a retrieved object's key.
 #[tactic(auto, unfolding(command_tables::specs::Tests::same_command))]
@@ -53,7 +44,7 @@ fn retrieved_of(
         place,
         payload: key_of(call),
     };
-    table.object_with(key).unwrap_or(own(ty, name))
+    table.object_with(key).unwrap_or(own_object(ty, name))
 }
 
 fn retrieved(
@@ -67,7 +58,7 @@ fn retrieved(
     ensures { result ≡ retrieved_object table.now.kept (returning_shown call.entry) owner ty place name }
 {
     match owner {
-        None => own(ty, name),
+        None => own_object(ty, name),
         Some(owner) => retrieved_of(table, call, owner, ty, place, name),
     }
 }
@@ -82,7 +73,7 @@ fn put_created(ty: ObjectType, names: &[Name], all: &mut Vec<Born>) -> Result<()
         all.push(Born {
             place: k,
             name: *name,
-            object: own(ty, *name),
+            object: own_object(ty, *name),
         })?;
     }
     Ok(())

@@ -2,7 +2,9 @@ pub mod Lists
 pub mod Objects
 pub mod Same
 pub mod Rows
+pub mod Columns
 pub mod FilingLemmas
+pub mod FiledObjects
 pub mod Names
 pub mod PlacedLemmas
 pub mod Ends

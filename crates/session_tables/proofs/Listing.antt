@@ -216,14 +216,6 @@ chain_next nodes (suc place) d down some within =
     let low : x.before ≤ place = down place x there in
     (ap (from_node (objects_within nodes place)) there ∙ ap (λ (xs : List Object). x.object ∷ xs) (chain_enough nodes down place x.before x.before low (omega arith)), omega (arith, low))
 
--- no nodes
-pub chained_none : (heads : PlacedTable ℕ) (nodes : List OwnedNode) → ArePlaced heads → heads.entries.items ≡ [] → nodes ≡ [] → LeadToNodes heads nodes
-chained_none heads nodes placed none empty = record {
-  placed = placed;
-  down = λ i n at. let gone : slice_get [] i ≡ Some n = ap (λ (ns : List OwnedNode). slice_get ns i) (sym empty) ∙ at in cc;
-  within = λ w. let first : head_in heads w ≡ 0 = ap (λ (es : List (Placed ℕ)). head_at (entry_of es w)) none in omega (arith, first);
-}
-
 -- a node behind that is no owner's
 pub chained_stray : (heads after : PlacedTable ℕ) (nodes news : List OwnedNode) (e : OwnedNode) → LeadToNodes heads nodes → ArePlaced after → news ≡ nodes ++ e ∷ [] → e.before ≤ length nodes → ((w : Object) → head_in after w ≡ head_in heads w)
     → LeadToNodes after news × ((w : Object) → objects_from news (head_in after w) ≡ objects_from nodes (head_in heads w))
@@ -674,9 +666,6 @@ same_room room = omega arith
 
 pub one_more : (room : ℕ) → room ≤ room + 1
 one_more room = omega arith
-
-pub at_least : (room n : ℕ) → room ≤ room + n
-at_least room n = omega arith
 
 -- a node more, and one that could not be added
 pub room_more : (cap more len now heads after : ℕ) → cap ≤ more → now ≡ len + 1 → heads ≤ after + 1 → min (min cap 4294967295 - len) heads ≤ min (min more 4294967295 - now) after + 1

@@ -1,197 +1,204 @@
--- The place where each name stands first, and the columns of names and objects.
-use Rattle.std.proofs.Common.{◌≡◌, ◌≢◌, ◌<◌, ◌≤◌, ◌+◌, ◌-◌, ◌∙◌, ◌==◌, ℕ, zero, suc, Bool, true, false, cond, Option, Some, None, List, [], ◌∷◌, ◌++◌, length, refl, sym, ap, arith}
-use Rattle.std.specs.Prelude.{Vec, find, option_and_then, slice_get}
-use Rattle.std.specs.Option.{option_map, option_or}
-use Rattle.std.proofs.lemmas.Bool.{and_parts, eqb-true}
-use Rattle.std.proofs.lemmas.Grind.{common_steps}
-use Rattle.std.proofs.lemmas.Option.{same_Some}
+-- Names in the rows and beside them: a look-up finds what is kept.
+use Rattle.std.proofs.Common.{◌≡◌, ◌≢◌, ◌<◌, ◌+◌, ℕ, zero, suc, ◌==◌, ◌&&◌, Bool, true, false, cond, Option, Some, None, List, [], ◌∷◌, ◌++◌, ◌||◌, map, refl, sym, ap, ◌∙◌, arith}
+use Rattle.std.proofs.lemmas.Bool.{eqb-true, eq-eqb}
+use Rattle.std.specs.List.{find}
+use Rattle.std.specs.Option.{option_map, option_map_or, option_or}
+use Rattle.std.specs.Prelude.{Vec, is_some, slice_get}
 use Rattle.command_tables.specs.declared.types.ObjectType.{ObjectType}
 use Rattle.object_model.specs.declared.Object.{Object}
 use Rattle.trace_format.specs.declared.event.Name.{Name}
 use Rattle.trace_format.specs.Accepting.{same_name}
+use Rattle.replay_model.specs.Births.{own_object}
 use Rattle.replay_model.specs.declared.Named.{Named}
 use Rattle.replay_model.specs.Past.{object_in}
-use Rattle.session_tables.specs.Columns.{named_shown, objects_shown}
-use Rattle.session_tables.specs.Dense.{cell}
-use Rattle.session_tables.specs.Shown.{first_at, place_at, place_before, place_kept}
+use Rattle.session_tables.specs.Dense.{cell_in}
+use Rattle.session_tables.specs.Named.{beside_named, is_among, name_at, own_named, row_named, rows_named}
+use Rattle.session_tables.specs.Shown.{object_at}
+use Rattle.session_tables.proofs.Rows.{by_items}
+use Rattle.session_tables.proofs.Same.{same_name_is}
 
--- ---- columns
+-- ---- names that aren't the same
 
--- as many objects as types
-pub objects_len : (ts : List ObjectType) (ns : List ℕ) → length ts ≡ length ns → length (objects_shown ts ns) ≡ length ts
-objects_len [] ns all = refl
-objects_len (t ∷ ts) [] all = absurd (omega (arith, all))
-objects_len (t ∷ ts) (n ∷ ns) all = ap (λ (k : ℕ). suc k) (objects_len ts ns (omega (arith, all)))
-
--- one object more
-pub objects_more : (ts : List ObjectType) (ns : List ℕ) (t : ObjectType) (n : ℕ) → length ts ≡ length ns → objects_shown (ts ++ t ∷ []) (ns ++ n ∷ []) ≡ objects_shown ts ns ++ record { ty = t; number = n } ∷ []
-objects_more [] [] t n all = refl
-objects_more [] (m ∷ ns) t n all = absurd (omega (arith, all))
-objects_more (s ∷ ts) [] t n all = absurd (omega (arith, all))
-objects_more (s ∷ ts) (m ∷ ns) t n all = ap (λ (os : List Object). record { ty = s; number = m } ∷ os) (objects_more ts ns t n (omega (arith, all)))
-
--- the object in a place
-pub objects_at : (ts : List ObjectType) (ns : List ℕ) (p : ℕ) (t : ObjectType) (n : ℕ) → length ts ≡ length ns → slice_get ts p ≡ Some t → slice_get ns p ≡ Some n → slice_get (objects_shown ts ns) p ≡ Some (record { ty = t; number = n })
-objects_at [] ns p t n all at there = cc at
-objects_at (s ∷ ts) [] p t n all at there = absurd (omega (arith, all))
-objects_at (s ∷ ts) (m ∷ ns) zero t n all at there = ap (λ (u : ObjectType). Some (record { ty = u; number = m })) (same_Some s t at) ∙ ap (λ (k : ℕ). Some (record { ty = t; number = k })) (same_Some m n there)
-objects_at (s ∷ ts) (m ∷ ns) (suc p) t n all at there = objects_at ts ns p t n (omega (arith, all)) at there
-
--- as many names as objects
-pub named_len : (ns : List Name) (os : List Object) → length ns ≡ length os → length (named_shown ns os) ≡ length ns
-named_len [] os all = refl
-named_len (n ∷ ns) [] all = absurd (omega (arith, all))
-named_len (n ∷ ns) (o ∷ os) all = ap (λ (k : ℕ). suc k) (named_len ns os (omega (arith, all)))
-
--- one name more
-pub named_more : (ns : List Name) (os : List Object) (n : Name) (o : Object) → length ns ≡ length os → named_shown (ns ++ n ∷ []) (os ++ o ∷ []) ≡ named_shown ns os ++ record { name = n; object = o } ∷ []
-named_more [] [] n o all = refl
-named_more [] (p ∷ os) n o all = absurd (omega (arith, all))
-named_more (m ∷ ns) [] n o all = absurd (omega (arith, all))
-named_more (m ∷ ns) (p ∷ os) n o all = ap (λ (xs : List Named). record { name = m; object = p } ∷ xs) (named_more ns os n o (omega (arith, all)))
-
--- and so they stay with one more of each
-pub longer : {X Y : Type 0} (xs : List X) (ys : List Y) (x : X) (y : Y) → length xs ≡ length ys → length (xs ++ x ∷ []) ≡ length (ys ++ y ∷ [])
-longer xs ys x y all = grind (arith, common_steps)
-
--- ---- places
-
--- what a link leads to that isn't 0
-pub before_is : (link : ℕ) → link ≢ 0 → place_before link ≡ Some (link - 1)
-before_is zero e = absurd (e refl)
-before_is (suc n) e = let same : n ≡ suc n - 1 = omega arith in ap (λ (k : ℕ). Some k) same
-
-after : (m : Option ℕ) (p : ℕ) → option_map (λ (n : ℕ). suc n) m ≡ Some p → (n : ℕ) × (m ≡ Some n) × (p ≡ suc n)
-after None p e = cc e
-after (Some n) p e = (n, refl, sym (same_Some (suc n) p e))
-
-none_after : (m : Option ℕ) → option_map (λ (n : ℕ). suc n) m ≡ None → m ≡ None
-none_after None e = refl
-none_after (Some n) e = cc e
-
--- it lies within the list
-pub first_within : (names : List Name) (q : Name) (p : ℕ) → first_at names q ≡ Some p → p < length names
-first_within [] q p is = cc is
-first_within (x ∷ names) q p is = go (same_name x q) is (λ n. first_within names q n)
+pub not_equal : (n m : ℕ) → n ≢ m → (n == m) ≡ false
+not_equal n m apart = go (n == m) refl
   where
-    go : (t : Bool) → cond t (Some 0) (option_map (λ (n : ℕ). suc n) (first_at names q)) ≡ Some p → ((n : ℕ) → first_at names q ≡ Some n → n < length names) → p < suc (length names)
-    go true e behind = let first : 0 ≡ p = same_Some 0 p e in omega arith
-    go false e behind =
-        let rest = after (first_at names q) p e in
-        let within : rest.0 < length names = behind rest.0 rest.1 in
-        omega (arith, rest.2)
+    go : (b : Bool) → (n == m) ≡ b → (n == m) ≡ false
+    go true e = absurd (apart (eqb-true n m e))
+    go false e = e
 
--- a name stands for the object in its place
-pub first_found : (names : List Name) (os : List Object) (q : Name) (p : ℕ) (o : Object) → length names ≡ length os → first_at names q ≡ Some p → slice_get os p ≡ Some o → Some o ≡ object_in (named_shown names os) q
-first_found [] os q p o all is at = cc is
-first_found (x ∷ names) [] q p o all is at = absurd (omega (arith, all))
-first_found (x ∷ names) (y ∷ os) q p o all is at = go (same_name x q) is (λ n f. first_found names os q n o (omega (arith, all)) f)
+and_none : (b : Bool) → (b && false) ≡ false
+and_none true = refl
+and_none false = refl
+
+other_number : (t n : ℕ) (q : Name) → n ≢ q.number → same_name (name_at t n) q ≡ false
+other_number t n q apart = ap (λ b. t == q.thread && b) (not_equal n q.number apart) ∙ and_none (t == q.thread)
+
+other_thread : (t n : ℕ) (q : Name) → t ≢ q.thread → same_name (name_at t n) q ≡ false
+other_thread t n q apart = ap (λ b. b && n == q.number) (not_equal t q.thread apart)
+
+same_sym : (a b : Name) → same_name a b ≡ same_name b a
+same_sym a b = go (same_name a b) refl (same_name b a) refl
   where
-    go : (t : Bool) → cond t (Some 0) (option_map (λ (n : ℕ). suc n) (first_at names q)) ≡ Some p → ((n : ℕ) → first_at names q ≡ Some n → slice_get os n ≡ Some o → Some o ≡ object_in (named_shown names os) q)
-        → Some o ≡ option_map (λ (e : Named). e.object) (cond t (Some (record { name = x; object = y })) (find (λ (e : Named). same_name e.name q) (named_shown names os)))
-    go true f behind =
-        let first : 0 ≡ p = same_Some 0 p f in
-        sym at ∙ ap (slice_get (y ∷ os)) (sym first)
-    go false f behind =
-        let rest = after (first_at names q) p f in
-        behind rest.0 rest.1 (ap (slice_get (y ∷ os)) (sym rest.2) ∙ at)
+    one : a ≡ b → same_name a b ≡ same_name b a
+    one p = ap (same_name a) (sym p) ∙ ap (λ (x : Name). same_name x a) p
 
--- a name without a place stands for none
-pub first_missing : (names : List Name) (os : List Object) (q : Name) → first_at names q ≡ None → None ≡ object_in (named_shown names os) q
-first_missing [] os q is = refl
-first_missing (x ∷ names) [] q is = refl
-first_missing (x ∷ names) (y ∷ os) q is = go (same_name x q) is (first_missing names os q)
+    go : (t : Bool) → same_name a b ≡ t → (u : Bool) → same_name b a ≡ u → same_name a b ≡ same_name b a
+    go true e u f = one (same_name_is a b e)
+    go false e true f = one (sym (same_name_is b a f))
+    go false e false f = e ∙ sym f
+
+-- ---- lists of names
+
+-- what a name that comes first stands for
+first_named : (x : Named) (xs : List Named) (q : Name) (t : Bool) → same_name x.name q ≡ t → object_in (x ∷ xs) q ≡ cond t (Some x.object) (object_in xs q)
+first_named x xs q true e = ap (λ b. option_map (λ (n : Named). n.object) (cond b (Some x) (find (λ (n : Named). same_name n.name q) xs))) e
+first_named x xs q false e = ap (λ b. option_map (λ (n : Named). n.object) (cond b (Some x) (find (λ (n : Named). same_name n.name q) xs))) e
+
+pub named_behind : (xs ys : List Named) (q : Name) → object_in (xs ++ ys) q ≡ option_or (object_in xs q) (object_in ys q)
+named_behind [] ys q = refl
+named_behind (x ∷ xs) ys q = go (named_behind xs ys q) (same_name x.name q) refl
   where
-    go : (t : Bool) → cond t (Some 0) (option_map (λ (n : ℕ). suc n) (first_at names q)) ≡ None → (first_at names q ≡ None → None ≡ object_in (named_shown names os) q)
-        → None ≡ option_map (λ (e : Named). e.object) (cond t (Some (record { name = x; object = y })) (find (λ (e : Named). same_name e.name q) (named_shown names os)))
-    go true e behind = cc e
-    go false e behind = behind (none_after (first_at names q) e)
+    go : object_in (xs ++ ys) q ≡ option_or (object_in xs q) (object_in ys q) → (t : Bool) → same_name x.name q ≡ t → object_in (x ∷ xs ++ ys) q ≡ option_or (object_in (x ∷ xs) q) (object_in ys q)
+    go ih true e = first_named x (xs ++ ys) q true e ∙ ap (λ (f : Option Object). option_or f (object_in ys q)) (sym (first_named x xs q true e))
+    go ih false e = first_named x (xs ++ ys) q false e ∙ (ih ∙ ap (λ (f : Option Object). option_or f (object_in ys q)) (sym (first_named x xs q false e)))
 
--- the place of a name, in a list with one name more
-pub first_more : (names : List Name) (n q : Name) → first_at (names ++ n ∷ []) q ≡ option_or (first_at names q) (cond (same_name n q) (Some (length names)) None)
-first_more [] n q = refl
-first_more (x ∷ names) n q = go (same_name x q) (first_at names q) (same_name n q) (first_more names n q)
-  where
-    go : (t : Bool) (m : Option ℕ) (u : Bool) → first_at (names ++ n ∷ []) q ≡ option_or m (cond u (Some (length names)) None)
-        → cond t (Some 0) (option_map (λ (k : ℕ). suc k) (first_at (names ++ n ∷ []) q)) ≡ option_or (cond t (Some 0) (option_map (λ (k : ℕ). suc k) m)) (cond u (Some (suc (length names))) None)
-    go true m u more = refl
-    go false None true more = ap (option_map (λ (k : ℕ). suc k)) more
-    go false None false more = ap (option_map (λ (k : ℕ). suc k)) more
-    go false (Some k) u more = ap (option_map (λ (j : ℕ). suc j)) more
-
--- ---- links in the rows, and beside them
-
-name_is : (a b : Name) → same_name a b ≡ true → a ≡ b
-name_is a b e =
-    let parts = and_parts (a.thread == b.thread) (a.number == b.number) e in
-    ap (λ (k : ℕ). record { thread = k; number = a.number }) (eqb-true a.thread b.thread parts.0) ∙ ap (λ (k : ℕ). record { thread = b.thread; number = k }) (eqb-true a.number b.number parts.1)
-
-none_first : (a b : Option ℕ) → option_or a b ≡ None → a ≡ None
-none_first None b e = refl
-none_first (Some x) b e = cc e
-
--- the link of a name is the one in the rows, where that isn't 0
-pub linked_near : (link here : ℕ) (other : Option ℕ) → link ≡ here → link ≢ 0 → place_before link ≡ option_or (place_before here) (option_and_then (λ (l : ℕ). place_before l) other)
-linked_near link here other is some = before_is link some ∙ sym (ap (λ (p : Option ℕ). option_or p (option_and_then (λ (l : ℕ). place_before l) other)) (ap place_before (sym is) ∙ before_is link some))
-
--- and else the other
-pub linked_far : (link here : ℕ) (other : Option ℕ) (found : ℕ) → link ≡ here → link ≡ 0 → place_before found ≡ option_and_then (λ (l : ℕ). place_before l) other
-    → place_before found ≡ option_or (place_before here) (option_and_then (λ (l : ℕ). place_before l) other)
-linked_far link here other found is none at = at ∙ ap (λ (h : ℕ). option_or (place_before h) (option_and_then (λ (l : ℕ). place_before l) other)) (sym none ∙ is)
-
--- a link that is put into the rows
-pub filed_near : {A : Type 0} (old new : List (Vec ℕ A)) (other : Option ℕ) (n q : Name) (link : ℕ) → 1 ≤ link → cell 0 new q.thread q.number ≡ cond (same_name n q) link (cell 0 old q.thread q.number)
-    → place_kept new other q ≡ cond (same_name n q) (place_before link) (place_kept old other q)
-filed_near old new other n q zero some is = absurd (omega (arith, some))
-filed_near old new other n q (suc k) some is = ap (λ (l : ℕ). option_or (place_before l) (option_and_then (λ (m : ℕ). place_before m) other)) is ∙ go (same_name n q)
-  where
-    go : (t : Bool) → option_or (place_before (cond t (suc k) (cell 0 old q.thread q.number))) (option_and_then (λ (m : ℕ). place_before m) other) ≡ cond t (Some k) (place_kept old other q)
-    go true = refl
-    go false = refl
-
--- a link that is put beside them, for a name that has none
-pub filed_far : {A : Type 0} (rows : List (Vec ℕ A)) (old new before : Option ℕ) (n q : Name) (link : ℕ) → place_kept rows before n ≡ None → new ≡ cond (same_name n q) (Some link) old
-    → place_kept rows new q ≡ cond (same_name n q) (place_before link) (place_kept rows old q)
-filed_far rows old new before n q link none is = ap (λ (o : Option ℕ). place_kept rows o q) is ∙ go (same_name n q) refl
-  where
-    go : (t : Bool) → same_name n q ≡ t → place_kept rows (cond t (Some link) old) q ≡ cond t (place_before link) (place_kept rows old q)
-    go true s =
-        let free : place_at rows q ≡ None = ap (place_at rows) (sym (name_is n q s)) ∙ none_first (place_at rows n) (option_and_then (λ (m : ℕ). place_before m) before) none in
-        ap (λ (o : Option ℕ). option_or o (place_before link)) free
-    go false s = refl
-
-or_none : (x : Option ℕ) → x ≡ option_or x None
+pub or_none : {X : Type 0} (x : Option X) → option_or x None ≡ x
 or_none None = refl
-or_none (Some k) = refl
+or_none (Some v) = refl
 
--- a name that has a place keeps it
-pub kept_first : (p : Name → Option ℕ) (n q : Name) (link count : ℕ) → place_before link ≡ p n → link ≢ 0 → p q ≡ option_or (p q) (cond (same_name n q) (Some count) None)
-kept_first p n q link count is some = go (same_name n q) refl (p q) refl
+-- ---- a row
+
+row_before : (t n : ℕ) (types : List (Option ObjectType)) (q : Name) → q.number < n → object_in (row_named t n types) q ≡ None
+row_before t n [] q less = refl
+row_before t n (None ∷ types) q less = row_before t (suc n) types q (omega (arith, less))
+row_before t n (Some ty ∷ types) q less =
+    first_named (own_named ty (name_at t n)) (row_named t (suc n) types) q false (other_number t n q (λ e. omega (arith, less, e))) ∙ row_before t (suc n) types q (omega (arith, less))
+
+row_other : (t n : ℕ) (types : List (Option ObjectType)) (q : Name) → t ≢ q.thread → object_in (row_named t n types) q ≡ None
+row_other t n [] q apart = refl
+row_other t n (None ∷ types) q apart = row_other t (suc n) types q apart
+row_other t n (Some ty ∷ types) q apart = first_named (own_named ty (name_at t n)) (row_named t (suc n) types) q false (other_thread t n q apart) ∙ row_other t (suc n) types q apart
+
+row_found : (t n k : ℕ) (types : List (Option ObjectType)) (q : Name) → t ≡ q.thread → q.number ≡ n + k → object_in (row_named t n types) q ≡ option_map (λ ty. own_object ty q) (cell_in None types k)
+row_found t n k [] q row at = refl
+row_found t n zero (None ∷ types) q row at = row_before t (suc n) types q (omega (arith, at))
+row_found t n (suc k) (None ∷ types) q row at = row_found t (suc n) k types q row (omega (arith, at))
+row_found t n zero (Some ty ∷ types) q row at =
+    let number : n ≡ q.number = omega (arith, at) in
+    let is : name_at t n ≡ q = λ i. record { thread = row i; number = number i } in
+    first_named (own_named ty (name_at t n)) (row_named t (suc n) types) q true (ap (λ b. b && n == q.number) (eq-eqb t q.thread row) ∙ eq-eqb n q.number number) ∙ ap (λ (x : Name). Some (own_object ty x)) is
+row_found t n (suc k) (Some ty ∷ types) q row at =
+    first_named (own_named ty (name_at t n)) (row_named t (suc n) types) q false (other_number t n q (λ e. omega (arith, at, e))) ∙ row_found t (suc n) k types q row (omega (arith, at))
+
+-- ---- all rows
+
+rows_before : (t : ℕ) (rows : List (List (Option ObjectType))) (q : Name) → q.thread < t → object_in (rows_named t rows) q ≡ None
+rows_before t [] q less = refl
+rows_before t (types ∷ rows) q less =
+    named_behind (row_named t 0 types) (rows_named (suc t) rows) q
+    ∙ (ap (λ (f : Option Object). option_or f (object_in (rows_named (suc t) rows) q)) (row_other t 0 types q (λ e. omega (arith, less, e))) ∙ rows_before (suc t) rows q (omega (arith, less)))
+
+rows_found : (t k : ℕ) (rows : List (List (Option ObjectType))) (q : Name) → q.thread ≡ t + k
+    → object_in (rows_named t rows) q ≡ option_map (λ ty. own_object ty q) (option_map_or (λ (cells : List (Option ObjectType)). cell_in None cells q.number) (slice_get rows k) None)
+rows_found t k [] q at = refl
+rows_found t zero (types ∷ rows) q at =
+    named_behind (row_named t 0 types) (rows_named (suc t) rows) q
+    ∙ (ap (option_or (object_in (row_named t 0 types) q)) (rows_before (suc t) rows q (omega (arith, at)))
+    ∙ (or_none (object_in (row_named t 0 types) q) ∙ row_found t 0 q.number types q (omega (arith, at)) (omega arith)))
+rows_found t (suc k) (types ∷ rows) q at =
+    named_behind (row_named t 0 types) (rows_named (suc t) rows) q
+    ∙ (ap (λ (f : Option Object). option_or f (object_in (rows_named (suc t) rows) q)) (row_other t 0 types q (λ e. omega (arith, at, e))) ∙ rows_found (suc t) k rows q (omega (arith, at)))
+
+-- a name stands for what is kept of it
+pub named_at : {A : Type 0} (rows : List (Vec (Option ObjectType) A)) (others : List Named) (q : Name)
+    → object_in (rows_named 0 (map (λ (r : Vec (Option ObjectType) A). r.items) rows) ++ others) q ≡ object_at rows (object_in others q) q
+named_at {A = A} rows others q =
+    let items = map (λ (r : Vec (Option ObjectType) A). r.items) rows in
+    named_behind (rows_named 0 items) others q
+    ∙ ap (λ (f : Option Object). option_or f (object_in others q)) (rows_found 0 q.thread items q (omega arith) ∙ ap (option_map (λ (ty : ObjectType). own_object ty q)) (sym (by_items None rows q.thread q.number)))
+
+-- where the same is kept, a name stands for the same
+pub named_alike : {A : Type 0} (rows more : List (Vec (Option ObjectType) A)) (others left : List Named) (q : Name) → object_at more (object_in left q) q ≡ object_at rows (object_in others q) q
+    → object_in (rows_named 0 (map (λ (r : Vec (Option ObjectType) A). r.items) more) ++ left) q ≡ object_in (rows_named 0 (map (λ (r : Vec (Option ObjectType) A). r.items) rows) ++ others) q
+named_alike rows more others left q alike = named_at more left q ∙ (alike ∙ sym (named_at rows others q))
+
+-- ---- beside the rows
+
+in_list : (names : List Name) (f : Name → Option Object) (q : Name) → object_in (beside_named f names) q ≡ cond (is_among names q) (f q) None
+in_list [] f q = refl
+in_list (n ∷ names) f q = go (f n) refl (same_name n q) refl (in_list names f q)
   where
-    go : (t : Bool) → same_name n q ≡ t → (x : Option ℕ) → p q ≡ x → x ≡ option_or x (cond t (Some count) None)
-    go true s None e = let none : Some (link - 1) ≡ None = sym (before_is link some) ∙ (is ∙ (ap p (name_is n q s) ∙ e)) in cc none
-    go true s (Some k) e = refl
-    go false s None e = refl
-    go false s (Some k) e = refl
+    none : (b : Bool) (x : Option Object) → x ≡ None → cond b x None ≡ x
+    none true x e = refl
+    none false x e = sym e
 
--- and one that has none gets this one
-pub kept_new : (p : Name → Option ℕ) (n q : Name) (link count : ℕ) (new : Option ℕ) → p n ≡ None → link ≡ count + 1 → new ≡ cond (same_name n q) (place_before link) (p q) → new ≡ option_or (p q) (cond (same_name n q) (Some count) None)
-kept_new p n q link count new none is put = put ∙ go (same_name n q) refl
+    go : (x : Option Object) → f n ≡ x → (t : Bool) → same_name n q ≡ t → object_in (beside_named f names) q ≡ cond (is_among names q) (f q) None
+        → object_in (option_map_or (λ (o : Object). record { name = n; object = o } ∷ beside_named f names) x (beside_named f names)) q ≡ cond (t || is_among names q) (f q) None
+    go None e true s ih = ih ∙ none (is_among names q) (f q) (ap f (sym (same_name_is n q s)) ∙ e)
+    go None e false s ih = ih
+    go (Some o) e true s ih = first_named (record { name = n; object = o }) (beside_named f names) q true s ∙ sym (ap f (sym (same_name_is n q s)) ∙ e)
+    go (Some o) e false s ih = first_named (record { name = n; object = o }) (beside_named f names) q false s ∙ ih
+
+-- a name stands for its object, where each that has one is listed
+pub beside_found : (names : List Name) (f : Name → Option Object) (q : Name) → (is_some (f q) ≡ true → is_among names q ≡ true) → object_in (beside_named f names) q ≡ f q
+beside_found names f q listed = in_list names f q ∙ go (f q) refl
   where
-    behind : link ≡ suc count
-    behind = omega (arith, is)
+    go : (x : Option Object) → f q ≡ x → cond (is_among names q) (f q) None ≡ f q
+    go None e = by (is_among names q)
+      where
+        by : (b : Bool) → cond b (f q) None ≡ f q
+        by true = refl
+        by false = sym e
+    go (Some o) e = ap (λ b. cond b (f q) None) (listed (ap is_some e))
 
-    go : (t : Bool) → same_name n q ≡ t → cond t (place_before link) (p q) ≡ option_or (p q) (cond t (Some count) None)
-    go true s = ap place_before behind ∙ ap (λ (x : Option ℕ). option_or x (Some count)) (sym (ap p (sym (name_is n q s)) ∙ none))
-    go false s = or_none (p q)
+-- one more is listed
+pub listed_more : (names : List Name) (n q : Name) → is_among (names ++ n ∷ []) q ≡ (is_among names q || same_name n q)
+listed_more [] n q = or_false (same_name n q)
+  where
+    or_false : (b : Bool) → (b || false) ≡ b
+    or_false true = refl
+    or_false false = refl
+listed_more (m ∷ names) n q = go (same_name m q) (listed_more names n q)
+  where
+    go : (t : Bool) → is_among (names ++ n ∷ []) q ≡ (is_among names q || same_name n q) → (t || is_among (names ++ n ∷ []) q) ≡ ((t || is_among names q) || same_name n q)
+    go true ih = refl
+    go false ih = ih
 
--- where the places, the names and the objects stay, they still are those of one another
-pub names_stay : (old new : Name → Option ℕ) (ns more : List Name) (os left : List Object) → (length ns ≡ length os) × ((name : Name) → old name ≡ first_at ns name) → ((name : Name) → new name ≡ old name) → more ≡ ns → left ≡ os
-    → (length more ≡ length left) × ((name : Name) → new name ≡ first_at more name)
-names_stay old new ns more os left all same names objects =
-    (ap (λ (xs : List Name). length xs) names ∙ (all.0 ∙ sym (ap (λ (xs : List Object). length xs) objects)), λ name. same name ∙ (all.1 name ∙ ap (λ (xs : List Name). first_at xs name) (sym names)))
+-- and so all that have one are
+pub all_listed : (names : List Name) (f g : Name → Option Object) (n : Name) (o : Object) → ((q : Name) → is_some (f q) ≡ true → is_among names q ≡ true) → ((q : Name) → g q ≡ cond (same_name n q) (Some o) (f q))
+    → (q : Name) → is_some (g q) ≡ true → is_among (names ++ n ∷ []) q ≡ true
+all_listed names f g n o listed put q some = listed_more names n q ∙ go (same_name n q) (is_among names q) refl (sym (ap is_some (put q)) ∙ some)
+  where
+    go : (t b : Bool) → is_among names q ≡ b → is_some (cond t (Some o) (f q)) ≡ true → (b || t) ≡ true
+    go t true e h = refl
+    go true false e h = refl
+    go false false e h = sym e ∙ listed q h
 
--- a place by the same links
-pub kept_alike : {A : Type 0} (rows copies : List (Vec ℕ A)) (old new : Option ℕ) (name : Name) → cell 0 copies name.thread name.number ≡ cell 0 rows name.thread name.number → new ≡ old → place_kept copies new name ≡ place_kept rows old name
-kept_alike rows copies old new name cells others =
-    ap (λ (k : ℕ). option_or (place_before k) (option_and_then (λ (l : ℕ). place_before l) new)) cells ∙ ap (λ (o : Option ℕ). place_kept rows o name) others
+-- ---- one name more
+
+pub more_named : (ns : List Named) (x : Named) (q : Name) → object_in (ns ++ x ∷ []) q ≡ option_or (object_in ns q) (cond (same_name x.name q) (Some x.object) None)
+more_named ns x q = named_behind ns (x ∷ []) q ∙ ap (option_or (object_in ns q)) (first_named x [] q (same_name x.name q) refl)
+
+-- a name that stands for something still does
+pub named_stays : (ns : List Named) (x : Named) (q : Name) → is_some (object_in ns x.name) ≡ true → object_in ns q ≡ object_in (ns ++ x ∷ []) q
+named_stays ns x q some = go (same_name x.name q) refl ∙ sym (more_named ns x q)
+  where
+    still : (f : Option Object) → is_some f ≡ true → f ≡ option_or f (Some x.object)
+    still None e = cc e
+    still (Some o) e = refl
+
+    go : (t : Bool) → same_name x.name q ≡ t → object_in ns q ≡ option_or (object_in ns q) (cond t (Some x.object) None)
+    go true e = still (object_in ns q) (ap (λ (n : Name). is_some (object_in ns n)) (sym (same_name_is x.name q e)) ∙ some)
+    go false e = sym (or_none (object_in ns q))
+
+-- one that stands for nothing stands for the new object
+pub named_new : (ns : List Named) (x : Named) (q : Name) (new : Option Object) → object_in ns x.name ≡ None → new ≡ cond (same_name x.name q) (Some x.object) (object_in ns q) → new ≡ object_in (ns ++ x ∷ []) q
+named_new ns x q new none is = is ∙ (go (same_name x.name q) refl ∙ sym (more_named ns x q))
+  where
+    go : (t : Bool) → same_name x.name q ≡ t → cond t (Some x.object) (object_in ns q) ≡ option_or (object_in ns q) (cond t (Some x.object) None)
+    go true e = ap (λ (f : Option Object). option_or f (Some x.object)) (sym (ap (object_in ns) (sym (same_name_is x.name q e)) ∙ none))
+    go false e = sym (or_none (object_in ns q))
+
+pub no_object : (x : Option Object) → is_some x ≡ false → x ≡ None
+no_object None e = refl
+no_object (Some o) e = cc e

@@ -1,5 +1,6 @@
-pub mod Columns
+pub mod Named
 pub mod Dense
+pub mod FiledRows
 pub mod Filing
 pub mod Lined
 pub mod Placed

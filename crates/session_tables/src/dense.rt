@@ -1,5 +1,5 @@
 // Values by row and place, in plain vectors: a look-up is two reads. Places where nothing was put hold the value of an empty one.
-ghost use Rattle.std.specs.Prelude.{◌≡◌, ◌&&◌, ◌==◌, ◌<◌, ◌^◌, ℕ, IfOk, IsOk, OnOk, OnErr, if◌then◌else◌, length, true};
+ghost use Rattle.std.specs.Prelude.{◌≡◌, ◌&&◌, ◌==◌, ◌<◌, ◌+◌, ◌^◌, ℕ, IfOk, IsOk, OnOk, OnErr, if◌then◌else◌, length, map, max, true};
 ghost use Rattle.session_tables.specs.Dense.{cell, cell_in, has_cell};
 
 use std::alloc::{AllocError, Global};
@@ -29,7 +29,8 @@ pub fn has_place<V: Copy>(rows: &[Vec<V>], row: usize, at: usize) -> bool
 
 /// Rows of their own with the same values.
 pub fn copy_rows<V: Copy + Drop>(alloc: Global, rows: &[Vec<V>]) -> Result<Vec<Vec<V>>, AllocError>
-    ensures { IfOk result (λ copies. (empty : V) (r n : ℕ) → cell empty copies.items r n ≡ cell empty rows.now r n) }
+    ensures items { IfOk result (λ copies. map (λ r. r.items) copies.items ≡ map (λ r. r.items) rows.now) }
+    ensures cells { IfOk result (λ copies. (empty : V) (r n : ℕ) → cell empty copies.items r n ≡ cell empty rows.now r n) }
 {
     let mut copies = Vec::new(alloc);
     for row in rows {
@@ -56,8 +57,10 @@ fn add_rows<V: Copy + Drop>(
 // A row has places up to this one.
 fn lengthen<V: Copy + Drop>(cells: &mut Vec<V>, at: usize, empty: V) -> Result<(), AllocError>
     requires { at < 2 ^ 63 }
-    ensures there { OnOk result (at < length cells.new.items) }
+    ensures long { OnOk result (length cells.new.items ≡ max (length cells.old.items) (at + 1)) }
     ensures same { (n : ℕ) → cell_in empty cells.new.items n ≡ cell_in empty cells.old.items n }
+    ensures err { OnErr result (cells.new.items ≡ cells.old.items) }
+    ensures succeeds { at < length cells.old.items → IsOk result }
 {
     if cells.len() <= at {
         cells.resize(at + 1, empty)?;
@@ -65,8 +68,8 @@ fn lengthen<V: Copy + Drop>(cells: &mut Vec<V>, at: usize, empty: V) -> Result<(
     Ok(())
 }
 
-// A value is put into a place of a row.
-fn put_in<V: Copy + Drop>(
+/// Puts a value into a place of a row, which is made as long: in no memory where the place is there.
+pub fn put_in<V: Copy + Drop>(
     cells: &mut Vec<V>,
     at: usize,
     value: V,
@@ -74,7 +77,9 @@ fn put_in<V: Copy + Drop>(
 ) -> Result<(), AllocError>
     requires { at < 2 ^ 63 }
     ensures ok { OnOk result ((n : ℕ) → cell_in empty cells.new.items n ≡ (if at == n then value else cell_in empty cells.old.items n)) }
-    ensures err { OnErr result ((n : ℕ) → cell_in empty cells.new.items n ≡ cell_in empty cells.old.items n) }
+    ensures long { OnOk result (length cells.new.items ≡ max (length cells.old.items) (at + 1)) }
+    ensures err { OnErr result (cells.new.items ≡ cells.old.items) }
+    ensures succeeds { at < length cells.old.items → IsOk result }
 {
     lengthen(cells, at, empty)?;
     cells[at] = value;
@@ -111,8 +116,8 @@ fn overwrite_in<V: Copy + Drop>(cells: &mut Vec<V>, at: usize, value: V)
     cells[at] = value;
 }
 
-/// Puts a value in the place of another one.
-pub fn overwrite<V: Copy + Drop>(rows: &mut Vec<Vec<V>>, row: usize, at: usize, value: V)
+// A value is put in the place of another one.
+fn overwrite<V: Copy + Drop>(rows: &mut Vec<Vec<V>>, row: usize, at: usize, value: V)
     requires { has_cell rows.old.items row at ≡ true }
     ensures { (empty : V) (r n : ℕ) → cell empty rows.new.items r n ≡ (if row == r && at == n then value else cell empty rows.old.items r n) }
 {

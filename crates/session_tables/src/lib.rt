@@ -4,12 +4,14 @@
 //! Leaves to others what a call makes and ends, and in which order.
 #![tactic(auto)]
 
+mod beside_names;
 mod birth_table;
 mod dense;
+mod filed_rows;
 mod named_table;
-mod object_list;
 mod object_places;
 mod object_table;
+mod own;
 mod owned_lists;
 mod owner_list;
 mod owners;
@@ -19,9 +21,9 @@ mod retrieved_table;
 
 pub use birth_table::BirthTable;
 pub use named_table::NamedTable;
-pub use object_list::ObjectList;
 pub use object_places::ObjectPlaces;
 pub use object_table::ObjectTable;
+pub use own::own_object;
 pub use owners::owner;
 pub use retrieved_map::RetrievedKey;
 pub use retrieved_table::RetrievedTable;

@@ -25,7 +25,7 @@ pub struct Placed<V: Drop> {
 #[derive(Drop)]
 pub struct PlacedTable<V: Drop> {
     pub entries: Vec<Placed<V>>,
-    pub places: ObjectPlaces,
+    pub places: ObjectPlaces<u32>,
 }
 
 #[tactic(auto, unfolding(command_tables::specs::Tests::same_type))]
@@ -39,7 +39,7 @@ fn is_at<V: Drop>(entries: &[Placed<V>], at: usize, object: Object) -> bool
 }
 
 // The entry that was moved to a place, if there is one, is found there.
-fn note_moved<V: Drop>(entries: &[Placed<V>], places: &mut ObjectPlaces, at: usize)
+fn note_moved<V: Drop>(entries: &[Placed<V>], places: &mut ObjectPlaces<u32>, at: usize)
     requires few { at < 2 ^ 32 }
     requires there { (p : Placed V) → slice_get entries.now at ≡ Some p → is_some (kept places.old p.object) ≡ true }
     ensures moved { (p : Placed V) → slice_get entries.now at ≡ Some p → (o : Object) → kept places.new o ≡ (if same p.object o then Some at else kept places.old o) }
@@ -58,7 +58,7 @@ impl<V: Drop> PlacedTable<V> {
     {
         PlacedTable {
             entries: Vec::new(alloc),
-            places: ObjectPlaces::new(alloc),
+            places: ObjectPlaces::new(alloc, 0),
         }
     }
 

@@ -40,6 +40,7 @@ alike_stand s x y events replies ls alike stood =
       kept = stood.kept;
       shows = record {
         names = ap (λ (k : NamesKept). k.names) alike.names ∙ shows.names;
+        count = ap (λ (k : NamesKept). k.count) alike.names ∙ shows.count;
         births = ap (λ (k : NamesKept). k.births) alike.names ∙ shows.births;
         retrieved = ap (λ (k : NamesKept). k.retrieved) alike.names ∙ shows.retrieved;
         states = alike.states ∙ shows.states;

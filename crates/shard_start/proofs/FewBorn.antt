@@ -94,11 +94,11 @@ few_in_parts n bs rs f seen k (Unique m ∷ states) few mirror = few_in_parts n 
 
 -- ---- where a session stands
 
-pub few_born : (s : Setup) (k : Kept) (events : List TraceEvent) (replies : List ReplyContent) → StandsFor s (Some k) events replies → HaveBorn (length k.parts.names.kept.names) k.parts.states.kept
+pub few_born : (s : Setup) (k : Kept) (events : List TraceEvent) (replies : List ReplyContent) → StandsFor s (Some k) events replies → HaveBorn k.parts.names.kept.count k.parts.states.kept
 few_born s k events replies st =
     let shows : Shows s k st.kept = st.shows in
     let past : Past = judged s events in
     let born : HaveBorn (length (named past)) st.kept.chain.states =
     few_in_parts (length (named past)) (births (history past)) (retrievals past) (first_of (valued past replies)) (seen_past past) 1 st.kept.chain.states (λ g j. few_seen g past j) st.stands.simulates.chain.mirror in
-    let names : length k.parts.names.kept.names ≡ length (named past) = ap length (shows.parts.names ∙ st.stands.names) in
-    subst (λ (ss : List PartState). HaveBorn (length k.parts.names.kept.names) ss) (sym shows.parts.states) (subst (λ n. HaveBorn n st.kept.chain.states) (sym names) born)
+    let names : k.parts.names.kept.count ≡ length (named past) = shows.parts.count ∙ st.stands.count in
+    subst (λ (ss : List PartState). HaveBorn k.parts.names.kept.count ss) (sym shows.parts.states) (subst (λ n. HaveBorn n st.kept.chain.states) (sym names) born)

@@ -1,48 +1,18 @@
 // Room that is made for what comes, of all sizes: what stood before stands behind it, and all that comes then is found.
-ghost use Rattle.std.specs.Prelude.{◌≡◌, length};
-
 use crate::session_copy_tests::{
     SIZES, bear_buffers, buffer, buffer_names, device, further, has_births, has_buffers, has_names,
-    has_objects, has_places, image, instance, push_behind, push_buffers, push_names, put_places,
-    queue_by,
+    has_places, instance, push_names, put_places, queue_by,
 };
 use crate::session_table_tests::{key, name, object, retrieved};
 use command_tables::ObjectType;
 use object_model::Object;
-use session_tables::{
-    BirthTable, NamedTable, ObjectList, ObjectPlaces, ObjectTable, RetrievedTable,
-};
+use session_tables::{BirthTable, NamedTable, ObjectPlaces, ObjectTable, RetrievedTable};
 use std::alloc::Global;
 use std::process::Abort;
 use std::test::Fail;
 
-// Room is made for all objects, and then for as many behind them.
-fn objects_in_room(rt: &impl Abort, list: &mut ObjectList, count: u32) -> Result<(), Fail>
-    requires { 0 ≡ length list.old.objects }
-{
-    assert!(rt; list.reserve(count as usize).is_ok(), "room for {count}");
-    push_buffers(list, count)?;
-    assert!(rt; list.reserve(count as usize).is_ok(), "room behind {count}");
-    has_objects(rt, list, count);
-    push_behind(rt, list, count, image(1))
-}
-
-fn list_with_room(rt: &impl Abort, alloc: Global, count: u32) -> Result<(), Fail> {
-    let mut list = ObjectList::new(alloc);
-    objects_in_room(rt, &mut list, count)
-}
-
-#[test]
-fn room_in_a_row(rt: HostRuntime) -> Result<(), Fail> {
-    let alloc = rt.alloc();
-    for count in SIZES {
-        list_with_room(&rt, alloc, count)?;
-    }
-    Ok(())
-}
-
 // Room for half of the places that come: the other half is put without.
-fn places_in_room(rt: &impl Abort, places: &mut ObjectPlaces, count: u32) -> Result<(), Fail> {
+fn places_in_room(rt: &impl Abort, places: &mut ObjectPlaces<u32>, count: u32) -> Result<(), Fail> {
     places.put(device(), 7)?;
     assert!(rt; places.reserve(count as usize).is_ok(), "room for {count}");
     let found = [places.get(device()), places.get(buffer(0))];
@@ -54,7 +24,7 @@ fn places_in_room(rt: &impl Abort, places: &mut ObjectPlaces, count: u32) -> Res
 }
 
 fn places_with_room(rt: &impl Abort, alloc: Global, count: u32) -> Result<(), Fail> {
-    let mut places = ObjectPlaces::new(alloc);
+    let mut places = ObjectPlaces::new(alloc, 0);
     places_in_room(rt, &mut places, count)
 }
 

@@ -1,13 +1,9 @@
 // Copies of a session's tables, of all sizes, and what one of the two gains alone.
-ghost use Rattle.std.specs.Prelude.{◌≡◌, ◌≤◌, ◌<◌, length, OnOk};
-
 use crate::session_table_tests::{key, made, name, object, retrieved};
 use command_tables::ObjectType;
 use object_model::Object;
 use replay_model::Named;
-use session_tables::{
-    BirthTable, NamedTable, ObjectList, ObjectPlaces, ObjectTable, RetrievedTable,
-};
+use session_tables::{BirthTable, NamedTable, ObjectPlaces, ObjectTable, RetrievedTable};
 use std::alloc::Global;
 use std::process::Abort;
 use std::test::Fail;
@@ -23,66 +19,6 @@ pub(crate) fn buffer(k: u32) -> Object {
     }
 }
 
-pub(crate) fn has_objects(rt: &impl Abort, list: &ObjectList, count: u32)
-    requires { count ≤ length list.now.objects }
-{
-    for k in 0..count {
-        assert_eq!(rt; list.at(k as usize), buffer(k), "object {k}");
-    }
-}
-
-// An object stands behind so many.
-pub(crate) fn push_behind(
-    rt: &impl Abort,
-    list: &mut ObjectList,
-    count: u32,
-    object: Object,
-) -> Result<(), Fail>
-    requires { count ≡ length list.old.objects }
-    ensures { OnOk result (count < length list.new.objects) }
-{
-    list.push(object)?;
-    assert_eq!(rt; list.at(count as usize), object);
-    Ok(())
-}
-
-fn copy_of_list(rt: &impl Abort, list: &mut ObjectList, count: u32) -> Result<(), Fail>
-    requires { count ≡ length list.old.objects }
-{
-    let mut copy = list.copy()?;
-    has_objects(rt, &copy, count);
-    push_behind(rt, &mut copy, count, image(1))?;
-    push_behind(rt, list, count, image(2))?;
-    assert_eq!(rt; copy.at(count as usize), image(1));
-    Ok(())
-}
-
-// So many objects in a row.
-pub(crate) fn push_buffers(list: &mut ObjectList, count: u32) -> Result<(), Fail>
-    requires { 0 ≡ length list.old.objects }
-    ensures { OnOk result (count ≡ length list.new.objects) }
-{
-    for k in 0..count {
-        list.push(buffer(k))?;
-    }
-    Ok(())
-}
-
-fn list_of(rt: &impl Abort, alloc: Global, count: u32) -> Result<(), Fail> {
-    let mut list = ObjectList::new(alloc);
-    push_buffers(&mut list, count)?;
-    copy_of_list(rt, &mut list, count)
-}
-
-#[test]
-fn copies_of_rows(rt: HostRuntime) -> Result<(), Fail> {
-    let alloc = rt.alloc();
-    for count in SIZES {
-        list_of(&rt, alloc, count)?;
-    }
-    Ok(())
-}
-
 // An image with a buffer's number: it has its place beside the rows.
 pub(crate) fn image(k: u32) -> Object {
     Object {
@@ -92,7 +28,7 @@ pub(crate) fn image(k: u32) -> Object {
 }
 
 // So many buffers have a place, and as many images have the one behind.
-pub(crate) fn put_places(places: &mut ObjectPlaces, count: u32) -> Result<(), Fail> {
+pub(crate) fn put_places(places: &mut ObjectPlaces<u32>, count: u32) -> Result<(), Fail> {
     for k in 0..count {
         places.put(buffer(k), k)?;
         places.put(image(k), k + 1)?;
@@ -100,7 +36,7 @@ pub(crate) fn put_places(places: &mut ObjectPlaces, count: u32) -> Result<(), Fa
     Ok(())
 }
 
-pub(crate) fn has_places(rt: &impl Abort, places: &ObjectPlaces, count: u32) {
+pub(crate) fn has_places(rt: &impl Abort, places: &ObjectPlaces<u32>, count: u32) {
     for k in 0..count {
         let found = [places.get(buffer(k)), places.get(image(k))];
         assert_eq!(rt; found, [Some(k), Some(k + 1)], "place {k}");
@@ -110,8 +46,8 @@ pub(crate) fn has_places(rt: &impl Abort, places: &ObjectPlaces, count: u32) {
 // What is put into one of them isn't in the other.
 fn go_apart(
     rt: &impl Abort,
-    places: &mut ObjectPlaces,
-    copy: &mut ObjectPlaces,
+    places: &mut ObjectPlaces<u32>,
+    copy: &mut ObjectPlaces<u32>,
     count: u32,
 ) -> Result<(), Fail> {
     copy.put(buffer(count), 7)?;
@@ -122,14 +58,14 @@ fn go_apart(
     Ok(())
 }
 
-fn copy_of_places(rt: &impl Abort, places: &mut ObjectPlaces, count: u32) -> Result<(), Fail> {
+fn copy_of_places(rt: &impl Abort, places: &mut ObjectPlaces<u32>, count: u32) -> Result<(), Fail> {
     let mut copy = places.copy()?;
     has_places(rt, &copy, count);
     go_apart(rt, places, &mut copy, count)
 }
 
 fn places_of(rt: &impl Abort, alloc: Global, count: u32) -> Result<(), Fail> {
-    let mut places = ObjectPlaces::new(alloc);
+    let mut places = ObjectPlaces::new(alloc, 0);
     put_places(&mut places, count)?;
     copy_of_places(rt, &mut places, count)
 }

@@ -2,9 +2,7 @@
 use command_tables::{Effect, ObjectType, OwnerOf};
 use object_model::{Argument, Object};
 use replay_model::{Born, Named};
-use session_tables::{
-    NamedTable, ObjectList, ObjectPlaces, ObjectTable, RetrievedKey, RetrievedTable,
-};
+use session_tables::{NamedTable, ObjectPlaces, ObjectTable, RetrievedKey, RetrievedTable};
 use std::alloc::Global;
 use std::process::Abort;
 use std::test::Fail;
@@ -65,7 +63,7 @@ fn names(rt: HostRuntime) -> Result<(), Fail> {
 
 #[test]
 fn places_of_objects(rt: HostRuntime) -> Result<(), Fail> {
-    let mut places = ObjectPlaces::new(rt.alloc());
+    let mut places = ObjectPlaces::new(rt.alloc(), 0);
     let one = name(1, 1);
     let last = name(LAST_THREAD, LAST_NUMBER);
     for (object, place) in [
@@ -88,21 +86,6 @@ fn places_of_objects(rt: HostRuntime) -> Result<(), Fail> {
         found,
         [Some(7), Some(8), Some(9), Some(u32::MAX), None, None]
     );
-    Ok(())
-}
-
-#[test]
-fn objects_in_a_row(rt: HostRuntime) -> Result<(), Fail> {
-    let mut list = ObjectList::new(rt.alloc());
-    let last = object(ObjectType::Fence, name(LAST_THREAD, LAST_NUMBER));
-    let greatest = Object {
-        ty: ObjectType::Swapchain,
-        number: u64::MAX,
-    };
-    list.reserve(10_000)?;
-    list.push(last)?;
-    list.push(greatest)?;
-    assert_eq!(rt; [list.at(0), list.at(1)], [last, greatest]);
     Ok(())
 }
 

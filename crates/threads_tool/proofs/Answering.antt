@@ -1,5 +1,5 @@
 -- The seats that come back answer by the policy of the words.
-use Rattle.std.proofs.Common.{◌≡◌, ◌∙◌, Option, List, [], ap, subst, sym}
+use Rattle.std.proofs.Common.{◌≡◌, ◌∙◌, Option, List, ap, subst, sym}
 use Rattle.std.specs.Prelude.{Some, Result, Ok, Err, IfOk, IfErr}
 use Rattle.std.specs.List.{AllByRecursion}
 use Rattle.model_driver.specs.Seats.{IsPolicy}

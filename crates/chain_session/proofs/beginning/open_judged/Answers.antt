@@ -11,7 +11,7 @@ judge-requires-clause-opened g c =
     let x = c.args.kept.now.parts in
     subst (λ (p : OpenCall). opened_of p ≡ opened_first c.args.number x.names.kept.names e p.refusal) (sym c.deref_mut.ensures.value)
     (c.in_ok-call.ensures.opened
-    ∙ (ap (λ ns. opened_first c.args.number ns e c.args.start.refusal) c.named.ensures ∙ ap (λ r. opened_first c.args.number x.names.kept.names e r) (sym c.in_ok-call.ensures.refusal)))
+    ∙ (ap (λ ns. opened_first c.args.number ns e c.args.start.refusal) c.named.ensures.names ∙ ap (λ r. opened_first c.args.number x.names.kept.names e r) (sym c.in_ok-call.ensures.refusal)))
 
 pub returns-clause-judged : goal.returns-clause-judged
 returns-clause-judged g c =

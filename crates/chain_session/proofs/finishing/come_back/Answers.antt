@@ -33,6 +33,6 @@ returns-clause-ok g c =
     = made_so x p c.args.drivers c.objects.result.now.births c.retrieved.result.now.kept c.put_made.new.all.items c.requires.drivers c.objects.ensures c.retrieved.ensures born in
     let n : c.len-count.result ≡ length c.put_made.new.all.items = omega (arith, c.len-count.ensures, c.put_made.new.all.ok.0) in
     came_back x p c.raise.new.states c.raise.new.terminator raised settled c.len-count.result c.put_made.new.all.items c.deref.result.now c.deref-2.result.now is c.deref.ensures.value c.deref-2.ensures.value n
-    c.in_ok-raise.ensures.rest c.in_ok-raise.ensures.chain c.in_ok-raise.ensures.drivers c.in_ok-settle.ensures.names
+    c.in_ok-raise.ensures.rest c.in_ok-raise.ensures.chain c.in_ok-raise.ensures.drivers c.in_ok-settle.ensures.names c.in_ok-settle.ensures.count
     (subst (λ (o : Opened). AreAdded raised.births (births_given raised.births o.args (row_of o.cmd).effect (objects_of c.deref-2.result.now)) settled.kept.births) same c.in_ok-settle.ensures.births)
     (c.in_ok-settle.ensures.retrieved ∙ ap (λ (o : Opened). raised.retrieved ++ retrieved_by raised.births o c.deref-2.result.now) same) c.in_ok-settle.ensures.handed

@@ -24,7 +24,7 @@ returns-in-Some-close-clause-ok g c =
     let p = c.in-Some.call.now in
     let opens : Some p ≡ find (λ (y : OpenCall). is_of c.args.thread (opened_of y)) x.open_calls = c.in-Some.ensures in
     let back : ComesBack x.parts p _ _ = c.in_ok-born-in-Some.ensures.ok in
-    finishes_so x _ c.args.thread p (made_at x.parts p) _ _ opens refl refl refl refl back.names back.births back.retrieved c.close.ensures back.chain back.drivers
+    finishes_so x _ c.args.thread p (made_at x.parts p) _ _ opens refl refl refl refl back.names back.names_count back.births back.retrieved c.close.ensures back.chain back.drivers
     (λ s refusal drivers. c.in_ok-put_line-in-Some.ensures s refusal (drivers ∙ sym c.requires.drivers) ∙ ap (λ m. c.args.lines.now.items ++ return_text s (opened_of p) m) back.counted)
 
 pub returns-in_default-clause-ok : goal.returns-in_default-clause-ok
@@ -33,5 +33,5 @@ returns-in_default-clause-ok g c =
     let p = c.in-Some.call.now in
     let opens : Some p ≡ find (λ (y : OpenCall). is_of c.args.thread (opened_of y)) x.open_calls = c.in-Some.ensures in
     let back : ComesBack x.parts p _ _ = c.in_ok-born-in-Some.ensures.ok in
-    finishes_so x _ c.args.thread p (made_at x.parts p) _ _ opens refl refl refl refl back.names back.births back.retrieved c.close.ensures back.chain back.drivers
+    finishes_so x _ c.args.thread p (made_at x.parts p) _ _ opens refl refl refl refl back.names back.names_count back.births back.retrieved c.close.ensures back.chain back.drivers
     (λ s refusal drivers. c.in_ok-put_line-in-Some.ensures s refusal (drivers ∙ sym c.requires.drivers) ∙ ap (λ m. c.args.lines.now.items ++ return_text s (opened_of p) m) back.counted)

@@ -10,6 +10,6 @@ use Rattle.session_parts.proofs.results.retrieved.Goals as goal
 
 pub returns-in-None : goal.returns-in-None
 returns-in-None c =
-    c.own.ensures
+    c.own_object.ensures
     ∙ sym (ap (λ (f : Option Retrieval). option_map_or (λ (r : Retrieval). r.object) f (own_object c.args.ty c.args.name)) (none_kept c.args.ty c.args.place (key_payload c.args.call.cmd c.args.call.payload.now) c.args.table.now.kept))
     ∙ ap (λ (w : Option Object). retrieved_object c.args.table.now.kept (returning_shown c.args.call) w c.args.ty c.args.place c.args.name) (sym c.in-None.is)

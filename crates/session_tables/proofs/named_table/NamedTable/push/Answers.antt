@@ -1,56 +1,38 @@
-use Rattle.std.proofs.Common.{◌≡◌, ◌∙◌, ◌++◌, ◌∷◌, [], ℕ, List, Option, Some, None, cond, length, ap, refl, sym, arith}
-use Rattle.std.specs.HashMap.{get}
-use Rattle.std.specs.Option.{option_or}
+use Rattle.std.proofs.Common.{◌≡◌, ◌∙◌, ◌++◌, ◌∷◌, [], List, Option, Some, None, ap, cond, map, sym, true}
+use Rattle.std.specs.Prelude.{is_some}
 use Rattle.object_model.specs.declared.Object.{Object}
-use Rattle.trace_format.specs.declared.event.Name.{Name}
-use Rattle.trace_format.specs.Accepting.{same_name}
 use Rattle.replay_model.specs.declared.Named.{Named}
-use Rattle.session_tables.specs.Columns.{NamesState, named_shown}
-use Rattle.session_tables.specs.Shown.{first_at, place_kept}
-use Rattle.session_tables.proofs.Names.{first_more, longer, named_more, names_stay}
+use Rattle.replay_model.specs.Past.{object_in}
+use Rattle.trace_format.specs.Accepting.{same_name}
+use Rattle.session_tables.specs.Named.{NamesState, rows_named}
+use Rattle.session_tables.specs.Shown.{object_at}
+use Rattle.session_tables.proofs.Lists.{on_err}
+use Rattle.session_tables.proofs.Names.{named_alike, named_at, named_new, named_stays, no_object}
 use Rattle.session_tables.proofs.named_table.NamedTable.push.Goals as goal
 
-pub invariant_of-self : goal.invariant_of-self
-invariant_of-self c =
+pub returns-then-is_some-clause-ok : goal.returns-then-is_some-clause-ok
+returns-then-is_some-clause-ok c = λ q.
     let old = c.self.inside in
-    let place = λ (n : Name). place_kept old.places.items (get same_name old.others n) n in
-    names_stay place place old.names.items c.reserve.new.self.items old.objects.objects old.objects.objects c.self.invariant (λ n. refl) c.in_err-reserve.ensures.items refl
+    let x = c.args.named in
+    let shown : List Named = rows_named 0 (map (λ r. r.items) old.types.items) ++ old.others.named in
+    let found : c.object_of.result ≡ object_in shown x.name =
+    c.object_of.ensures ∙ (ap (λ rows. object_at rows (object_in old.others.named x.name) x.name) c.deref.ensures.value ∙ sym (named_at old.types.items old.others.named x.name)) in
+    named_stays shown x q (sym (ap is_some found) ∙ (sym c.is_some.ensures ∙ c.if-is_some.true)) ∙ ap (λ (s : NamesState). object_in (s.names ++ x ∷ []) q) c.self.view_is
 
-pub invariant_of-self-in_err-reserve-2 : goal.invariant_of-self-in_err-reserve-2
-invariant_of-self-in_err-reserve-2 c =
+pub returns-in_err-put_object-clause-err : goal.returns-in_err-put_object-clause-err
+returns-in_err-put_object-clause-err c =
     let old = c.self.inside in
-    let place = λ (n : Name). place_kept old.places.items (get same_name old.others n) n in
-    names_stay place place old.names.items c.reserve.new.self.items old.objects.objects c.reserve-2.new.self.objects c.self.invariant (λ n. refl) c.in_ok-reserve.ensures.items c.in_err-reserve-2.ensures.objects
-
-pub invariant_of-self-in_err-keep_first : goal.invariant_of-self-in_err-keep_first
-invariant_of-self-in_err-keep_first c =
-    let old = c.self.inside in
-    names_stay (λ (n : Name). place_kept old.places.items (get same_name old.others n) n) (λ (n : Name). place_kept c.keep_first.new.places.items (get same_name c.keep_first.new.others n) n) old.names.items c.reserve.new.self.items old.objects.objects c.reserve-2.new.self.objects c.self.invariant
-    c.in_err-keep_first.ensures.err c.in_ok-reserve.ensures.items c.in_ok-reserve-2.ensures.objects
-
-pub invariant_of-self-2 : goal.invariant_of-self-2
-invariant_of-self-2 c =
-    let ns = c.self.inside.names.items in
-    let os = c.self.inside.objects.objects in
-    let n = c.args.named.name in
-    let names_are : c.push.new.self.items ≡ ns ++ n ∷ [] = c.in_ok-push.ensures.items ∙ ap (λ (xs : List Name). xs ++ n ∷ []) c.in_ok-reserve.ensures.items in
-    let objects_are : c.push-2.new.self.objects ≡ os ++ c.args.named.object ∷ [] = c.in_ok-push-2.ensures.ok ∙ ap (λ (xs : List Object). xs ++ c.args.named.object ∷ []) c.in_ok-reserve-2.ensures.objects in
-    let count : c.len-count.result ≡ length ns = omega (arith, c.len-count.ensures, ap (λ (xs : List Name). length xs) c.in_ok-reserve.ensures.items) in (
-      ap length names_are ∙ (longer ns os n c.args.named.object c.self.invariant.0 ∙ sym (ap length objects_are)),
-      (λ name.
-          c.in_ok-keep_first.ensures.ok name
-          ∙ (ap (λ (f : Option ℕ). option_or f (cond (same_name n name) (Some c.len-count.result) None)) (c.self.invariant.1 name)
-          ∙ (ap (λ (k : ℕ). option_or (first_at ns name) (cond (same_name n name) (Some k) None)) count
-          ∙ (sym (first_more ns n name) ∙ ap (λ (xs : List Name). first_at xs name) (sym names_are))))),
-    )
+    on_err c.from_residual.result (λ q. named_alike old.types.items c.put_object.new.types.items old.others.named c.put_object.new.others.named q (c.in_err-put_object.ensures.err q) ∙ ap (λ (s : NamesState). object_in s.names q) c.self.view_is)
 
 pub returns-clause-ok : goal.returns-clause-ok
-returns-clause-ok c =
-    let ns = c.self.inside.names.items in
-    let os = c.self.inside.objects.objects in
-    let n = c.args.named.name in
-    let names_are : c.push.new.self.items ≡ ns ++ n ∷ [] = c.in_ok-push.ensures.items ∙ ap (λ (xs : List Name). xs ++ n ∷ []) c.in_ok-reserve.ensures.items in
-    let objects_are : c.push-2.new.self.objects ≡ os ++ c.args.named.object ∷ [] = c.in_ok-push-2.ensures.ok ∙ ap (λ (xs : List Object). xs ++ c.args.named.object ∷ []) c.in_ok-reserve-2.ensures.objects in
-    ap (λ (xs : List Name). named_shown xs c.push-2.new.self.objects) names_are
-    ∙ (ap (named_shown (ns ++ n ∷ [])) objects_are
-    ∙ (named_more ns os n c.args.named.object c.self.invariant.0 ∙ ap (λ (s : NamesState). s.names ++ c.args.named ∷ []) c.self.view_is))
+returns-clause-ok c = λ q.
+    let old = c.self.inside in
+    let x = c.args.named in
+    let shown : List Named = rows_named 0 (map (λ r. r.items) old.types.items) ++ old.others.named in
+    let found : c.object_of.result ≡ object_in shown x.name =
+    c.object_of.ensures ∙ (ap (λ rows. object_at rows (object_in old.others.named x.name) x.name) c.deref.ensures.value ∙ sym (named_at old.types.items old.others.named x.name)) in
+    let none : object_in shown x.name ≡ None = sym found ∙ no_object c.object_of.result (sym c.is_some.ensures ∙ c.if-is_some.false) in
+    named_at c.put_object.new.types.items c.put_object.new.others.named q
+    ∙ (named_new shown x q (object_at c.put_object.new.types.items (object_in c.put_object.new.others.named q) q) none
+    (c.in_ok-put_object.ensures.ok q ∙ ap (λ (o : Option Object). cond (same_name x.name q) (Some x.object) o) (sym (named_at old.types.items old.others.named q)))
+    ∙ ap (λ (s : NamesState). object_in (s.names ++ x ∷ []) q) c.self.view_is)
