@@ -7,7 +7,7 @@ use Rattle.replay_model.specs.declared.Born.{Born}
 use Rattle.object_model.specs.Objects.{is_in, same}
 use Rattle.layer_model.proofs.Same.{same_is}
 use Rattle.session_tables.specs.declared.object_places.ObjectPlaces.{ObjectPlaces}
-use Rattle.session_tables.specs.Filing.{kept, objects_kept}
+use Rattle.session_tables.specs.Filing.{kept, objects_with_values}
 use Rattle.session_tables.proofs.FiledObjects.{kept_among}
 use Rattle.chain_model.specs.Handed.{Handed, hand_all, hand_one, handle_in}
 use Rattle.chain_model.proofs.Handing.{handle_in_one}
@@ -30,13 +30,13 @@ listed g (x ∷ os) o = go (same x o) refl (listed g os o)
 
 -- what is shown of an object is what is kept of it
 pub handle_shown : (m : ObjectPlaces ℕ) (o : Object) → handle_in (handed_shown m) o ≡ handle_kept m o
-handle_shown m o = listed (handle_kept m) (objects_kept m) o ∙ go (is_in (objects_kept m) o) refl (is_some (kept m o)) refl
+handle_shown m o = listed (handle_kept m) (objects_with_values m) o ∙ go (is_in (objects_with_values m) o) refl (is_some (kept m o)) refl
   where
     none : (x : Option ℕ) → is_some x ≡ false → 0 ≡ unwrap_or x 0
     none None e = refl
     none (Some h) e = cc e
 
-    go : (t : Bool) → is_in (objects_kept m) o ≡ t → (u : Bool) → is_some (kept m o) ≡ u → cond t (handle_kept m o) 0 ≡ handle_kept m o
+    go : (t : Bool) → is_in (objects_with_values m) o ≡ t → (u : Bool) → is_some (kept m o) ≡ u → cond t (handle_kept m o) 0 ≡ handle_kept m o
     go true e u f = refl
     go false e true f = let wrong : false ≡ true = sym e ∙ kept_among m o f in cc wrong
     go false e false f = none (kept m o) f
@@ -54,7 +54,7 @@ pub handed_still : (m n : ObjectPlaces ℕ) → ((q : Object) → kept n q ≡ k
 handed_still m n still q = handle_shown n q ∙ (ap (λ (x : Option ℕ). unwrap_or x 0) (still q) ∙ sym (handle_shown m q))
 
 -- where the same is kept of the same objects, the same is shown
-pub shown_same : (m n : ObjectPlaces ℕ) → objects_kept n ≡ objects_kept m → ((q : Object) → kept n q ≡ kept m q) → handed_shown n ≡ handed_shown m
+pub shown_same : (m n : ObjectPlaces ℕ) → objects_with_values n ≡ objects_with_values m → ((q : Object) → kept n q ≡ kept m q) → handed_shown n ≡ handed_shown m
 shown_same m n objects handles = λ i. map (λ (o : Object). record { object = o; handle = unwrap_or (handles o i) 0 }) (objects i)
 
 -- ---- results in turn

@@ -1,5 +1,5 @@
 -- Two columns as the places of a row.
-use Rattle.std.proofs.Common.{◌≡◌, ◌≢◌, ◌∙◌, ◌<◌, ◌≤◌, ◌==◌, ℕ, zero, suc, Bool, true, false, cond, Option, Some, None, List, [], ◌∷◌, get_or, length, map, take, min, refl, sym, ap, arith}
+use Rattle.std.proofs.Common.{◌≡◌, ◌≢◌, ◌∙◌, ◌<◌, ◌≤◌, ◌==◌, ℕ, zero, suc, Bool, true, false, cond, Option, Some, None, List, [], ◌∷◌, get_or, length, map, take, min, refl, sym, ap, subst, arith}
 use Rattle.std.proofs.Math.ListN.{set}
 use Rattle.std.proofs.lemmas.Bool.{eq-eqb, eqb-true}
 use Rattle.std.proofs.lemmas.Grind.{get_or-set_at}
@@ -122,3 +122,10 @@ pub filed_same : {V : Type 0} (xs ys : List (FiledRow V)) → map (λ (r : Filed
 filed_same {V = V} xs ys same e row at =
     by_cells e xs row at
     ∙ (ap (λ (rs : List (List (Filed V))). option_map_or (λ (cells : List (Filed V)). cell_in (nothing_filed e) cells at) (slice_get rs row) (nothing_filed e)) same ∙ sym (by_cells e ys row at))
+
+-- the column of types with one more, by the slots that were put
+pub types_put : (xs ys : List (Option ObjectType)) (at : ℕ) (new gap t : Option ObjectType) → new ≡ t → gap ≡ None → ((n : ℕ) → cell_in gap ys n ≡ cond (at == n) new (cell_in gap xs n))
+    → (n : ℕ) → cell_in None ys n ≡ cond (at == n) t (cell_in None xs n)
+types_put xs ys at new gap t is empty put =
+    subst (λ (x : Option ObjectType). (n : ℕ) → cell_in None ys n ≡ cond (at == n) x (cell_in None xs n)) is
+    (subst (λ (e : Option ObjectType). (n : ℕ) → cell_in e ys n ≡ cond (at == n) new (cell_in e xs n)) empty put)

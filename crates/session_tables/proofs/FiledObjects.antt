@@ -12,12 +12,12 @@ use Rattle.session_tables.specs.declared.filed_rows.Filed.{Filed}
 use Rattle.session_tables.specs.declared.object_places.ObjectPlaces.{ObjectPlaces}
 use Rattle.session_tables.specs.Dense.{cell_in}
 use Rattle.session_tables.specs.FiledRows.{cells_of, filed_cell, nothing_filed}
-use Rattle.session_tables.specs.Filing.{far_value, filed_for, kept, objects_kept, own_value, row_objects, rows_objects}
+use Rattle.session_tables.specs.Filing.{far_value, filed_for, kept, objects_with_values, own_value, row_objects, rows_objects}
 use Rattle.session_tables.proofs.Objects.{list_any-append, same_self, type_is}
 use Rattle.session_tables.proofs.Columns.{by_cells}
 
 -- what stands in the same rows and beside them are the same objects
-pub objects_same : {V : Type 0} (m n : ObjectPlaces V) → map cells_of n.rows.items ≡ map cells_of m.rows.items → n.far.items ≡ m.far.items → objects_kept n ≡ objects_kept m
+pub objects_same : {V : Type 0} (m n : ObjectPlaces V) → map cells_of n.rows.items ≡ map cells_of m.rows.items → n.far.items ≡ m.far.items → objects_with_values n ≡ objects_with_values m
 objects_same {V = V} m n rows far = λ i. rows_objects 0 (take 2048 (rows i)) ++ map (λ (f : Far V). f.object) (far i)
 
 either : (a b : Bool) → b ≡ true → (a || b) ≡ true
@@ -83,7 +83,7 @@ in_far_at far o None there = cc there
 in_far_at far o (Some i) there = in_far far o i there
 
 -- every object for which a value is kept is among them
-pub kept_among : {V : Type 0} (m : ObjectPlaces V) (o : Object) → is_some (kept m o) ≡ true → is_in (objects_kept m) o ≡ true
+pub kept_among : {V : Type 0} (m : ObjectPlaces V) (o : Object) → is_some (kept m o) ≡ true → is_in (objects_with_values m) o ≡ true
 kept_among {V = V} m o some = list_any-append (λ x. same x o) near beside ∙ go (is_some (filed_for here o.ty)) refl
   where
     items : List (List (Filed V))

@@ -18,6 +18,7 @@ use Rattle.session_tables.specs.declared.object_places.ObjectPlaces.{ObjectPlace
 use Rattle.session_tables.specs.Dense.{cell_in}
 use Rattle.session_tables.specs.FiledRows.{cells_of, filed_cell, has_filed_cell, nothing_filed}
 use Rattle.session_tables.specs.Filing.{far_value, filed, filed_for, is_open, is_own, kept, own_index, own_value}
+use Rattle.session_tables.proofs.Lists.{none_some}
 use Rattle.session_tables.proofs.Objects.{same-true, type_is}
 
 and_true : (a b : Bool) → (a && b) ≡ true → (a ≡ true) × (b ≡ true)
@@ -71,10 +72,6 @@ put_near {V = V} old new o v other q free is =
         ∙ sym (other_type (old (q.number % 2048) (q.number / 2048)) o.ty q.ty other (ap (λ n. is_open (old (n % 2048) (n / 2048)) o.ty) (sym one) ∙ free) f)
     go false e true f = refl
     go false e false f = refl
-
-none_some : {V : Type 0} (x : Option V) → is_some x ≡ false → x ≡ None
-none_some None e = refl
-none_some (Some v) e = cc e
 
 -- a value beside what is filed for another type
 pub put_far : {V : Type 0} (f : Object → Filed V) (o : Object) (v : V) (old new : Option V) (q : Object) → is_some (filed_for (f o) o.ty) ≡ false → new ≡ cond (same o q) (Some v) old

@@ -12,7 +12,7 @@ use Rattle.replay_model.specs.Births.{own_object}
 use Rattle.replay_model.specs.declared.Named.{Named}
 use Rattle.replay_model.specs.Past.{object_in}
 use Rattle.session_tables.specs.Dense.{cell_in}
-use Rattle.session_tables.specs.Named.{beside_named, is_among, name_at, own_named, row_named, rows_named}
+use Rattle.session_tables.specs.Named.{beside_named, is_name_listed, name_in_row, own_named, row_named, rows_named}
 use Rattle.session_tables.specs.Shown.{object_at}
 use Rattle.session_tables.proofs.Rows.{by_items}
 use Rattle.session_tables.proofs.Same.{same_name_is}
@@ -30,10 +30,10 @@ and_none : (b : Bool) → (b && false) ≡ false
 and_none true = refl
 and_none false = refl
 
-other_number : (t n : ℕ) (q : Name) → n ≢ q.number → same_name (name_at t n) q ≡ false
+other_number : (t n : ℕ) (q : Name) → n ≢ q.number → same_name (name_in_row t n) q ≡ false
 other_number t n q apart = ap (λ b. t == q.thread && b) (not_equal n q.number apart) ∙ and_none (t == q.thread)
 
-other_thread : (t n : ℕ) (q : Name) → t ≢ q.thread → same_name (name_at t n) q ≡ false
+other_thread : (t n : ℕ) (q : Name) → t ≢ q.thread → same_name (name_in_row t n) q ≡ false
 other_thread t n q apart = ap (λ b. b && n == q.number) (not_equal t q.thread apart)
 
 same_sym : (a b : Name) → same_name a b ≡ same_name b a
@@ -72,12 +72,12 @@ row_before : (t n : ℕ) (types : List (Option ObjectType)) (q : Name) → q.num
 row_before t n [] q less = refl
 row_before t n (None ∷ types) q less = row_before t (suc n) types q (omega (arith, less))
 row_before t n (Some ty ∷ types) q less =
-    first_named (own_named ty (name_at t n)) (row_named t (suc n) types) q false (other_number t n q (λ e. omega (arith, less, e))) ∙ row_before t (suc n) types q (omega (arith, less))
+    first_named (own_named ty (name_in_row t n)) (row_named t (suc n) types) q false (other_number t n q (λ e. omega (arith, less, e))) ∙ row_before t (suc n) types q (omega (arith, less))
 
 row_other : (t n : ℕ) (types : List (Option ObjectType)) (q : Name) → t ≢ q.thread → object_in (row_named t n types) q ≡ None
 row_other t n [] q apart = refl
 row_other t n (None ∷ types) q apart = row_other t (suc n) types q apart
-row_other t n (Some ty ∷ types) q apart = first_named (own_named ty (name_at t n)) (row_named t (suc n) types) q false (other_thread t n q apart) ∙ row_other t (suc n) types q apart
+row_other t n (Some ty ∷ types) q apart = first_named (own_named ty (name_in_row t n)) (row_named t (suc n) types) q false (other_thread t n q apart) ∙ row_other t (suc n) types q apart
 
 row_found : (t n k : ℕ) (types : List (Option ObjectType)) (q : Name) → t ≡ q.thread → q.number ≡ n + k → object_in (row_named t n types) q ≡ option_map (λ ty. own_object ty q) (cell_in None types k)
 row_found t n k [] q row at = refl
@@ -85,10 +85,10 @@ row_found t n zero (None ∷ types) q row at = row_before t (suc n) types q (ome
 row_found t n (suc k) (None ∷ types) q row at = row_found t (suc n) k types q row (omega (arith, at))
 row_found t n zero (Some ty ∷ types) q row at =
     let number : n ≡ q.number = omega (arith, at) in
-    let is : name_at t n ≡ q = λ i. record { thread = row i; number = number i } in
-    first_named (own_named ty (name_at t n)) (row_named t (suc n) types) q true (ap (λ b. b && n == q.number) (eq-eqb t q.thread row) ∙ eq-eqb n q.number number) ∙ ap (λ (x : Name). Some (own_object ty x)) is
+    let is : name_in_row t n ≡ q = λ i. record { thread = row i; number = number i } in
+    first_named (own_named ty (name_in_row t n)) (row_named t (suc n) types) q true (ap (λ b. b && n == q.number) (eq-eqb t q.thread row) ∙ eq-eqb n q.number number) ∙ ap (λ (x : Name). Some (own_object ty x)) is
 row_found t n (suc k) (Some ty ∷ types) q row at =
-    first_named (own_named ty (name_at t n)) (row_named t (suc n) types) q false (other_number t n q (λ e. omega (arith, at, e))) ∙ row_found t (suc n) k types q row (omega (arith, at))
+    first_named (own_named ty (name_in_row t n)) (row_named t (suc n) types) q false (other_number t n q (λ e. omega (arith, at, e))) ∙ row_found t (suc n) k types q row (omega (arith, at))
 
 -- ---- all rows
 
@@ -124,7 +124,7 @@ named_alike rows more others left q alike = named_at more left q ∙ (alike ∙ 
 
 -- ---- beside the rows
 
-in_list : (names : List Name) (f : Name → Option Object) (q : Name) → object_in (beside_named f names) q ≡ cond (is_among names q) (f q) None
+in_list : (names : List Name) (f : Name → Option Object) (q : Name) → object_in (beside_named f names) q ≡ cond (is_name_listed names q) (f q) None
 in_list [] f q = refl
 in_list (n ∷ names) f q = go (f n) refl (same_name n q) refl (in_list names f q)
   where
@@ -132,19 +132,19 @@ in_list (n ∷ names) f q = go (f n) refl (same_name n q) refl (in_list names f 
     none true x e = refl
     none false x e = sym e
 
-    go : (x : Option Object) → f n ≡ x → (t : Bool) → same_name n q ≡ t → object_in (beside_named f names) q ≡ cond (is_among names q) (f q) None
-        → object_in (option_map_or (λ (o : Object). record { name = n; object = o } ∷ beside_named f names) x (beside_named f names)) q ≡ cond (t || is_among names q) (f q) None
-    go None e true s ih = ih ∙ none (is_among names q) (f q) (ap f (sym (same_name_is n q s)) ∙ e)
+    go : (x : Option Object) → f n ≡ x → (t : Bool) → same_name n q ≡ t → object_in (beside_named f names) q ≡ cond (is_name_listed names q) (f q) None
+        → object_in (option_map_or (λ (o : Object). record { name = n; object = o } ∷ beside_named f names) x (beside_named f names)) q ≡ cond (t || is_name_listed names q) (f q) None
+    go None e true s ih = ih ∙ none (is_name_listed names q) (f q) (ap f (sym (same_name_is n q s)) ∙ e)
     go None e false s ih = ih
     go (Some o) e true s ih = first_named (record { name = n; object = o }) (beside_named f names) q true s ∙ sym (ap f (sym (same_name_is n q s)) ∙ e)
     go (Some o) e false s ih = first_named (record { name = n; object = o }) (beside_named f names) q false s ∙ ih
 
 -- a name stands for its object, where each that has one is listed
-pub beside_found : (names : List Name) (f : Name → Option Object) (q : Name) → (is_some (f q) ≡ true → is_among names q ≡ true) → object_in (beside_named f names) q ≡ f q
+pub beside_found : (names : List Name) (f : Name → Option Object) (q : Name) → (is_some (f q) ≡ true → is_name_listed names q ≡ true) → object_in (beside_named f names) q ≡ f q
 beside_found names f q listed = in_list names f q ∙ go (f q) refl
   where
-    go : (x : Option Object) → f q ≡ x → cond (is_among names q) (f q) None ≡ f q
-    go None e = by (is_among names q)
+    go : (x : Option Object) → f q ≡ x → cond (is_name_listed names q) (f q) None ≡ f q
+    go None e = by (is_name_listed names q)
       where
         by : (b : Bool) → cond b (f q) None ≡ f q
         by true = refl
@@ -152,7 +152,7 @@ beside_found names f q listed = in_list names f q ∙ go (f q) refl
     go (Some o) e = ap (λ b. cond b (f q) None) (listed (ap is_some e))
 
 -- one more is listed
-pub listed_more : (names : List Name) (n q : Name) → is_among (names ++ n ∷ []) q ≡ (is_among names q || same_name n q)
+pub listed_more : (names : List Name) (n q : Name) → is_name_listed (names ++ n ∷ []) q ≡ (is_name_listed names q || same_name n q)
 listed_more [] n q = or_false (same_name n q)
   where
     or_false : (b : Bool) → (b || false) ≡ b
@@ -160,16 +160,16 @@ listed_more [] n q = or_false (same_name n q)
     or_false false = refl
 listed_more (m ∷ names) n q = go (same_name m q) (listed_more names n q)
   where
-    go : (t : Bool) → is_among (names ++ n ∷ []) q ≡ (is_among names q || same_name n q) → (t || is_among (names ++ n ∷ []) q) ≡ ((t || is_among names q) || same_name n q)
+    go : (t : Bool) → is_name_listed (names ++ n ∷ []) q ≡ (is_name_listed names q || same_name n q) → (t || is_name_listed (names ++ n ∷ []) q) ≡ ((t || is_name_listed names q) || same_name n q)
     go true ih = refl
     go false ih = ih
 
 -- and so all that have one are
-pub all_listed : (names : List Name) (f g : Name → Option Object) (n : Name) (o : Object) → ((q : Name) → is_some (f q) ≡ true → is_among names q ≡ true) → ((q : Name) → g q ≡ cond (same_name n q) (Some o) (f q))
-    → (q : Name) → is_some (g q) ≡ true → is_among (names ++ n ∷ []) q ≡ true
-all_listed names f g n o listed put q some = listed_more names n q ∙ go (same_name n q) (is_among names q) refl (sym (ap is_some (put q)) ∙ some)
+pub all_listed : (names : List Name) (f g : Name → Option Object) (n : Name) (o : Object) → ((q : Name) → is_some (f q) ≡ true → is_name_listed names q ≡ true) → ((q : Name) → g q ≡ cond (same_name n q) (Some o) (f q))
+    → (q : Name) → is_some (g q) ≡ true → is_name_listed (names ++ n ∷ []) q ≡ true
+all_listed names f g n o listed put q some = listed_more names n q ∙ go (same_name n q) (is_name_listed names q) refl (sym (ap is_some (put q)) ∙ some)
   where
-    go : (t b : Bool) → is_among names q ≡ b → is_some (cond t (Some o) (f q)) ≡ true → (b || t) ≡ true
+    go : (t b : Bool) → is_name_listed names q ≡ b → is_some (cond t (Some o) (f q)) ≡ true → (b || t) ≡ true
     go t true e h = refl
     go true false e h = refl
     go false false e h = sym e ∙ listed q h
@@ -198,7 +198,3 @@ named_new ns x q new none is = is ∙ (go (same_name x.name q) refl ∙ sym (mor
     go : (t : Bool) → same_name x.name q ≡ t → cond t (Some x.object) (object_in ns q) ≡ option_or (object_in ns q) (cond t (Some x.object) None)
     go true e = ap (λ (f : Option Object). option_or f (Some x.object)) (sym (ap (object_in ns) (sym (same_name_is x.name q e)) ∙ none))
     go false e = sym (or_none (object_in ns q))
-
-pub no_object : (x : Option Object) → is_some x ≡ false → x ≡ None
-no_object None e = refl
-no_object (Some o) e = cc e

@@ -11,20 +11,9 @@ by_items empty [] row at = refl
 by_items empty (r ∷ rows) zero at = refl
 by_items empty (r ∷ rows) (suc row) at = by_items empty rows row at
 
--- rows with the same items have the same values in their places
-cells_same : {X A : Type 0} (xs ys : List (Vec X A)) → map (λ (r : Vec X A). r.items) xs ≡ map (λ (r : Vec X A). r.items) ys → (empty : X) (row at : ℕ) → cell empty xs row at ≡ cell empty ys row at
-cells_same {X = X} xs ys same empty row at =
-    by_items empty xs row at
-    ∙ (ap (λ (rs : List (List X)). option_map_or (λ (cells : List X). cell_in empty cells at) (slice_get rs row) empty) same ∙ sym (by_items empty ys row at))
-
 -- rows that were copied up to the last have the same items
 pub all_copied : {X A : Type 0} (copies rows : List (Vec X A)) (n : ℕ) → length rows ≤ n
     → map (λ (r : Vec X A). r.items) copies ++ map (λ (r : Vec X A). r.items) (drop n rows) ≡ map (λ (r : Vec X A). r.items) rows → map (λ (r : Vec X A). r.items) copies ≡ map (λ (r : Vec X A). r.items) rows
 all_copied {X = X} {A = A} copies rows n all so =
     let items : List (Vec X A) → List (List X) = map (λ (r : Vec X A). r.items) in
     sym (append-nil (items copies)) ∙ (ap (λ (rest : List (Vec X A)). items copies ++ items rest) (sym (drop_all n rows all)) ∙ so)
-
--- and so the same values in their places
-pub rows_copied : {X A : Type 0} (copies rows : List (Vec X A)) (n : ℕ) → length rows ≤ n
-    → map (λ (r : Vec X A). r.items) copies ++ map (λ (r : Vec X A). r.items) (drop n rows) ≡ map (λ (r : Vec X A). r.items) rows → (empty : X) (row at : ℕ) → cell empty copies row at ≡ cell empty rows row at
-rows_copied copies rows n all so = cells_same copies rows (all_copied copies rows n all so)

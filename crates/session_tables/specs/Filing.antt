@@ -60,5 +60,5 @@ rows_objects r [] = []
 rows_objects r (cells ∷ rows) = row_objects r 0 cells ++ rows_objects (suc r) rows
 
 -- those in the rows that a number leads to, and those beside the rows
-abbrev pub objects_kept : {V : Type 0} → ObjectPlaces V → List Object
-objects_kept {V = V} m = rows_objects 0 (take 2048 (map cells_of m.rows.items)) ++ map (λ (f : Far V). f.object) m.far.items
+abbrev pub objects_with_values : {V : Type 0} → ObjectPlaces V → List Object
+objects_with_values {V = V} m = rows_objects 0 (take 2048 (map cells_of m.rows.items)) ++ map (λ (f : Far V). f.object) m.far.items

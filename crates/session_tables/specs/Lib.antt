@@ -1,5 +1,7 @@
 pub mod Named
 pub mod Dense
+pub mod TypeSlots
+pub mod SlotsBack
 pub mod FiledRows
 pub mod Filing
 pub mod Lined

@@ -16,8 +16,8 @@ pub record NamesState : Type 0 where
   pub spare : ℕ
 
 -- the name of a thread with a number
-abbrev pub name_at : ℕ → ℕ → Name
-name_at thread number = record { thread = thread; number = number }
+abbrev pub name_in_row : ℕ → ℕ → Name
+name_in_row thread number = record { thread = thread; number = number }
 
 -- a name with the object of this type that is made of it
 abbrev pub own_named : ObjectType → Name → Named
@@ -27,7 +27,7 @@ own_named ty name = record { name = name; object = own_object ty name }
 abbrev pub row_named : ℕ → ℕ → List (Option ObjectType) → List Named
 row_named t n [] = []
 row_named t n (None ∷ types) = row_named t (suc n) types
-row_named t n (Some ty ∷ types) = own_named ty (name_at t n) ∷ row_named t (suc n) types
+row_named t n (Some ty ∷ types) = own_named ty (name_in_row t n) ∷ row_named t (suc n) types
 
 -- those of all threads, from one on
 abbrev pub rows_named : ℕ → List (List (Option ObjectType)) → List Named
@@ -42,8 +42,8 @@ pub record BesideState : Type 0 where
   pub spare : ℕ
 
 -- a name is among these
-abbrev pub is_among : List Name → Name → Bool
-is_among names q = list_any (λ n. same_name n q) names
+abbrev pub is_name_listed : List Name → Name → Bool
+is_name_listed names q = list_any (λ n. same_name n q) names
 
 -- those of these names that stand for an object
 abbrev pub beside_named : (Name → Option Object) → List Name → List Named

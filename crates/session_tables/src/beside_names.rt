@@ -24,13 +24,13 @@ impl Model for BesideNames {
     ghost use Rattle.std.specs.HashMap.{get, spare as map_spare};
     ghost use Rattle.trace_format.specs.declared.event.Name.{Name};
     ghost use Rattle.trace_format.specs.Accepting.{same_name};
-    ghost use Rattle.session_tables.specs.Named.{BesideState, beside_named, is_among};
+    ghost use Rattle.session_tables.specs.Named.{BesideState, beside_named, is_name_listed};
 
     ghost Value = { BesideState };
 
     ghost view = { λ t. record { named = beside_named (get same_name t.objects) t.names.items; spare = min (map_spare t.objects) (vec_capacity t.names - length t.names.items) } };
 
-    ghost invariant = { λ t. (q : Name) → is_some (get same_name t.objects q) ≡ true → is_among t.names.items q ≡ true };
+    ghost invariant = { λ t. (q : Name) → is_some (get same_name t.objects q) ≡ true → is_name_listed t.names.items q ≡ true };
 }
 
 impl BesideNames {

@@ -29,8 +29,7 @@ pub fn has_place<V: Copy>(rows: &[Vec<V>], row: usize, at: usize) -> bool
 
 /// Rows of their own with the same values.
 pub fn copy_rows<V: Copy + Drop>(alloc: Global, rows: &[Vec<V>]) -> Result<Vec<Vec<V>>, AllocError>
-    ensures items { IfOk result (λ copies. map (λ r. r.items) copies.items ≡ map (λ r. r.items) rows.now) }
-    ensures cells { IfOk result (λ copies. (empty : V) (r n : ℕ) → cell empty copies.items r n ≡ cell empty rows.now r n) }
+    ensures { IfOk result (λ copies. map (λ r. r.items) copies.items ≡ map (λ r. r.items) rows.now) }
 {
     let mut copies = Vec::new(alloc);
     for row in rows {

@@ -5,6 +5,7 @@ ghost use Rattle.session_tables.specs.Dense.{cell_in};
 ghost use Rattle.session_tables.specs.FiledRows.{cells_of, filed_cell, has_filed_cell, nothing_filed};
 
 use crate::dense::put_in;
+use crate::filed_type::FiledType;
 use command_tables::ObjectType;
 use std::alloc::{AllocError, Global};
 
@@ -15,16 +16,13 @@ pub struct Filed<V> {
     pub value: V,
 }
 
-/// The places of a row: as many as the shorter column has. One takes 6 bytes for a `u32` and 10 for a `u64`, where one list of both would
+/// The places of a row: as many as the shorter column has. One takes 5 bytes for a `u32` and 9 for a `u64`, where one list of both would
 /// take 8 and 16.
 #[derive(Drop)]
 pub struct FiledRow<V> {
-    pub types: Vec<Option<ObjectType>>,
+    pub types: Vec<FiledType>,
     pub values: Vec<V>,
 }
-
-// One byte says whether there is a type.
-const _: () = prove!(size_of::<Option<ObjectType>>() == 2);
 
 /// What stands where nothing is filed.
 pub fn nothing<V>(empty: V) -> Filed<V>
@@ -44,7 +42,7 @@ fn filed_in<V: Copy>(columns: &FiledRow<V>, at: usize, empty: V) -> Filed<V>
         Some(ty) => match columns.values.get(at) {
             None => nothing(empty),
             Some(value) => Filed {
-                ty: *ty,
+                ty: ty.get(),
                 value: *value,
             },
         },
@@ -143,7 +141,12 @@ fn put_in_columns<V: Copy + Drop>(
     ensures err { OnErr result ((n : ℕ) → cell_in (nothing_filed empty) (cells_of columns.new) n ≡ cell_in (nothing_filed empty) (cells_of columns.old) n) }
 {
     make_even(columns);
-    put_in(&mut columns.types, at, filed.ty, None)?;
+    put_in(
+        &mut columns.types,
+        at,
+        FiledType::new(filed.ty),
+        FiledType::new(None),
+    )?;
     put_in(&mut columns.values, at, filed.value, empty)?;
     Ok(())
 }
@@ -175,7 +178,7 @@ fn overwrite_in_columns<V: Copy + Drop>(columns: &mut FiledRow<V>, at: usize, fi
     requires { at < length (cells_of columns.old) }
     ensures { (empty : V) (n : ℕ) → cell_in (nothing_filed empty) (cells_of columns.new) n ≡ (if at == n then filed else cell_in (nothing_filed empty) (cells_of columns.old) n) }
 {
-    columns.types[at] = filed.ty;
+    columns.types[at] = FiledType::new(filed.ty);
     columns.values[at] = filed.value;
 }
 

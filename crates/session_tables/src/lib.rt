@@ -8,6 +8,7 @@ mod beside_names;
 mod birth_table;
 mod dense;
 mod filed_rows;
+mod filed_type;
 mod named_table;
 mod object_places;
 mod object_table;

@@ -7,8 +7,8 @@ ghost use Rattle.session_tables.specs.Shown.{object_at};
 
 use crate::beside_names::BesideNames;
 use crate::dense::{copy_rows, has_place, put_value, value_at};
+use crate::filed_type::FiledType;
 use crate::own::{is_own, own_object};
-use command_tables::ObjectType;
 use object_model::Object;
 use replay_model::Named;
 use std::alloc::{AllocError, Global};
@@ -18,12 +18,12 @@ use trace_format::Name;
 // So many names can be put.
 const MOST: usize = 4294967295;
 
-/// The names that stand for objects, in any order; 4,294,967,295 at most. A name whose object is made of it takes two bytes. Contracts see besides
+/// The names that stand for objects, in any order; 4,294,967,295 at most. A name whose object is made of it takes a byte. Contracts see besides
 /// how many were put, and how many further ones can be with no further memory.
 #[derive(Drop)]
 pub struct NamedTable {
     // The type of the object that is made of a name, in the row of the name's thread, at its number.
-    types: Vec<Vec<Option<ObjectType>>>,
+    types: Vec<Vec<FiledType>>,
     // The objects of other names, and of those up to which their row didn't reach when they came, though there was room.
     others: BesideNames,
     count: usize,
@@ -42,10 +42,16 @@ impl Model for NamedTable {
 }
 
 // The object for which a name stands.
-fn object_of(types: &[Vec<Option<ObjectType>>], others: &BesideNames, name: Name) -> Option<Object>
+fn object_of(types: &[Vec<FiledType>], others: &BesideNames, name: Name) -> Option<Object>
     ensures { result ≡ object_at types.now (object_in others.now.named name) name }
 {
-    match value_at(types, name.thread as usize, name.number as usize, None) {
+    let filed = value_at(
+        types,
+        name.thread as usize,
+        name.number as usize,
+        FiledType::new(None),
+    );
+    match filed.get() {
         Some(ty) => Some(own_object(ty, name)),
         None => others.object_named(name),
     }
@@ -54,7 +60,7 @@ fn object_of(types: &[Vec<Option<ObjectType>>], others: &BesideNames, name: Name
 // Keeps the object of a name that stands for nothing yet.
 fn put_object(
     alloc: Global,
-    types: &mut Vec<Vec<Option<ObjectType>>>,
+    types: &mut Vec<Vec<FiledType>>,
     others: &mut BesideNames,
     named: Named,
 ) -> Result<(), AllocError>
@@ -72,7 +78,8 @@ fn put_object(
     if !has_place(types, row, at) && others.has_room() {
         return others.put(named);
     }
-    put_value(alloc, types, row, at, Some(named.object.ty), None)?;
+    let filed = FiledType::new(Some(named.object.ty));
+    put_value(alloc, types, row, at, filed, FiledType::new(None))?;
     Ok(())
 }
 

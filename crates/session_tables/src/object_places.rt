@@ -4,7 +4,7 @@ ghost use Rattle.std.specs.HashMap.{get};
 ghost use Rattle.object_model.specs.declared.Object.{Object};
 ghost use Rattle.object_model.specs.Objects.{same};
 ghost use Rattle.session_tables.specs.FiledRows.{filed_cell, has_filed_cell};
-ghost use Rattle.session_tables.specs.Filing.{far_value, filed_for, is_open, is_own, kept, objects_kept, own_index, places_room};
+ghost use Rattle.session_tables.specs.Filing.{far_value, filed_for, is_open, is_own, kept, objects_with_values, own_index, places_room};
 
 use crate::filed_rows::{
     Filed, FiledRow, copy_filed, filed_at, has_filed, overwrite_filed, put_filed,
@@ -97,7 +97,7 @@ impl<V: Copy + Drop> ObjectPlaces<V> {
     /// No values. `empty` stands where there is none.
     pub fn new(alloc: Global, empty: V) -> ObjectPlaces<V>
         ensures kept { (o : Object) → kept result o ≡ None }
-        ensures objects { objects_kept result ≡ [] }
+        ensures objects { objects_with_values result ≡ [] }
     {
         ObjectPlaces {
             rows: Vec::new(alloc),
@@ -110,7 +110,7 @@ impl<V: Copy + Drop> ObjectPlaces<V> {
 
     /// Values of their own for the same objects. Of room nothing is said.
     pub fn copy(&self) -> Result<ObjectPlaces<V>, AllocError>
-        ensures objects { IfOk result (λ copy. objects_kept copy ≡ objects_kept self.now) }
+        ensures objects { IfOk result (λ copy. objects_with_values copy ≡ objects_with_values self.now) }
         ensures kept { IfOk result (λ copy. (o : Object) → kept copy o ≡ kept self.now o) }
     {
         Ok(ObjectPlaces {
@@ -135,7 +135,7 @@ impl<V: Copy + Drop> ObjectPlaces<V> {
     /// there would be more than 2^32 - 1 beside the rows; after it the values are as before, and no room is lost.
     pub fn reserve(&mut self, n: usize) -> Result<(), AllocError>
         ensures kept { (o : Object) → kept self.new o ≡ kept self.old o }
-        ensures objects { objects_kept self.new ≡ objects_kept self.old }
+        ensures objects { objects_with_values self.new ≡ objects_with_values self.old }
         ensures ok { OnOk result (n ≤ places_room self.new) }
         ensures room { places_room self.old ≤ places_room self.new }
         ensures succeeds { n ≤ places_room self.old → IsOk result }

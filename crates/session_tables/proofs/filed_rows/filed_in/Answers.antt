@@ -1,6 +1,7 @@
-use Rattle.std.proofs.Common.{◌≡◌, ◌∙◌, Some, None, sym, arith}
+use Rattle.std.proofs.Common.{◌≡◌, ◌∙◌, Option, Some, None, ap, sym, arith}
 use Rattle.std.proofs.lemmas.Option.{gets}
 use Rattle.std.specs.Prelude.{slice_get}
+use Rattle.command_tables.specs.declared.types.ObjectType.{ObjectType}
 use Rattle.session_tables.specs.FiledRows.{nothing_filed}
 use Rattle.session_tables.proofs.Columns.{both_there, no_type, no_value}
 use Rattle.session_tables.proofs.filed_rows.filed_in.Goals as goal
@@ -19,4 +20,5 @@ pub returns-in-Some-get : goal.returns-in-Some-get
 returns-in-Some-get g c =
     let ty : slice_get c.args.columns.now.types.items c.args.at ≡ Some c.in-Some.ty.now = grind (arith, gets) in
     let value : slice_get c.args.columns.now.values.items c.args.at ≡ Some c.in-Some-get.value.now = grind (arith, gets) in
-    sym (both_there c.args.columns.now.types.items c.args.columns.now.values.items c.args.at (nothing_filed c.args.empty) c.in-Some.ty.now c.in-Some-get.value.now ty value)
+    ap (λ (t : Option ObjectType). record { ty = t; value = c.in-Some-get.value.now }) c.get-in-Some-get.ensures
+    ∙ sym (both_there c.args.columns.now.types.items c.args.columns.now.values.items c.args.at (nothing_filed c.args.empty) c.in-Some.ty.now c.in-Some-get.value.now ty value)
