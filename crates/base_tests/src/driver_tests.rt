@@ -352,18 +352,28 @@ fn free_each_second(
     Ok(freed)
 }
 
-// Of the most handles that one call can ask for, each second one is freed and given again.
-#[test]
-fn many_values(rt: HostRuntime) -> Result<(), Fail> {
-    let alloc = rt.alloc();
+// Of the most handles that one call can ask for, each second one is freed, and then given again.
+fn many_values_after(rt: &impl Abort, alloc: Global, first: Policy) -> Result<(), Fail> {
     let mut driver = ModelDriver::new(alloc);
-    driver.prepare(Policy::Reuse);
+    driver.prepare(first);
     let mut call = call_for_most(alloc)?;
     let mut reply = most_given(alloc, &mut driver, &call, 1024)?;
     assert!(rt; has_most(&reply));
     let freed = free_each_second(alloc, &mut driver, &mut call, &mut reply)?;
-    are_given(&rt, alloc, &mut driver, &freed)?;
-    play_one(&rt, alloc, &mut driver, 1025)
+    driver.prepare(Policy::Reuse);
+    are_given(rt, alloc, &mut driver, &freed)?;
+    play_one(rt, alloc, &mut driver, 1025)
+}
+
+#[test]
+fn many_values(rt: HostRuntime) -> Result<(), Fail> {
+    many_values_after(&rt, rt.alloc(), Policy::Reuse)
+}
+
+// What came back while no value was given again counts once one is.
+#[test]
+fn many_values_that_came_back_before(rt: HostRuntime) -> Result<(), Fail> {
+    many_values_after(&rt, rt.alloc(), Policy::Fresh)
 }
 
 pub fn reply_with(alloc: Global, handles: usize) -> Result<DriverReply, NoMemory> {

@@ -1,7 +1,8 @@
 -- The values that have come back, and the heap beside them.
-use Rattle.std.proofs.Common.{◌≡◌, ◌≤◌, ◌<◌, ℕ, zero, suc, ◌+◌, ◌-◌, ◌∙◌, Bool, true, false, cond, List, [], ◌∷◌, ◌++◌, length, get_or, get_or-set_same, get_or-set_other, ◌≢◌, refl, ap, sym, subst, arith, eq-eqb, inl, inr, add-one, append_assoc}
+use Rattle.std.proofs.Common.{◌≡◌, ◌≤◌, ◌<◌, ℕ, zero, suc, ◌+◌, ◌-◌, ◌∙◌, Bool, true, false, cond, List, [], ◌∷◌, ◌++◌, length, get_or, get_or-set_same, get_or-set_other, ◌≢◌, refl, ap, sym, subst, arith, length-append, eq-eqb, inl, inr, add-one, append_assoc}
 use Rattle.std.specs.Prelude.{nat_le, nat_eq, ◌⊎◌}
 use Rattle.std.proofs.Math.ListN.{set}
+use Rattle.std.proofs.Math.Seq.{get_or-append_seam}
 use Rattle.std.proofs.lemmas.Bool.{eqb-true, le-leb}
 use Rattle.std.proofs.lemmas.List.Sums.{sum_by-cons, sum_by-set, sum_by_push}
 use Rattle.std.proofs.lemmas.List.Sorted.{sum_by-IsPermutation}
@@ -175,6 +176,19 @@ book_back back items more n m i book within out moved heap one = record {
     go v false e =
         let all : 0 + times v items ≡ cond (is_back back v) 1 0 = omega (arith, book.each v) in
         all ∙ ap (λ t. cond t 1 0) (sym (set_other back i true v e))
+
+-- one value more, which has come back
+pub book_more_back : (back : List Bool) (items more : List (Reverse ℕ)) (n m v : ℕ) → IsBook back items n → v ≡ length back + 1 → IsPermutation (record { 0 = v } ∷ items) more → IsHeap by_least more → m ≡ n + 1
+    → IsBook (back ++ true ∷ []) more m
+book_more_back back items more n m v book next moved heap one =
+    let value : v ≡ suc (length back) = omega arith in
+    subst (λ b. IsBook b more m) (set_last back)
+    (book_back (back ++ false ∷ []) items more n m (length back) (book_more back items n book) (omega (arith, length-append back (false ∷ []))) (get_or-append_seam back false [] false)
+    (subst (λ x. IsPermutation (record { 0 = x } ∷ items) more) value moved) heap one)
+  where
+    set_last : (back : List Bool) → set (back ++ false ∷ []) (length back) true ≡ back ++ true ∷ []
+    set_last [] = refl
+    set_last (b ∷ back) = ap (λ xs. b ∷ xs) (set_last back)
 
 -- there is room in the heap for a value that is out
 pub room_for : (back : List Bool) (items : List (Reverse ℕ)) (n i : ℕ) → IsBook back items n → i < length back → get_or back i false ≡ false → n < length back

@@ -1,9 +1,11 @@
--- How what has come back is kept: beside the list, a heap with just the values that have come back. Source: this project.
-use Rattle.std.specs.Prelude.{◌≡◌, ℕ, Bool, if◌then◌else◌, ◌==◌, List, sum_by}
+-- How what has come back is kept: beside the list, where values are given again, a heap with just the values that have come
+-- back. Source: this project.
+use Rattle.std.specs.Prelude.{◌≡◌, ℕ, Bool, if◌then◌else◌, ◌==◌, ◌≤◌, List, Option, IfSome, sum_by}
 use Rattle.std.specs.declared.cmp.Ordering.{Ordering}
 use Rattle.std.specs.declared.cmp.Reverse.{Reverse}
 use Rattle.std.specs.Ordering.{nat_cmp}
-use Rattle.std.specs.BinaryHeap.{IsHeap}
+use Rattle.std.specs.declared.collections.binary_heap.BinaryHeap.{BinaryHeap}
+use Rattle.std.specs.BinaryHeap.{IsHeap, heap_capacity, heap_items, heap_len}
 use Rattle.model_driver.specs.Policies.{is_back}
 
 -- the lesser value comes first
@@ -23,3 +25,12 @@ pub record IsBook (back : List Bool) (items : List (Reverse ℕ)) (count : ℕ) 
   pub heap : IsHeap by_least items
   pub each : (value : ℕ) → times value items ≡ (if is_back back value then 1 else 0)
   pub size : count ≡ count_back back
+
+module _ {A : Type 0} where
+  -- the heap, where there is one, holds what has come back
+  abbrev pub HasBook : List Bool → Option (BinaryHeap (Reverse ℕ) A) → Type 0
+  HasBook back free = IfSome free (λ heap. IsBook back (heap_items heap) (heap_len heap))
+
+  -- the heap, where there is one, has room for so many values in all
+  abbrev pub HasHeapRoom : Option (BinaryHeap (Reverse ℕ) A) → ℕ → Type 0
+  HasHeapRoom free room = IfSome free (λ heap. room ≤ heap_capacity heap)

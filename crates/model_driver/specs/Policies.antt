@@ -22,6 +22,12 @@ least_not_out [] = 1
 least_not_out (true ∷ back) = 1
 least_not_out (false ∷ back) = suc (least_not_out back)
 
+-- a value that has come back may be given again
+abbrev pub gives_again : Policy → Bool
+gives_again policy.Fresh = false
+gives_again policy.Reuse = true
+gives_again policy.Share = true
+
 -- the value that is given next: a new one, the least that is not out, or 1
 abbrev pub next_value : Policy → List Bool → ℕ
 next_value policy.Fresh back = length back + 1

@@ -5,7 +5,7 @@ ghost use Rattle.model_driver.specs.GivenValues.{handles_at_seat, seat_after};
 
 use crate::driver::{DriverCall, DriverReply, Policy};
 use crate::due::handles_due;
-use crate::given_values::{give, make_room, take_back};
+use crate::given_values::{give, keep_heap, make_room, take_back};
 use crate::model_driver::ended;
 use crate::shared_driver::SharedDriver;
 use command_tables::NoMemory;
@@ -24,20 +24,20 @@ pub struct ModelSeat {
     policy: Policy,
     left: u32,
     back: Vec<bool>,
-    free: BinaryHeap<Reverse<u64>>,
+    free: Option<BinaryHeap<Reverse<u64>>>,
 }
 
 impl Model for ModelSeat {
-    ghost use Rattle.std.specs.Prelude.{◌≤◌, ◌+◌, length, vec_capacity};
-    ghost use Rattle.std.specs.BinaryHeap.{heap_capacity, heap_items, heap_len};
+    ghost use Rattle.std.specs.Prelude.{◌≡◌, ◌≤◌, ◌+◌, is_some, length, vec_capacity};
     ghost use Rattle.model_driver.specs.GivenValues.{SeatState};
-    ghost use Rattle.model_driver.specs.Books.{IsBook};
+    ghost use Rattle.model_driver.specs.Books.{HasHeapRoom, HasBook};
+    ghost use Rattle.model_driver.specs.Policies.{gives_again};
 
     ghost Value = { SeatState };
 
     ghost view = { λ s. record { policy = s.policy; back = s.back.items; left = s.left } };
 
-    ghost invariant = { λ s. IsBook s.back.items (heap_items s.free) (heap_len s.free) × (length s.back.items + s.left ≤ vec_capacity s.back) × (length s.back.items + s.left ≤ heap_capacity s.free) };
+    ghost invariant = { λ s. (is_some s.free ≡ gives_again s.policy) × HasBook s.back.items s.free × (length s.back.items + s.left ≤ vec_capacity s.back) × HasHeapRoom s.free (length s.back.items + s.left) };
 }
 
 impl SharedModel {
@@ -73,7 +73,8 @@ impl SharedDriver for SharedModel {
         _bytes: usize,
     ) -> Result<ModelSeat, NoMemory> {
         let mut back = Vec::new(alloc);
-        let mut free = BinaryHeap::new(alloc);
+        let mut free = None;
+        keep_heap(alloc, policy, &back, &mut free)?;
         make_room(&mut back, &mut free, handles as usize)?;
         Ok(ModelSeat {
             policy,
