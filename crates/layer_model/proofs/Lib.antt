@@ -1,3 +1,4 @@
 pub mod Same
+pub mod Issued
 pub mod Steps
 pub mod LeftOut

@@ -1,13 +1,14 @@
 -- What a part keeps that issues ids: a unique part, with the handle below for each of its ids, and the terminator, with the values of each driver.
 -- Source: Khronos validation layers (unique handles); that ids are positions, and what is kept of retrieved objects, is this project's.
-use Rattle.std.specs.Prelude.{ℕ, suc, ◌+◌, Bool, ◌&&◌, if◌then◌else◌, ◌==◌, max, Option, Some, None, List, [], ◌∷◌, ◌++◌, find, not}
+use Rattle.std.specs.Prelude.{◌≡◌, ℕ, suc, ◌+◌, Bool, true, ◌&&◌, if◌then◌else◌, ◌==◌, Option, Some, None, List, [], ◌∷◌, ◌++◌, find, not}
+use Rattle.std.specs.List.{list_all}
 use Rattle.std.specs.Option.{option_map}
 use Rattle.std.specs.Str.{bytes_eq}
 use Rattle.command_tables.specs.declared.types.ObjectType.{ObjectType}
 use Rattle.object_model.specs.declared.Object.{Object}
 use Rattle.command_tables.specs.declared.types.ObjectType.TheVariants as ty
 use Rattle.command_tables.specs.Tests.{same_type}
-use Rattle.handle_map.specs.Pairs.{MapEntry, greatest_id, with_values}
+use Rattle.handle_map.specs.Pairs.{MapEntry, greatest_id, has_pair, with_values}
 use Rattle.object_model.specs.Objects.{are_same}
 use Rattle.command_tables.specs.Facts.{is_dispatchable}
 
@@ -47,6 +48,10 @@ next_id entries = suc (greatest_id entries)
 -- the id was kept by this key
 abbrev pub has_key : Key → KeptId → Bool
 has_key k r = same_type r.key.ty k.ty && (are_same r.key.owner k.owner && (r.key.place == k.place && bytes_eq r.key.payload k.payload))
+
+-- each kept id was issued, for the type of its key
+abbrev pub AreIssued : {V : Type 0} → List (MapEntry V) → List KeptId → Type 0
+AreIssued entries kept = list_all (λ r. has_pair entries r.key.ty r.id) kept ≡ true
 
 -- the id kept by a key
 abbrev pub kept_id : List KeptId → Key → Option ℕ

@@ -13,8 +13,9 @@ use Rattle.command_tables.specs.Calls.{CallContent, ReplyContent}
 use Rattle.command_tables.specs.Effects.{type_made}
 use Rattle.command_tables.specs.Table.{ParamSpec, row_of}
 use Rattle.command_tables.specs.Tests.{same_command, same_type}
-use Rattle.handle_map.specs.Pairs.{MapEntry, has_pair, is_pair, values_of, with_values}
+use Rattle.handle_map.specs.Pairs.{has_pair, values_of}
 use Rattle.layer_model.specs.Ids.{IdMap, IssuedAll, Key, KeptId, at_key, has_key, is_wrapped, issue, issue_all, issue_where, keep_new, kept_for, kept_id, next_id}
+use Rattle.layer_model.proofs.Issued.{put_stays}
 use Rattle.layer_model.specs.Parts.{key_read}
 use Rattle.layer_model.specs.Reading.{read_call}
 use Rattle.layer_model.specs.Routes.{add_route, drivers_at, has_route, route_all, routes_then}
@@ -108,19 +109,6 @@ record KnowsAll (before then : IdMap (List Value)) : Type 0 where
 
 same_all : (m : IdMap (List Value)) → KnowsAll m m
 same_all m = record { ids = λ (t : ObjectType) (id : ℕ) (has : has_pair m.entries t id ≡ true). has; kept = λ (k : Key) (id : ℕ) (is : kept_id m.kept k ≡ Some id). is }
-
-pub put_stays : (es : List (MapEntry (List Value))) (t u : ObjectType) (id n : ℕ) (v : List Value) → has_pair es t id ≡ true → has_pair (with_values es u n v) t id ≡ true
-put_stays [] t u id n v has = cc has
-put_stays (e ∷ es) t u id n v has = go (is_pair u n e) (is_pair t id e) refl has (put_stays es t u id n v)
-  where
-    front : (x : MapEntry (List Value)) (xs : List (MapEntry (List Value))) (b : Bool) → is_pair t id x ≡ b → (b || has_pair xs t id) ≡ true → has_pair (x ∷ xs) t id ≡ true
-    front x xs b at is = ap (λ (w : Bool). w || has_pair xs t id) at ∙ is
-
-    go : (a b : Bool) → is_pair t id e ≡ b → (b || has_pair es t id) ≡ true → (has_pair es t id ≡ true → has_pair (with_values es u n v) t id ≡ true)
-        → has_pair (cond a (record e { values = v } ∷ es) (e ∷ with_values es u n v)) t id ≡ true
-    go true b at has ih = front (record e { values = v }) es b at has
-    go false true at has ih = front e (with_values es u n v) true at refl
-    go false false at has ih = front e (with_values es u n v) false at (ih has)
 
 keep_stays : (kept : List KeptId) (new : Option Key) (n : ℕ) (k : Key) (id : ℕ) → kept_id kept k ≡ Some id → kept_id (keep_new new n kept) k ≡ Some id
 keep_stays kept None n k id is = is

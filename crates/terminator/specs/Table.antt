@@ -1,12 +1,10 @@
 -- How ids are kept: entries in order of issue, of which the first has the id 1, and one flat list of values. Source: this project.
-use Rattle.std.specs.Prelude.{◌≡◌, ◌≢◌, ℕ, suc, ◌+◌, ◌≤◌, ◌<◌, ◌⊎◌, true, false, if◌then◌else◌, List, [], ◌∷◌, length, map, take, drop, slice_set, slice_index_or}
-use Rattle.std.specs.List.{list_all}
+use Rattle.std.specs.Prelude.{◌≡◌, ◌≢◌, ℕ, suc, ◌+◌, ◌≤◌, ◌<◌, ◌⊎◌, false, if◌then◌else◌, List, [], ◌∷◌, length, map, take, drop, slice_set, slice_index_or}
 use Rattle.command_tables.specs.declared.types.ObjectType.{ObjectType}
 use Rattle.object_model.specs.declared.Routed.{Routed}
 use Rattle.object_model.specs.Routes.{is_routed}
 use Rattle.object_model.specs.Values.{Value}
 use Rattle.handle_map.specs.Pairs.{MapEntry, has_pair}
-use Rattle.layer_model.specs.Ids.{KeptId}
 use Rattle.terminator.specs.declared.entry.IdEntry.{IdEntry}
 use Rattle.terminator.specs.declared.value.DriverValue.{DriverValue}
 
@@ -60,10 +58,6 @@ pub record IsPlace (entries : List IdEntry) (t : ObjectType) (id place : ℕ) : 
 abbrev pub written : List DriverValue → ℕ → List DriverValue → List DriverValue
 written flat start [] = flat
 written flat start (v ∷ more) = written (slice_set flat start v) (suc start) more
-
--- each kept id is among the ids, with its type
-abbrev pub AreIssued : List (MapEntry (List Value)) → List KeptId → Type 0
-AreIssued entries kept = list_all (λ (r : KeptId). has_pair entries r.key.ty r.id) kept ≡ true
 
 -- no entry is of the pair
 abbrev pub HasNoPlace : List IdEntry → ObjectType → ℕ → Type 0

@@ -27,7 +27,7 @@ pub struct IssuedIds {
 impl Model for IssuedIds {
     ghost use Rattle.std.specs.Prelude.{min};
     ghost use Rattle.terminator.specs.Shown.{IssuedState};
-    ghost use Rattle.terminator.specs.Table.{AreIssued};
+    ghost use Rattle.layer_model.specs.Ids.{AreIssued};
 
     ghost Value = { IssuedState };
 
@@ -124,7 +124,7 @@ impl IssuedIds {
     }
 
     // A new id, kept by its key where the call retrieves. After `NoMemory` all is as before.
-    #[tactic(auto, using(crate::proofs::Known::issued_more, crate::proofs::Known::issued_stay))]
+    #[tactic(auto, using(layer_model::proofs::Issued::issued_more, layer_model::proofs::Issued::issued_stay))]
     fn issue_new(
         &mut self,
         key: Option<RetrievedKey<'_>>,
@@ -155,7 +155,7 @@ impl IssuedIds {
 
     /// The kept id of a key, else a new one, with these values; a new one has this driver behind it. After `NoMemory`, which
     /// comes only where there was no room, all is as before.
-    #[tactic(auto, using(crate::proofs::Known::issued_stay))]
+    #[tactic(auto, using(layer_model::proofs::Issued::issued_stay))]
     pub fn issue(
         &mut self,
         key: Option<RetrievedKey<'_>>,

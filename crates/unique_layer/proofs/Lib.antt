@@ -4,5 +4,5 @@ pub mod Places
 pub mod Issued
 pub mod FirstRead
 pub mod Payloads
-pub mod Room
-pub mod Zipping
+pub mod Keeping
+pub mod Numbering

@@ -1,5 +1,5 @@
 -- What a unique part's lists say. Source: this project.
-use Rattle.std.specs.Prelude.{ℕ, ◌≤◌, Option, Some, None, List, [], ◌∷◌, ◌++◌, map, take, drop, slice_index_or}
+use Rattle.std.specs.Prelude.{ℕ, Option, Some, None, List, [], ◌++◌, map, take, drop, slice_index_or}
 use Rattle.command_tables.specs.declared.types.Effect.{Effect}
 use Rattle.command_tables.specs.declared.types.Effect.TheVariants as eff
 use Rattle.command_tables.specs.Table.{ParamSpec}
@@ -22,11 +22,6 @@ pub record KeptState : Type 0 where
 pub record UniqueKept : Type 0 where
   pub ids : IdMap ℕ
   pub spare : ℕ
-
--- each of these ids is at most a number
-abbrev pub AreUpTo : ℕ → List KeptId → Type 0
-AreUpTo most [] = Unit {0}
-AreUpTo most (r ∷ rs) = (r.id ≤ most) × AreUpTo most rs
 
 -- a key; no payload is part of it
 abbrev pub key_of : RetrievedKey → Key

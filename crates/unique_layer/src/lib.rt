@@ -5,12 +5,12 @@
 
 mod chain;
 mod entry;
+mod issued_values;
 mod kept;
 mod key;
 mod reading;
 mod state;
 mod value;
-mod value_map;
 mod wrapped;
 
 pub use state::UniqueState;

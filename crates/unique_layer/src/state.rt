@@ -1,17 +1,17 @@
 //! A unique part: its ids with the handles below them.
-ghost use Rattle.std.specs.Prelude.{◌≡◌, ◌<◌, ◌≤◌, ◌+◌, map, length, unwrap_or, slice_set, IfOk, IfSome, vec_capacity, IsOk, OnErr, OnOk};
+ghost use Rattle.std.specs.Prelude.{◌≡◌, ◌<◌, ◌≤◌, ◌+◌, map, length, true, unwrap_or, slice_set, IfOk, IfSome, vec_capacity, IsOk, OnErr, OnOk};
 ghost use Rattle.command_tables.specs.Handles.{HasRoom, list_at};
 ghost use Rattle.command_tables.specs.Table.{seen_param};
 ghost use Rattle.command_tables.specs.Calls.{call_content};
 ghost use Rattle.layer_model.specs.Ids.{issue, issue_all, kept_for, known, new_id, no_ids};
-ghost use Rattle.handle_map.specs.Pairs.{greatest_id, values_of};
+ghost use Rattle.handle_map.specs.Pairs.{has_pair, values_of};
 ghost use Rattle.layer_model.specs.Parts.{below_handles, below_params, there, unique_enter, unique_leave};
 ghost use Rattle.unique_layer.specs.Shown.{key_asked};
 
+use crate::issued_values::IssuedValues;
 use crate::kept::KeptIds;
 use crate::key::{RetrievedKey, key_at};
 use crate::reading::key_of;
-use crate::value_map::ValueMap;
 use crate::wrapped::wraps;
 use command_tables::{HandleArgs, LayerCall, NoMemory, ObjectType, Param, row};
 use std::alloc::Global;
@@ -21,22 +21,20 @@ use std::marker::Model;
 /// first. Contracts see besides how many objects can be born to it with no further memory.
 #[derive(Drop)]
 pub struct UniqueState {
-    ids: ValueMap<64>,
-    // The greatest id, whatever its type; 0 where there is none.
-    greatest: u64,
+    ids: IssuedValues,
     kept: KeptIds,
 }
 
 impl Model for UniqueState {
-    ghost use Rattle.std.specs.Prelude.{◌≡◌, ◌-◌, min};
-    ghost use Rattle.handle_map.specs.Pairs.{greatest_id};
-    ghost use Rattle.unique_layer.specs.Shown.{AreUpTo, UniqueKept};
+    ghost use Rattle.std.specs.Prelude.{min};
+    ghost use Rattle.layer_model.specs.Ids.{AreIssued};
+    ghost use Rattle.unique_layer.specs.Shown.{UniqueKept};
 
     ghost Value = { UniqueKept };
 
-    ghost view = { λ s. record { ids = record { entries = s.ids.entries; kept = s.kept.ids }; spare = min (min s.ids.spare s.kept.spare) (18446744073709551615 - s.greatest) } };
+    ghost view = { λ s. record { ids = record { entries = s.ids.entries; kept = s.kept.ids }; spare = min s.ids.spare s.kept.spare } };
 
-    ghost invariant = { λ s. (s.greatest ≡ greatest_id s.ids.entries) × AreUpTo s.greatest s.kept.ids };
+    ghost invariant = { λ s. AreIssued s.ids.entries s.kept.ids };
 }
 
 impl UniqueState {
@@ -45,8 +43,7 @@ impl UniqueState {
         ensures { result.ids ≡ no_ids }
     {
         UniqueState {
-            ids: ValueMap::new(alloc),
-            greatest: 0,
+            ids: IssuedValues::new(alloc),
             kept: KeptIds::new(alloc),
         }
     }
@@ -57,7 +54,6 @@ impl UniqueState {
     {
         Ok(UniqueState {
             ids: self.ids.copy()?,
-            greatest: self.greatest,
             kept: self.kept.copy()?,
         })
     }
@@ -83,9 +79,6 @@ impl UniqueState {
         ensures spare { self.old.spare ≤ self.new.spare }
         ensures succeeds { 1 ≤ births → births ≤ self.old.spare → IsOk result }
     {
-        if u64::MAX - self.greatest < births as u64 {
-            return Err(NoMemory);
-        }
         self.ids.reserve(births)?;
         self.kept.make_room(births)
     }
@@ -143,11 +136,10 @@ impl UniqueState {
         self.enter_params(row(call.cmd).params, &mut call.args);
     }
 
-    // The id kept for a result, where the call retrieves. It was issued.
-    #[tactic(auto, using(crate::proofs::Room::found_up_to))]
+    // The id kept for a result, where the call retrieves. It was issued for the key's type.
     fn kept_for(&self, key: Option<RetrievedKey>) -> Option<u64>
         ensures id { result ≡ kept_for self.now.ids.kept (key_asked key) }
-        ensures known { IfSome result (λ id. id ≤ greatest_id self.now.ids.entries) }
+        ensures issued { IfSome key (λ key. IfSome result (λ id. has_pair self.now.ids.entries key.ty id ≡ true)) }
     {
         match key {
             None => None,
@@ -155,37 +147,34 @@ impl UniqueState {
         }
     }
 
-    // A known id, which is at most the greatest, gets the new value.
-    #[tactic(auto, using(crate::proofs::Room::least_falls))]
-    fn put_known(&mut self, ty: ObjectType, id: u64, value: u64) -> Result<(), NoMemory>
-        requires { id ≤ greatest_id self.old.ids.entries }
-        ensures ids { OnOk result (record { id = id; ids = self.new.ids } ≡ known self.old.ids ty id value) }
-        ensures err { OnErr result (self.new.ids ≡ self.old.ids) }
-        ensures succeeds { 1 ≤ self.old.spare → IsOk result }
-        ensures spare { self.old.spare ≤ self.new.spare + 1 }
+    // An id that was issued for this type gets the new value.
+    #[tactic(auto, using(layer_model::proofs::Issued::issued_stay))]
+    fn put_known(&mut self, ty: ObjectType, id: u64, value: u64)
+        requires { has_pair self.old.ids.entries ty id ≡ true }
+        ensures ids { record { id = id; ids = self.new.ids } ≡ known self.old.ids ty id value }
+        ensures spare { self.new.spare ≡ self.old.spare }
     {
-        self.ids.insert(ty, id, value)
+        self.ids.set(ty, id, value);
     }
 
     // A new id, kept by its key where the call retrieves.
-    #[tactic(auto, using(crate::proofs::Room::up_to_more, crate::proofs::Room::up_to_last, crate::proofs::Room::least_falls))]
+    #[tactic(auto, using(crate::proofs::Keeping::put_last, crate::proofs::Keeping::issued_next))]
     fn put_new(
         &mut self,
         key: Option<RetrievedKey>,
         ty: ObjectType,
         value: u64,
     ) -> Result<u64, NoMemory>
+        requires { IfSome (key_asked key) (λ key. key.ty ≡ ty) }
         ensures ids { IfOk result (λ id. record { id = id; ids = self.new.ids } ≡ new_id self.old.ids (key_asked key) ty value) }
         ensures err { OnErr result (self.new.ids ≡ self.old.ids) }
         ensures succeeds { 1 ≤ self.old.spare → IsOk result }
         ensures spare { self.old.spare ≤ self.new.spare + 1 }
     {
-        let id = self.greatest.checked_add(1).ok_or(NoMemory)?;
         if key.is_some() {
             self.kept.make_room(1)?;
         }
-        self.ids.insert(ty, id, value)?;
-        self.greatest = id;
+        let id = self.ids.push(ty, value)?;
         if let Some(key) = key {
             self.kept.add(key, id).unwrap();
         }
@@ -199,6 +188,7 @@ impl UniqueState {
         ty: ObjectType,
         value: u64,
     ) -> Result<u64, NoMemory>
+        requires { IfSome (key_asked key) (λ key. key.ty ≡ ty) }
         ensures ids { IfOk result (λ id. record { id = id; ids = self.new.ids } ≡ issue self.old.ids (key_asked key) ty value) }
         ensures err { OnErr result (self.new.ids ≡ self.old.ids) }
         ensures succeeds { 1 ≤ self.old.spare → IsOk result }
@@ -207,7 +197,7 @@ impl UniqueState {
         match self.kept_for(key) {
             None => self.put_new(key, ty, value),
             Some(id) => {
-                self.put_known(ty, id, value)?;
+                self.put_known(ty, id, value);
                 Ok(id)
             }
         }
@@ -221,6 +211,7 @@ impl UniqueState {
         ty: ObjectType,
         results: &mut [u64],
     ) -> Result<(), NoMemory>
+        requires key { IfSome (key_asked key) (λ key. key.ty ≡ ty) }
         requires room { 1 < length results.old → length results.old ≤ self.old.spare }
         ensures ids { OnOk result (record { results = results.new; ids = self.new.ids } ≡ issue_all self.old.ids (key_asked key) ty 0 (map there results.old)) }
         ensures err { OnErr result (self.new.ids ≡ self.old.ids) }
@@ -243,6 +234,7 @@ impl UniqueState {
         ty: ObjectType,
         results: &mut [u64],
     ) -> Result<(), NoMemory>
+        requires { IfSome (key_asked key) (λ key. key.ty ≡ ty) }
         ensures ids { OnOk result (record { results = results.new; ids = self.new.ids } ≡ issue_all self.old.ids (key_asked key) ty 0 (map there results.old)) }
         ensures err { OnErr result (self.new.ids ≡ self.old.ids) }
         ensures same { OnErr result (results.new ≡ results.old) }

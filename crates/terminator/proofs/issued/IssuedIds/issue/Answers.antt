@@ -2,8 +2,9 @@ use Rattle.std.proofs.Common.{◌≡◌, true, List, map, sym, subst}
 use Rattle.handle_map.specs.Pairs.{MapEntry, has_pair}
 use Rattle.object_model.specs.Values.{Value}
 use Rattle.terminator.specs.Shown.{IssuedState}
-use Rattle.terminator.specs.Table.{AreIssued, value_of}
-use Rattle.terminator.proofs.Known.{issued_stay}
+use Rattle.layer_model.specs.Ids.{AreIssued}
+use Rattle.layer_model.proofs.Issued.{issued_stay}
+use Rattle.terminator.specs.Table.{value_of}
 use Rattle.terminator.proofs.issued.IssuedIds.issue.Goals as goal
 
 pub put-requires : goal.put-requires
