@@ -4,3 +4,5 @@ pub mod Flat
 pub mod Adding
 pub mod Spreading
 pub mod Bounding
+pub mod Listed
+pub mod Indexed

@@ -2,3 +2,5 @@ pub mod Pairs
 pub mod Chains
 pub mod Spans
 pub mod Bounds
+pub mod KeptPairs
+pub mod Index

@@ -14,9 +14,9 @@ use Rattle.object_records.specs.declared.kept_record.KeptRecord.{KeptRecord}
 use Rattle.object_records.specs.declared.kept_record.OwnerKind.{OwnerKind}
 use Rattle.object_records.specs.declared.kept_record.OwnerKind.TheVariants as kind
 use Rattle.object_records.specs.declared.record.ObjectRecord.{ObjectRecord}
-use Rattle.object_records.specs.Compact.{AreWithin, IsCompact, IsKept, IsWithin, owner_of, owner_read, record_read, records_read, strays_with}
+use Rattle.object_records.specs.Compact.{AreWithin, IsCompact, IsKept, IsWithin, owner_of, record_read, records_read, strays_with}
 use Rattle.object_records.specs.Passed.{owner_above}
-use Rattle.object_records.specs.Table.{AreOnce, before_owned, ended_at, objects_kept, pair_kept, pairs_kept, place_from, place_in}
+use Rattle.object_records.specs.Table.{AreOnce, ended_at, objects_kept, pairs_kept, place_from, place_in}
 
 -- ---- what is read of the pairs
 

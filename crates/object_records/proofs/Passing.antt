@@ -5,13 +5,13 @@ use Rattle.std.specs.Option.{option_map_or}
 use Rattle.std.proofs.Math.ListN.{set}
 use Rattle.std.proofs.lemmas.Bool.{ltb-true}
 use Rattle.std.proofs.lemmas.List.{take_all}
-use Rattle.std.proofs.lemmas.Option.{get_or_from_slice_get, same_Some, slice_get-get_or}
+use Rattle.std.proofs.lemmas.Option.{get_or_from_slice_get, same_Some}
 use Rattle.object_records.specs.declared.kept_owner.KeptOwner.{KeptOwner}
 use Rattle.object_records.specs.declared.kept_owner.KeptOwner.TheVariants.{Nobody, At, Unborn}
 use Rattle.object_records.specs.declared.record.ObjectRecord.{ObjectRecord}
 use Rattle.object_records.specs.Links.{IsPrevious, is_owner_at, last_link, link_by}
 use Rattle.object_records.specs.Passed.{ArePassed, IsDeadAt, IsPassed, WasNoted, WasWidened, limited, limited_at, owner_above, reopened}
-use Rattle.object_records.specs.Table.{before_owned, ended_at}
+use Rattle.object_records.specs.Table.{ended_at}
 use Rattle.object_records.proofs.Below.{past_last, take_get}
 use Rattle.object_records.proofs.Owned.{past}
 use Rattle.object_records.proofs.Walked.{is_at}

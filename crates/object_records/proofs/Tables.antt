@@ -1,20 +1,15 @@
 -- The parts of the table.
-use Rattle.std.proofs.Common.{◌≡◌, ◌≤◌, ◌∙◌, ◌&&◌, ◌||◌, ◌+◌, ℕ, zero, suc, cond, Bool, true, false, Option, Some, None, List, [], ◌∷◌, ◌++◌, length, get_or, refl, sym, ap, subst, arith, length-append}
-use Rattle.std.proofs.Math.ListN.{set}
-use Rattle.std.proofs.lemmas.List.{map-append}
+use Rattle.std.proofs.Common.{◌≡◌, ◌≤◌, ◌∙◌, ◌&&◌, ◌||◌, ◌+◌, ℕ, zero, suc, cond, Bool, true, false, Some, List, [], ◌∷◌, ◌++◌, length, sym, ap, subst, arith, length-append}
 use Rattle.std.specs.Prelude.{slice_get}
 use Rattle.std.specs.Option.{option_map_or}
-use Rattle.handle_map.specs.Pairs.{AreDistinct, Pair, has_pair, place_from as pair_place, place_of}
-use Rattle.object_model.specs.declared.Object.{Object}
-use Rattle.object_model.specs.Objects.{same}
 use Rattle.object_records.specs.declared.kept_owner.KeptOwner.{KeptOwner}
 use Rattle.object_records.specs.declared.record.ObjectRecord.{ObjectRecord}
 use Rattle.object_records.specs.declared.links.Links.{Links}
 use Rattle.object_records.specs.Links.{AreLinked, is_unborn, unlinked, with_linked}
 use Rattle.object_records.specs.Passed.{WasWidened, reopened}
 use Rattle.object_records.specs.Queues.{padded, queue_owner, queues_seen}
-use Rattle.object_records.specs.Table.{AreOnce, AreOwnersBefore, IsTable, LivesAt, before_owned, ended_at, objects_kept, pair_kept, pairs_kept, place_from, place_in}
-use Rattle.object_records.proofs.Linking.{added_linked, ended_length, ended_linked, living_read, strays_ended, strays_more}
+use Rattle.object_records.specs.Table.{AreOwnersBefore, IsTable, LivesAt, before_owned, ended_at}
+use Rattle.object_records.proofs.Linking.{added_linked, ended_length, ended_linked, strays_ended, strays_more}
 use Rattle.object_records.proofs.Passing.{added_passed, ended_passed}
 use Rattle.object_records.proofs.SeenQueues.{added_queues, ended_queues}
 

@@ -1,5 +1,5 @@
 -- The records of objects as they are kept: the pairs of an index, and 8 bytes beside each. Source: this project.
-use Rattle.std.specs.Prelude.{◌≡◌, ◌≤◌, ◌<◌, ℕ, Bool, true, Some, None, List, [], ◌∷◌, ◌++◌, length, slice_get}
+use Rattle.std.specs.Prelude.{◌≡◌, ◌≤◌, ◌<◌, ℕ, List, [], ◌∷◌, ◌++◌, length, slice_get}
 use Rattle.std.specs.Option.{option_map_or}
 use Rattle.handle_map.specs.Pairs.{Pair}
 use Rattle.object_model.specs.declared.Object.{Object}

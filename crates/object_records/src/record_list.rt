@@ -8,7 +8,7 @@ use crate::kept_owner::KeptOwner;
 use crate::kept_record::{KeptRecord, keep, read_owner};
 use crate::record::ObjectRecord;
 use command_tables::NoMemory;
-use handle_map::HandleSet;
+use handle_map::PairIndex;
 use object_model::Object;
 use std::alloc::Global;
 use std::marker::Model;
@@ -19,9 +19,8 @@ const MOST: usize = 4294967295;
 /// The records of all objects that were born, the oldest first.
 #[derive(Drop)]
 pub struct RecordList {
-    // The pairs of the objects. Handles of other origin come between dense ids, so that a record need not stand at the place of its id; the
-    // set has hints for that. Where ids are sparse, many chains keep the way to a pair short.
-    index: HandleSet<4096>,
+    // The pairs of the objects. Handles of other origin come between dense ids, so that a record need not stand at the place of its id.
+    index: PairIndex,
     kept: Vec<KeptRecord>,
     // The owners that weren't born, of which there are none in most traces.
     strays: Vec<Object>,
@@ -44,7 +43,7 @@ impl RecordList {
         ensures { result.records ≡ [] }
     {
         RecordList {
-            index: HandleSet::new(alloc),
+            index: PairIndex::new(alloc),
             kept: Vec::new(alloc),
             strays: Vec::new(alloc),
         }

@@ -3,6 +3,8 @@
 #![tactic(auto)]
 
 #[cfg(test)]
+mod index_tests;
+#[cfg(test)]
 mod map_tests;
 #[cfg(test)]
 mod record_tests;

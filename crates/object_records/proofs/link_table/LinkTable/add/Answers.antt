@@ -1,4 +1,4 @@
-use Rattle.std.proofs.Common.{◌≡◌, ◌∙◌, ◌++◌, ◌∷◌, [], ℕ, List, suc, length, ap, sym, subst, arith}
+use Rattle.std.proofs.Common.{◌≡◌, ◌∙◌, ◌++◌, ◌∷◌, [], ℕ, List, suc, length, ap, arith}
 use Rattle.object_records.specs.declared.links.Links.{Links}
 use Rattle.object_records.specs.Links.{linked}
 use Rattle.object_records.specs.Owning.{LinkState, link_read, links_read, no_owned}

@@ -1,6 +1,5 @@
-use Rattle.std.proofs.Common.{◌≤◌, ◌∙◌, List, ap, sym, subst, arith}
+use Rattle.std.proofs.Common.{◌∙◌, ap, sym, subst, arith}
 use Rattle.object_records.specs.declared.kept_owner.KeptOwner.{KeptOwner}
-use Rattle.object_records.specs.declared.links.Links.{Links}
 use Rattle.object_records.specs.Links.{HasChild, unlinked, unlinked_at}
 use Rattle.object_records.specs.Owning.{LinkState, links_read}
 use Rattle.object_records.proofs.Owning.{child_owned, none_unlinked, written_unlinked}

@@ -1,5 +1,4 @@
-use Rattle.std.proofs.Common.{◌∙◌, sym, arith}
-use Rattle.object_records.proofs.Compacted.{Pushes, pushed_compact, pushed_records}
+use Rattle.object_records.proofs.Compacted.{pushed_compact, pushed_records}
 use Rattle.object_records.proofs.record_list.RecordList.push.Goals as goal
 
 pub invariant_of-self : goal.invariant_of-self

@@ -1,7 +1,4 @@
-use Rattle.std.proofs.Common.{◌∙◌, subst, sym, ap, arith}
-use Rattle.std.specs.Prelude.{false}
-use Rattle.std.specs.Option.{option_map_or}
-use Rattle.object_records.specs.declared.record.ObjectRecord.{ObjectRecord}
+use Rattle.std.proofs.Common.{subst, sym}
 use Rattle.object_records.specs.Table.{LivesAt, TableState}
 use Rattle.object_records.proofs.Linking.{counted_child}
 use Rattle.object_records.proofs.Tables.{ended_table, living_there}

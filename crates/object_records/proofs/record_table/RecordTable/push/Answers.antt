@@ -1,4 +1,4 @@
-use Rattle.std.proofs.Common.{◌≡◌, ◌≤◌, ◌+◌, ◌∙◌, ℕ, List, false, length, sym, ap, subst, arith}
+use Rattle.std.proofs.Common.{◌≡◌, ◌≤◌, ◌+◌, ℕ, List, false, length, sym, subst, arith}
 use Rattle.object_records.specs.Links.{AreFew, with_linked}
 use Rattle.object_records.specs.Passed.{WasWidened}
 use Rattle.object_records.specs.Queues.{padded, queues_seen}

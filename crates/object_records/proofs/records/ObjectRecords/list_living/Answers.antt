@@ -1,4 +1,4 @@
-use Rattle.std.proofs.Common.{◌≡◌, length, ap, arith}
+use Rattle.std.proofs.Common.{length, ap, arith}
 use Rattle.std.specs.Prelude.{filter}
 use Rattle.object_model.specs.Objects.{is_in}
 use Rattle.object_model.specs.Uses.{owned_in}
