@@ -8,7 +8,7 @@ use replay_base::{Failed, MemSink, MemSource, MemTree, Sink, Source};
 use replay_core::Status;
 use replay_tool::BlockSink;
 use run_fixtures::{
-    ByteSource, DRIVER, TWICE, TWICE_TEXT, lines_in, outcome_of, sink, tree_of, words_of,
+    ByteSource, DRIVER, TWICE, TWICE_TEXT, lines_in, outcome_of, sink_of, tree_of, words_of,
 };
 use std::alloc::{AllocError, Global};
 use std::process::Abort;
@@ -118,7 +118,7 @@ fn cut_run(alloc: Global, read: usize, written: usize) -> Result<Cut, Fail> {
     let words = words_of(alloc, "run")?;
     let tree = tree_of(alloc, &[DRIVER])?;
     let trace = source_at(alloc, read)?;
-    let errs = sink(alloc, 0)?;
+    let errs = sink_of(alloc, 4096, &[])?;
     Ok(cut_of(alloc, &words, tree, trace, errs, written))
 }
 
@@ -228,7 +228,7 @@ impl Sink for PieceSink {
 fn pieces_of<S: Source>(alloc: Global, trace: &mut S) -> Result<usize, Fail> {
     let words = words_of(alloc, "run")?;
     let mut tree = tree_of(alloc, &[DRIVER])?;
-    let mut errs = sink(alloc, 0)?;
+    let mut errs = sink_of(alloc, 4096, &[])?;
     let mut out = BlockSink::new(PieceSink { pieces: 0 }, Vec::with_capacity(alloc, 4096)?);
     let mut driver = ModelDriver::new(alloc);
     outcome_of(
