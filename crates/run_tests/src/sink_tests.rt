@@ -48,11 +48,7 @@ static WRITTEN: [(&str, &str); 3] = [
 ];
 
 // How a command ends over a driver and a trace that has a fault, with what is said.
-fn ended_of<K: Sink>(
-    alloc: Global,
-    words: &str,
-    out: &mut K,
-) -> Result<(Outcome, MemSink), Fail> {
+fn ended_of<K: Sink>(alloc: Global, words: &str, out: &mut K) -> Result<(Outcome, MemSink), Fail> {
     let words = words_of(alloc, words)?;
     let mut tree = tree_of(alloc, &[DRIVER])?;
     let mut trace = MemSource::new(Vec::from_slice(alloc, b"vktrace 1\nx")?, Vec::new(alloc));
@@ -74,12 +70,7 @@ fn ended_of<K: Sink>(
 }
 
 // A sink has all that it has room for.
-fn fails_within(
-    rt: &impl Abort,
-    alloc: Global,
-    words: &str,
-    front: &[u8],
-) -> Result<(), Fail> {
+fn fails_within(rt: &impl Abort, alloc: Global, words: &str, front: &[u8]) -> Result<(), Fail> {
     let mut out = sink_of(alloc, front.len(), &[])?;
     let (outcome, errs) = ended_of(alloc, words, &mut out)?;
     let shown = [
@@ -93,12 +84,18 @@ fn fails_within(
     Ok(())
 }
 
+// A sink that fails behind so many bytes.
+fn fails_behind_each(rt: &impl Abort, alloc: Global, words: &str, text: &str) -> Result<(), Fail> {
+    for room in 0..text.len() {
+        fails_within(rt, alloc, words, &text.as_bytes()[..room])?;
+    }
+    Ok(())
+}
+
 #[test]
 fn a_sink_fails_within_what_is_written(rt: HostRuntime) -> Result<(), Fail> {
     for (words, text) in WRITTEN {
-        for room in 0..text.len() {
-            fails_within(&rt, rt.alloc(), words, &text.as_bytes()[..room])?;
-        }
+        fails_behind_each(&rt, rt.alloc(), words, text)?;
     }
     Ok(())
 }

@@ -3,9 +3,7 @@ use crate::files::behind_device;
 use crate::runs::{is_refused, run_with, source_of};
 use command_tables::NoMemory;
 use env_filters::EnvList;
-use model_driver::{
-    DriverCall, DriverReply, Policy, RecordingShared, SharedDriver, SharedModel,
-};
+use model_driver::{DriverCall, DriverReply, Policy, RecordingShared, SharedDriver, SharedModel};
 use replay_base::MemTree;
 use replay_core::Status;
 use run_fixtures::{DRIVER, HOME, put, set, sink_of, tree_of, variables};
