@@ -155,7 +155,7 @@ static SAID: [Said; 7] = [
         ..UNSAID
     },
     Said {
-        trace: "vktrace 2\n",
+        trace: "vktrace\n",
         status: Status::Malformed,
         ..UNSAID
     },

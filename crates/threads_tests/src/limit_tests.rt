@@ -1,68 +1,18 @@
 // That no driver is told anything of a file whose chain is too long, or that is refused at a line.
 use crate::files::behind_device;
+use crate::meeting::{Meeting, MeetingDriver};
 use crate::runs::{is_refused, run_with, source_of};
-use command_tables::NoMemory;
 use env_filters::EnvList;
-use model_driver::{DriverCall, DriverReply, Policy, RecordingShared, SharedDriver, SharedModel};
+use model_driver::{RecordingShared, SharedModel};
 use replay_base::MemTree;
 use replay_core::Status;
 use run_fixtures::{DRIVER, HOME, put, set, sink_of, tree_of, variables};
 use std::alloc::Global;
 use std::process::Abort;
 use std::sync::Wait;
-use std::sync::atomic::{AtomicU64, Ordering};
 use std::test::Fail;
 use std::thread::Threads;
 use stream_workers::NoGate;
-
-// A driver that counts its calls.
-#[derive(Drop)]
-struct CountingDriver<'a, D> {
-    inner: D,
-    told: &'a AtomicU64,
-}
-
-impl<'a, D: SharedDriver> SharedDriver for CountingDriver<'a, D> {
-    type Seat = D::Seat;
-
-    ghost log = { λ s. D.log s };
-
-    ghost answers_by = { λ s. D.answers_by s };
-
-    ghost room = { λ s. D.room s };
-
-    ghost seat_gives = { λ d policy seat. D.seat_gives d.inner policy seat };
-
-    ghost extend_gives = { λ d before behind. D.extend_gives d.inner before behind };
-
-    ghost call_gives = { λ d before call reply behind. D.call_gives d.inner before call reply behind };
-
-    fn seat(
-        &self,
-        alloc: Global,
-        policy: Policy,
-        calls: u32,
-        handles: u32,
-        bytes: usize,
-    ) -> Result<D::Seat, NoMemory> {
-        self.inner.seat(alloc, policy, calls, handles, bytes)
-    }
-
-    fn extend(
-        &self,
-        seat: &mut D::Seat,
-        calls: u32,
-        handles: u32,
-        bytes: usize,
-    ) -> Result<(), NoMemory> {
-        self.inner.extend(seat, calls, handles, bytes)
-    }
-
-    fn call(&self, seat: &mut D::Seat, call: &DriverCall, reply: &mut DriverReply) {
-        self.told.fetch_add(1, Ordering::SeqCst);
-        self.inner.call(seat, call, reply);
-    }
-}
 
 // An explicit layer of another library.
 fn put_layer(alloc: Global, tree: &mut MemTree, number: u32) -> Result<(), Fail> {
@@ -102,10 +52,10 @@ fn tells_nothing<H: Abort + Threads + Wait + Sync>(
     status: Status,
     said: &str,
 ) -> Result<(), Fail> {
-    let told = AtomicU64::new(0);
-    let driver = RecordingShared::new(CountingDriver {
+    let meeting = Meeting::new();
+    let driver = RecordingShared::new(MeetingDriver {
         inner: SharedModel::new(),
-        told: &told,
+        meeting: &meeting,
     });
     let mut streams = source_of(alloc, &behind_device(alloc, rest)?)?;
     let ran = run_with(
@@ -120,7 +70,7 @@ fn tells_nothing<H: Abort + Threads + Wait + Sync>(
         &NoGate,
     )?;
     is_refused(rt, &ran, status, said, rest);
-    assert_eq!(rt; told.load(Ordering::SeqCst), 0);
+    assert_eq!(rt; meeting.counts(), (0, 0, 0));
     Ok(())
 }
 
