@@ -1,8 +1,13 @@
-// The lines of reports and returns, and the last line; the expected texts are written by hand.
-use command_tables::{Code, CommandId, Rule, row};
+// Lines with the greatest numbers, and of calls that no program makes; the expected texts are written by hand.
+ghost use Rattle.chain_build.specs.Answers.{answer_content};
+ghost use Rattle.report_text.specs.Chains.{IsPrintable};
+
+use chain_build::ChainAnswer;
+use command_tables::{CommandId, Rule, row};
 use lifetime_layer::Finding;
-use report_text::{Tally, end_line, identifier, report_line, return_line};
+use report_text::{Tally, chain_lines, end_line, identifier, report_line};
 use std::alloc::Global;
+use std::process::Abort;
 use std::test::Fail;
 use trace_format::Name;
 
@@ -18,25 +23,7 @@ struct Reported {
     line: &'static str,
 }
 
-static REPORTED: [Reported; 6] = [
-    Reported {
-        cmd: CommandId::DestroyDevice,
-        rule: Rule::Parameter,
-        param: 0,
-        index: 0,
-        detail: 0,
-        arg: Some(3),
-        line: "report 7 4 VUID-vkDestroyDevice-device-parameter %2.3\n",
-    },
-    Reported {
-        cmd: CommandId::DestroyDevice,
-        rule: Rule::Children,
-        param: 0,
-        index: 0,
-        detail: 12,
-        arg: Some(3),
-        line: "report 7 4 VKR-vkDestroyDevice-device-children %2.3 children=12\n",
-    },
+static REPORTED: [Reported; 2] = [
     Reported {
         cmd: CommandId::QueueWaitIdle,
         rule: Rule::Overlap,
@@ -45,24 +32,6 @@ static REPORTED: [Reported; 6] = [
         detail: 18446744073709551615,
         arg: Some(4194304),
         line: "report 7 4 VKR-vkQueueWaitIdle-queue-overlap %2.4194304 with=18446744073709551615\n",
-    },
-    Reported {
-        cmd: CommandId::FreeCommandBuffers,
-        rule: Rule::Parent,
-        param: 2,
-        index: 1023,
-        detail: 0,
-        arg: Some(9),
-        line: "report 7 4 VUID-vkFreeCommandBuffers-pCommandBuffers-parent %2.9 index=1023\n",
-    },
-    Reported {
-        cmd: CommandId::DestroyBuffer,
-        rule: Rule::Parameter,
-        param: 1,
-        index: 0,
-        detail: 0,
-        arg: None,
-        line: "report 7 4 VUID-vkDestroyBuffer-buffer-parameter null\n",
     },
     // The command has no such parameter.
     Reported {
@@ -133,61 +102,6 @@ fn rules_have_identifiers(rt: HostRuntime) -> Result<(), Fail> {
     Ok(())
 }
 
-// What the return of a call says.
-#[derive(Clone, Copy)]
-struct Returned {
-    cmd: CommandId,
-    answer: Option<Code>,
-    born: u32,
-    line: &'static str,
-}
-
-static RETURNED: [Returned; 4] = [
-    Returned {
-        cmd: CommandId::CreateInstance,
-        answer: Some(Code::ErrorLayerNotPresent),
-        born: 0,
-        line: "ret 20 vkCreateInstance VK_ERROR_LAYER_NOT_PRESENT born=0\n",
-    },
-    Returned {
-        cmd: CommandId::EnumeratePhysicalDevices,
-        answer: Some(Code::Incomplete),
-        born: 1,
-        line: "ret 20 vkEnumeratePhysicalDevices VK_INCOMPLETE born=1\n",
-    },
-    Returned {
-        cmd: CommandId::AllocateDescriptorSets,
-        answer: Some(Code::Success),
-        born: 1024,
-        line: "ret 20 vkAllocateDescriptorSets VK_SUCCESS born=1024\n",
-    },
-    Returned {
-        cmd: CommandId::DestroyDevice,
-        answer: None,
-        born: 0,
-        line: "ret 20 vkDestroyDevice void\n",
-    },
-];
-
-fn return_of(alloc: Global, case: &Returned) -> Result<Vec<u8>, Fail> {
-    let mut out = Vec::new(alloc);
-    return_line(20, row(case.cmd), case.answer, case.born, &mut out)
-        .ok()
-        .ok_or("memory")?;
-    Ok(out)
-}
-
-#[test]
-fn calls_return(rt: HostRuntime) -> Result<(), Fail> {
-    for case in &RETURNED {
-        assert_eq!(rt;
-            return_of(rt.alloc(), case)?.as_slice(),
-            case.line.as_bytes()
-        );
-    }
-    Ok(())
-}
-
 #[test]
 fn a_trace_ends(rt: HostRuntime) -> Result<(), Fail> {
     let tally = Tally {
@@ -202,4 +116,26 @@ fn a_trace_ends(rt: HostRuntime) -> Result<(), Fail> {
         "before\nend calls=18446744073709551615 skipped=20 reports=0\n".as_bytes()
     );
     Ok(())
+}
+
+// Checks the line of what came of building no chain, behind a line that is there.
+fn check(
+    rt: &impl Abort,
+    alloc: Global,
+    call: u64,
+    answer: &ChainAnswer,
+    wanted: &str,
+) -> Result<(), Fail>
+    requires { IsPrintable (answer_content answer.now) }
+{
+    let mut out = Vec::from_slice(alloc, b"before\n")?;
+    chain_lines(call, answer, &mut out).ok().ok_or("memory")?;
+    assert_eq!(rt; out.as_slice(), wanted.as_bytes());
+    Ok(())
+}
+
+#[test]
+fn there_is_no_driver(rt: HostRuntime) -> Result<(), Fail> {
+    let wanted = "before\nchain 18446744073709551615 no-driver\n";
+    check(&rt, rt.alloc(), u64::MAX, &ChainAnswer::NoDriver, wanted)
 }

@@ -1,10 +1,62 @@
-//! Lines that are read one after the other in one room.
-use crate::parse_tests::{Begun, event_of};
+//! Lines that are read one after the other in one room, where one is refused, and what room the longest leaves.
 use command_tables::{Code, CommandId};
 use std::alloc::{AllocError, Global};
 use std::process::Abort;
 use std::test::Fail;
-use trace_format::{Event, EventRoom, ParseError, TraceFault};
+use trace_format::{Event, EventRoom, Name, ParseError, TraceArg, TraceFault};
+
+// A begin of thread 1: its command, arguments, results, code and payload. An argument is one place or a list of them, each by the
+// number of its name.
+#[derive(Clone, Copy)]
+struct Begun<'a>(
+    CommandId,
+    &'a [(bool, &'a [u32])],
+    &'a [u32],
+    Option<Code>,
+    &'a [u8],
+);
+
+// A name of thread 1.
+fn name(number: u32) -> Name {
+    Name { thread: 1, number }
+}
+
+fn places_of(alloc: Global, numbers: &[u32]) -> Result<Vec<Option<Name>>, AllocError> {
+    let mut places = Vec::new(alloc);
+    for number in numbers {
+        places.push((*number != 0).then_some(name(*number)))?;
+    }
+    Ok(places)
+}
+
+fn args_of(alloc: Global, given: &[(bool, &[u32])]) -> Result<Vec<TraceArg>, AllocError> {
+    let mut args = Vec::new(alloc);
+    for (many, numbers) in given {
+        let names = places_of(alloc, numbers)?;
+        args.push(TraceArg { many: *many, names })?;
+    }
+    Ok(args)
+}
+
+fn results_of(alloc: Global, numbers: &[u32]) -> Result<Vec<Name>, AllocError> {
+    let mut results = Vec::new(alloc);
+    for number in numbers {
+        results.push(name(*number))?;
+    }
+    Ok(results)
+}
+
+// The event of a begin.
+fn event_of(alloc: Global, begun: &Begun) -> Result<Event, AllocError> {
+    Ok(Event::Begin {
+        thread: 1,
+        cmd: begun.0,
+        args: args_of(alloc, begun.1)?,
+        results: results_of(alloc, begun.2)?,
+        code: begun.3,
+        payload: Vec::from_slice(alloc, begun.4)?,
+    })
+}
 
 // Reads a line in the room, compares its event, and gives the event back.
 fn reads(rt: &impl Abort, room: &mut EventRoom, line: &str, wanted: &Event) -> Result<(), Fail> {
@@ -23,94 +75,6 @@ fn begins(
 ) -> Result<(), Fail> {
     let wanted = event_of(alloc, &row.1)?;
     reads(rt, room, row.0, &wanted)
-}
-
-fn all_begin(
-    rt: &impl Abort,
-    alloc: Global,
-    room: &mut EventRoom,
-    rows: &[(&str, Begun)],
-) -> Result<(), Fail> {
-    for row in rows {
-        begins(rt, alloc, room, row)?;
-    }
-    Ok(())
-}
-
-// Submissions, the longer one first.
-static SUBMISSIONS: [(&str, Begun); 2] = [
-    (
-        "b 1 vkQueueSubmit %1.4 [%1.5,%1.6] [%1.7,null,%1.8] [%1.9] %1.10 VK_SUCCESS : a long one",
-        Begun(
-            CommandId::QueueSubmit,
-            &[
-                (false, &[4]),
-                (true, &[5, 6]),
-                (true, &[7, 0, 8]),
-                (true, &[9]),
-                (false, &[10]),
-            ],
-            &[],
-            Some(Code::Success),
-            b"a long one",
-        ),
-    ),
-    (
-        "b 1 vkQueueSubmit %1.4 [] [%1.6] [] null VK_ERROR_DEVICE_LOST : b",
-        Begun(
-            CommandId::QueueSubmit,
-            &[
-                (false, &[4]),
-                (true, &[]),
-                (true, &[6]),
-                (true, &[]),
-                (false, &[0]),
-            ],
-            &[],
-            Some(Code::ErrorDeviceLost),
-            b"b",
-        ),
-    ),
-];
-
-// Calls with fewer results each.
-static FEWER_RESULTS: [(&str, Begun); 3] = [
-    (
-        "b 1 vkAllocateCommandBuffers %1.3 %1.4 = %1.5,%1.6,%1.7 VK_SUCCESS",
-        Begun(
-            CommandId::AllocateCommandBuffers,
-            &[(false, &[3]), (false, &[4])],
-            &[5, 6, 7],
-            Some(Code::Success),
-            b"",
-        ),
-    ),
-    (
-        "b 1 vkCreateFence %1.3 = %1.8 VK_SUCCESS",
-        Begun(
-            CommandId::CreateFence,
-            &[(false, &[3])],
-            &[8],
-            Some(Code::Success),
-            b"",
-        ),
-    ),
-    (
-        "b 1 vkCmdDraw %1.5 void",
-        Begun(CommandId::CmdDraw, &[(false, &[5])], &[], None, b""),
-    ),
-];
-
-fn shorter_ones_follow(rt: &impl Abort, alloc: Global, room: &mut EventRoom) -> Result<(), Fail> {
-    all_begin(rt, alloc, room, &SUBMISSIONS)?;
-    reads(rt, room, "r 1", &Event::Return { thread: 1 })?;
-    all_begin(rt, alloc, room, &FEWER_RESULTS)
-}
-
-#[test]
-fn a_shorter_line_keeps_nothing_of_a_longer(rt: HostRuntime) -> Result<(), Fail> {
-    let mut room = EventRoom::new(rt.alloc());
-    shorter_ones_follow(&rt, rt.alloc(), &mut room)
 }
 
 // Reads a line in the room, which has this fault.
