@@ -118,7 +118,9 @@ fn crowded(alloc: Global, count: u32) -> Result<MemTree, AllocError> {
 // How many names such a tree lists.
 fn count_names(alloc: Global, count: u32) -> Result<usize, TreeError> {
     let mut tree = crowded(alloc, count)?;
-    Ok(names_in(alloc, &mut tree, "/d")?.len())
+    let mut names = Vec::new(alloc);
+    tree.list("/d", &mut names)?;
+    Ok(names.len())
 }
 
 // A tree of one file of so many bytes.
