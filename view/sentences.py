@@ -45,9 +45,7 @@ def _parameter(report: Report, call: Call, run: Run) -> str:
     found = run.objects.named(report.argument)
     if found and found.ended_by is not None:
         return head + f"{_ender(found, run)}."
-    maker = next((c for c in reversed(run.calls[:call.number]) if report.argument in c.results), None)
-    if maker is None:
-        return head + "it was never made."
+    maker = run.trace.makers[report.argument]
     if not maker.answer or maker.end > call.begin:
         return head + f"call {maker.number}, {maker.command}, which makes it, hasn't returned yet."
     why = "was skipped" if maker.skipped else f"answered {maker.answer}" if maker.answer != "VK_SUCCESS" else "didn't make it"

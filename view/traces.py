@@ -40,7 +40,7 @@ class Report:
 
 @dataclass(slots=True)
 class Call:
-    """A call: what the trace says of it, and what the text says came of it."""
+    """A call: what the trace says of it, and what the text says came of it. Its row is none where the table hasn't the command."""
 
     number: int
     thread: int
@@ -51,16 +51,12 @@ class Call:
     code: str
     payload: str
     begin: int
+    row: Row | None
     end: int = -1
     answer: str = ""
     born: int = 0
     skipped: bool = False
     reports: list[Report] = field(default_factory=list)
-
-    @property
-    def row(self) -> Row | None:
-        """The command's row, or none where the table hasn't the command."""
-        return COMMANDS.get(self.command)
 
     def written(self) -> str:
         """The arguments as the trace has them."""
@@ -78,13 +74,14 @@ class Trace:
     threads: list[int]
     times: list[tuple[int, int]]
     types: dict[str, str]
+    makers: dict[str, Call]
 
 
 class _Reader:
     """What is known of a trace at a line."""
 
     def __init__(self, version: int):
-        self.trace = Trace(version, [], [], [], [], {})
+        self.trace = Trace(version, [], [], [], [], {}, {})
         self.open: dict[int, Call] = {}
         self.next: dict[int, int] = {}
 
@@ -105,6 +102,7 @@ class _Reader:
             code=found["code"],
             payload=found["payload"] or "",
             begin=len(self.trace.events),
+            row=COMMANDS.get(found["command"]),
         )
         if thread in self.open:
             raise Refused(f"thread {thread} begins a call while its call {self.open[thread].number} is open")
@@ -144,6 +142,7 @@ class _Reader:
                 raise Refused(f"the thread's next result is %{call.thread}.{number}, not {name}")
             self.next[call.thread] = number
             self.trace.types[name] = kind
+            self.trace.makers[name] = call
 
     def finish(self, line: str) -> None:
         """A line of a return."""
