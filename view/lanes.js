@@ -52,6 +52,8 @@ function drawNow() {
   drawReports(first, last);
   drawAxis();
   showWhere();
+  canvas.dataset.from = state.from;
+  canvas.dataset.to = state.to;
 }
 
 const topOf = (lane) => AXIS + lane * tall - box.scrollTop;
@@ -118,6 +120,7 @@ function drawBar(call, x, width, top, height) {
     pen.fillRect(x, top + height - 4, inner, 5);
   }
   if (call === state.call) drawRing(x, top, inner, height);
+  if (call === state.other) drawRing(x, top, inner, height, colours.mark);
 }
 
 function hatch(x, top, width, height, colour) {
@@ -140,8 +143,8 @@ function hatch(x, top, width, height, colour) {
   pen.strokeRect(x + 0.75, top + 0.75, Math.max(1, width - 1.5), height - 1.5);
 }
 
-function drawRing(x, top, width, height) {
-  pen.strokeStyle = colours.chosen;
+function drawRing(x, top, width, height, colour = colours.chosen) {
+  pen.strokeStyle = colour;
   pen.lineWidth = 3;
   pen.strokeRect(x - 0.5, top - 1.5, width + 1, height + 3);
 }
@@ -205,7 +208,8 @@ function joinCalls(report, width) {
   const x = markX(call);
   if (x < LEFT || other < 0) return;
   const y = topOf(calls.lane[call]) + 8;
-  const end = topOf(calls.lane[other]) + tall / 2 + 4;
+  const above = calls.lane[other] < calls.lane[call];
+  const end = topOf(calls.lane[other]) + (above ? tall - 9 : 17);
   pen.strokeStyle = colours.mark;
   pen.lineWidth = width;
   pen.beginPath();
@@ -228,10 +232,10 @@ function drawAxis() {
   const step = Math.max(1, [1, 2, 5, 10].map((n) => n * power).find((n) => n >= rough) || power * 10);
   pen.fillStyle = colours.quiet;
   pen.fillText("event", 6, AXIS / 2);
-  for (let at = Math.ceil(state.from / step) * step; at < state.to; at += step) {
-    const x = xOf(at);
+  for (let number = Math.max(step, Math.ceil((state.from + 1) / step) * step); number - 1 < state.to; number += step) {
+    const x = xOf(number - 1);
     pen.fillRect(x, AXIS - 5, 1, 5);
-    pen.fillText((at + 1).toLocaleString("en"), x + 3, AXIS / 2 - 1);
+    pen.fillText(number.toLocaleString("en"), x + 3, AXIS / 2 - 1);
   }
 }
 
@@ -257,6 +261,7 @@ function showWhere() {
   const room = whole - (state.to - state.from);
   const slider = byId("where");
   slider.disabled = room <= 0;
+  slider.classList.toggle("idle", room <= 0);
   slider.value = room <= 0 ? 0 : Math.round(state.from / room * 1000);
   slider.setAttribute("aria-valuetext", `events ${Math.floor(state.from) + 1} to ${Math.ceil(state.to)}`);
   byId("in").disabled = state.to - state.from <= 4;

@@ -79,7 +79,10 @@ function objectDetail(place) {
   return [el("h3", "", `${object.type} ${object.names[0]}${object.label ? ` "${object.label}"` : ""}`), pairs(rows)];
 }
 
-const ownerWords = (owner) => `${owner.type} ${owner.names[0]}${owner.label ? ` "${owner.label}"` : ""}`;
+function ownerWords(owner) {
+  const names = owner.names.slice(0, 3).join(", ") + (owner.names.length > 3 ? ", .." : "");
+  return `${owner.type} ${names}${owner.label ? ` "${owner.label}"` : ""}`;
+}
 
 // Puts some of a list into a node, and a button for more.
 function moreOf(node, list, some, make, from = 0) {
@@ -100,7 +103,7 @@ function show(nodes) {
 
 function chooseCall(k) {
   state.call = k;
-  state.report = -1;
+  state.report = state.other = -1;
   bring([k]);
   show(callDetail(k, -1));
 }
@@ -109,8 +112,8 @@ function chooseReport(place) {
   const report = run.reports[place];
   state.report = place;
   state.call = placeOf(report.call);
-  const other = report.with === null ? -1 : placeOf(report.with);
-  bring(other < 0 ? [state.call] : [state.call, other]);
+  state.other = report.with === null ? -1 : placeOf(report.with);
+  bring(state.other < 0 ? [state.call] : [state.call, state.other]);
   show(callDetail(state.call, place));
 }
 
@@ -199,7 +202,7 @@ function matches(text) {
   const low = text.toLowerCase();
   const exact = /^%\d+\.\d+$/.test(text) ? new RegExp(`(^|[ ,\\[])${text.replace(".", "\\.")}($|[ ,\\]])`) : null;
   const hits = calls.commands.map((name) => name.toLowerCase().includes(low));
-  const named = new Set(exact ? [] : run.objects.flatMap((o) => (o.label && o.label.toLowerCase().includes(low) ? o.uses : [])));
+  const named = new Set(exact ? [] : run.objects.flatMap((o) => (o.label && o.label.toLowerCase().includes(low) ? [o.born, ...o.uses] : [])));
   const ruled = new Set(exact ? [] : run.reports.filter((r) => r.identifier.toLowerCase().includes(low)).map((r) => r.call));
   const number = /^\d+$/.test(text) ? Number(text) : -1;
   const out = [];
@@ -214,6 +217,7 @@ function matches(text) {
 function search() {
   const text = byId("find").value.trim();
   byId("found").hidden = text === "";
+  byId("found").dataset.word = text;
   state.marked.fill(0);
   if (text === "") { draw(); return; }
   const list = byId("found-list");

@@ -10,7 +10,7 @@ const AXIS = 22;
 const LEFT = 66;
 const LEAF = 40;
 const byId = (id) => document.getElementById(id);
-const state = { from: 0, to: Math.max(run.events, 4), call: -1, report: -1, object: -1, marked: new Uint8Array(many) };
+const state = { from: 0, to: Math.max(run.events, 4), call: -1, other: -1, report: -1, object: -1, marked: new Uint8Array(many) };
 
 // --- Small helpers -------------------------------------------------------------------------------------------------------------
 
