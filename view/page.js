@@ -75,8 +75,11 @@ function showHead() {
   document.title = `${run.trace}: a picture of a run`;
   byId("title").textContent = run.trace;
   const line = byId("counts");
-  line.textContent = [counted(own.calls, "call", "calls"), `${own.skipped.toLocaleString("en")} skipped`, counted(own.reports, "report", "reports"),
-    counted(own.threads, "thread", "threads"), counted(own.objects, "object", "objects")].join(" \u00b7 ");
+  const part = (key, one, more) => (own[key] === run.told[key] ? "" : `${own[key].toLocaleString("en")} of `)
+    + counted(run.told[key], one, more);
+  line.textContent = [part("calls", "call", "calls"), part("skipped", "skipped", "skipped"),
+    part("reports", "report", "reports"), counted(own.threads, "thread", "threads"),
+    part("objects", "object", "objects")].join(" \u00b7 ");
   Object.assign(line.dataset, own);
   byId("left").hidden = run.left.length === 0;
   byId("left").textContent = run.left.join(" ");
