@@ -1,5 +1,5 @@
-"""Drives Debian's `chromium` without a window, over the pipe that its `--remote-debugging-pipe` opens: one JSON text after another, each
-ended by a zero byte (Chrome DevTools Protocol). Nothing but the standard library is needed."""
+"""Drives Debian's `chromium` without a window, over the pipe that its `--remote-debugging-pipe` opens: one JSON text
+after another, each ended by a zero byte (Chrome DevTools Protocol). Nothing but the standard library is needed."""
 import base64
 import fcntl
 import json
@@ -24,11 +24,13 @@ class Browser:
             os.dup2(high[0], 3)
             os.dup2(high[1], 4)
 
-        words = [program, "--headless=new", "--remote-debugging-pipe", f"--user-data-dir={profile}", "--no-first-run", "--disable-gpu",
-                 "--disable-background-networking", "--disable-component-update", "--disable-dev-shm-usage", "--hide-scrollbars", "about:blank"]
+        words = [program, "--headless=new", "--remote-debugging-pipe", f"--user-data-dir={profile}", "--no-first-run",
+                 "--disable-gpu", "--disable-background-networking", "--disable-component-update",
+                 "--disable-dev-shm-usage", "--hide-scrollbars", "about:blank"]
         if os.geteuid() == 0:
             words.insert(1, "--no-sandbox")
-        self.process = subprocess.Popen(words, preexec_fn=place, pass_fds=(3, 4), stdout=subprocess.DEVNULL, stderr=subprocess.DEVNULL)
+        nowhere = subprocess.DEVNULL
+        self.process = subprocess.Popen(words, preexec_fn=place, pass_fds=(3, 4), stdout=nowhere, stderr=nowhere)
         for fd in (ask_out, tell_in, *high):
             os.close(fd)
         self.to, self.back = ask_in, tell_out
@@ -129,8 +131,9 @@ class Page:
 
     def click(self, selector: str) -> None:
         """Clicks the middle of an element with the mouse."""
-        words = (f"(() => {{ const n = document.querySelector({json.dumps(selector)}); n.scrollIntoView({{ block: 'nearest' }});"
-                 " const r = n.getBoundingClientRect(); return [r.left + Math.min(r.width / 2, 90), r.top + r.height / 2]; })()")
+        words = (f"(() => {{ const n = document.querySelector({json.dumps(selector)});"
+                 " n.scrollIntoView({ block: 'nearest' }); const r = n.getBoundingClientRect();"
+                 " return [r.left + Math.min(r.width / 2, 90), r.top + r.height / 2]; })()")
         x, y = self.value(words)
         self.click_at(x, y)
 
@@ -144,7 +147,8 @@ class Page:
 
     def look(self, size: tuple[int, int], scheme: str) -> None:
         """How large the window is, and whether it is light or dark."""
-        self.ask("Emulation.setDeviceMetricsOverride", width=size[0], height=size[1], deviceScaleFactor=1, mobile=size[0] < 600)
+        self.ask("Emulation.setDeviceMetricsOverride", width=size[0], height=size[1], deviceScaleFactor=1,
+                 mobile=size[0] < 600)
         self.ask("Emulation.setEmulatedMedia", features=[{"name": "prefers-color-scheme", "value": scheme}])
 
     def picture(self) -> bytes:

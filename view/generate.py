@@ -1,7 +1,9 @@
 #!/usr/bin/env python3
-"""generate.py [--check]: writes view/commands.py from the command table of crates/command_tables, or says whether it is what would be written.
+"""generate.py [--check]: writes view/commands.py from the command table of crates/command_tables, or says whether it
+is what would be written.
 
-The pages have to know who owns what and what a call ends. The replayer's table says so, and a copy by hand would drift from it."""
+The pages have to know who owns what and what a call ends. The replayer's table says so, and a copy by hand would drift
+from it."""
 import pathlib
 import re
 import sys
@@ -60,7 +62,7 @@ def generated() -> str:
     text = "\n".join(p.read_text() for p in sorted(SOURCES.glob("*.rt")))
     rows = sorted(ROW.findall(text))
     if len(rows) < 92 or len({r[0] for r in rows}) != len(rows):
-        raise SystemExit(f"generate.py: {len(rows)} rows were read below {SOURCES}, which are too few or have a name twice")
+        raise SystemExit(f"generate.py: {len(rows)} rows below {SOURCES} are too few or have a name twice")
     return HEAD + "COMMANDS: dict[str, Row] = {\n" + "".join(row(*r) for r in rows) + "}\n"
 
 

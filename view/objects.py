@@ -1,10 +1,11 @@
 """The objects of a run: which calls made them, who owns them, where they were used, and which call ended them.
 
-A skipped call makes and ends nothing. A creation gives an object of its own; a retrieval gives the object of its owner and place, so that
-two names may stand for one queue. An object ends with what owns it (Vulkan 1.3 specification, chapter Fundamentals, Object Lifetime)."""
+A skipped call makes and ends nothing. A creation gives an object of its own; a retrieval gives the object of its owner
+and place, so that two names may stand for one queue. An object ends with what owns it (Vulkan 1.3 specification,
+chapter Fundamentals, Object Lifetime)."""
 from dataclasses import dataclass, field
 
-from tables import Parameter, Row
+from tables import Parameter
 from traces import Call, guessed_type
 
 
@@ -83,7 +84,8 @@ class Objects:
                 waiting.extend(found.children)
 
     def leave(self, call: Call, told: int | None) -> int:
-        """A return: how many of the call's results are now born. `told` is what the text says of a command that the table hasn't."""
+        """A return: how many of the call's results are now born. `told` is what the text says of a command that the
+        table hasn't."""
         row = call.row
         if call.skipped or not call.results or not _succeeds(call):
             return 0
@@ -97,10 +99,11 @@ class Objects:
         created = not row or row.effect.kind == "create"
         for place, name in enumerate(born):
             key = call.payload if kind == "Queue" else str(place)
-            self._bear(call, name, Object(len(self.all), kind, owner.at if owner else None, created, call.number, call.end), key)
+            whose = owner.at if owner else None
+            self._bear(name, Object(len(self.all), kind, whose, created, call.number, call.end), key)
         return len(born)
 
-    def _bear(self, call: Call, name: str, made: Object, key: str) -> None:
+    def _bear(self, name: str, made: Object, key: str) -> None:
         """A name stands for a new object, or for the retrieved one that is there."""
         there = None if made.created else self.kept.get((made.owner, made.type, key))
         if there is None:
@@ -125,8 +128,9 @@ class Objects:
         return found
 
     def failures(self, call: Call, checked: bool) -> list[str]:
-        """The rules on lifetimes that fail at a call, as far as the table has marks: those of the loader, and where `checked` those of
-        a part that checks lifetimes. A text from which reports are left out says of some calls nothing else."""
+        """The rules on lifetimes that fail at a call, as far as the table has marks: those of the loader, and where
+        `checked` those of a part that checks lifetimes. A text from which reports are left out says of some calls
+        nothing else."""
         row = call.row
         if not call.arguments:
             return []
@@ -137,14 +141,15 @@ class Objects:
         if not row:
             dead = [n for names in call.arguments for n in names if n != "null" and not self.living(n)]
             return ["parameter" for _ in dead]
-        rules = [r for p, names in zip(row.parameters, call.arguments) for n in names for r in self._fails(call, row, p, n)]
+        pairs = zip(row.parameters, call.arguments)
+        rules = [rule for p, names in pairs for name in names for rule in self._fails(call, p, name)]
         first = self.living(call.arguments[0][0])
         if call.command in ("vkDestroyDevice", "vkDestroyInstance") and first:
             owned = [self.all[c] for c in first.children]
             rules += ["children"] if any(c.alive and c.created for c in owned) else []
         return rules
 
-    def _fails(self, call: Call, row: Row, parameter: Parameter, name: str) -> list[str]:
+    def _fails(self, call: Call, parameter: Parameter, name: str) -> list[str]:
         """The rules that fail at one place of an argument."""
         found = self.living(name)
         if found is None:

@@ -1,7 +1,7 @@
 """Reads a trace and the text that `vkreplay run` or `vknames` printed for it into one run.
 
-The text is walked along the trace's events, line by line, so that a text of another trace, or one that is cut, is found out. Reports may be
-missing, since `vknames` mutes and thins them out; no other line may."""
+The text is walked along the trace's events, line by line, so that a text of another trace, or one that is cut, is
+found out. Reports may be missing, since `vknames` mutes and thins them out; no other line may."""
 import re
 from dataclasses import dataclass, field
 
@@ -12,16 +12,24 @@ from traces import NAME, Call, Refused, Report, Trace, read_trace
 REPORT = re.compile(
     r"report (?P<call>\d+) (?P<place>\d+) (?P<identifier>(?:VUID|VKR)-(?P<command>vk\w+)-(?P<parameter>\w+)"
     r"-(?P<rule>parameter|parent|children|overlap)) (?P<argument>null|%\d+\.\d+)"
-    r"(?: index=(?P<index>\d+))?(?: children=(?P<children>\d+))?(?: with=(?P<other>\d+))?(?: \"(?P<label>[^\"]{1,128})\")?"
+    r"(?: index=(?P<index>\d+))?(?: children=(?P<children>\d+))?(?: with=(?P<other>\d+))?"
+    r"(?: \"(?P<label>[^\"]{1,128})\")?"
 )
 RET = re.compile(r"ret (\d+) (vk\w+) (\w+)(?: born=(\d+))?")
 END = re.compile(r"end calls=(\d+) skipped=(\d+) reports=(\d+)")
-CHAIN = re.compile(r"chain (\d+) (ok layers=(\d+) parts=(\d+) drivers=(\d+)|no-driver|(layer-not-present|unguarded) (.+))")
+CHAIN = re.compile(
+    r"chain (\d+) (ok layers=(\d+) parts=(\d+) drivers=(\d+)|no-driver|(layer-not-present|unguarded) (.+))"
+)
 NOTE = re.compile(r"note (\S+) (.+)")
 LAYER = re.compile(r"layer (\d+) (\S+) (.+)")
 PART = re.compile(r"part (\d+) (threads|lifetimes|unique) (\S+)")
 DRIVER = re.compile(r"driver (\d+) (.*?\.json) (.+)|driver (\d+) (\S+) (.+)")
-REFUSED = {"layer": "VK_ERROR_LAYER_NOT_PRESENT", "no": "VK_ERROR_INCOMPATIBLE_DRIVER", "unguarded": "VK_ERROR_INITIALIZATION_FAILED"}
+REFUSED = {
+    "layer": "VK_ERROR_LAYER_NOT_PRESENT",
+    "no": "VK_ERROR_INCOMPATIBLE_DRIVER",
+    "unguarded": "VK_ERROR_INITIALIZATION_FAILED",
+}
+OTHER_TRACE = "is it the text of another trace?"
 MOST_NAMES = 1_048_576
 
 
@@ -56,7 +64,8 @@ class Run:
 
 
 class _Walk:
-    """A walk over the text's lines along the trace. `dead_only`: whether only dead arguments skip a call (`--keep-going`)."""
+    """A walk over the text's lines along the trace. `dead_only`: whether only dead arguments skip a call, as
+    `--keep-going` has it."""
 
     def __init__(self, trace: Trace, lines: list[str], labels: dict[str, str], dead_only: bool):
         self.lines = lines
@@ -70,7 +79,7 @@ class _Walk:
     def line(self) -> str:
         """The next line."""
         if self.at >= len(self.lines):
-            raise Refused(f"text line {self.at + 1}: the text ends here and the trace goes on: it is cut, or the run stopped")
+            raise Refused(f"text line {self.at + 1}: the trace goes on here: the text is cut, or the run stopped")
         return self.lines[self.at]
 
     def take(self, pattern: re.Pattern[str], what: str) -> re.Match[str]:
@@ -84,7 +93,7 @@ class _Walk:
     def stranger(self, what: str) -> Refused:
         """A line that isn't what the trace asks for."""
         shown = self.line() if len(self.line()) <= 80 else self.line()[:77] + "..."
-        return Refused(f"text line {self.at + 1}: {what} was expected, not {shown!r}: is it the text of another trace?")
+        return Refused(f"text line {self.at + 1}: {what} was expected, not {shown!r}: {OTHER_TRACE}")
 
     def whole(self) -> Run:
         """All lines."""
@@ -99,7 +108,7 @@ class _Walk:
             self.begin(call) if begins else self.leave(call)
         numbers = [int(n) for n in self.take(END, "the end line").groups()]
         if numbers != [len(self.run.calls), self.run.skipped, numbers[2]] or len(self.run.reports) > numbers[2]:
-            raise Refused(f"text line {self.at}: the end line counts other calls or reports than stand above it: is it the text of another trace?")
+            raise Refused(f"text line {self.at}: the end line counts other calls or reports: {OTHER_TRACE}")
         if self.at < len(self.lines):
             raise self.stranger("nothing")
         return self.run
@@ -119,10 +128,11 @@ class _Walk:
     def report(self, call: Call, found: re.Match[str]) -> None:
         """One report, which must be one of this call and its arguments."""
         number = {k: None if found[k] is None else int(found[k]) for k in ("index", "children", "other")}
-        report = Report(call.number, int(found["place"]), found["identifier"], found["rule"], found["parameter"], found["argument"],
+        report = Report(call.number, int(found["place"]), *found.group("identifier", "rule", "parameter", "argument"),
                         number["index"], number["children"], number["other"], found["label"] or "")
         other = self.open.get(report.other) if report.other else None
-        fits = found["command"] == call.command and report.place <= len(self.force.parts if self.force else []) and _is_written(call, report)
+        there = report.place <= len(self.force.parts if self.force else [])
+        fits = there and found["command"] == call.command and _is_written(call, report)
         if not fits or (report.rule == "overlap") != (other is not None and other.thread != call.thread):
             self.at -= 1
             raise self.stranger(f"a report that fits call {call.number}, {call.written() or 'without arguments'},")
@@ -148,7 +158,8 @@ class _Walk:
         call.born = self.run.objects.leave(call, told)
         makes = call.row.effect.makes if call.row else told is not None
         answers = [self.answer(call)] if call.row else [self.answer(call), call.code]
-        if found.group(1, 2) != (str(call.number), call.command) or call.answer not in answers or (told is not None) != makes:
+        same = found.group(1, 2) == (str(call.number), call.command)
+        if not same or call.answer not in answers or (told is not None) != makes:
             self.at -= 1
             raise self.stranger(f"the return of call {call.number}, {call.command} {self.answer(call)},")
         if makes and told != call.born:
@@ -182,7 +193,9 @@ class _Walk:
         while self.line().startswith("note "):
             chain.notes.append(self.take(NOTE, "a note of the chain").group(1, 2))
         for many, pattern, what, out in (
-            (found[3], LAYER, "layer", chain.layers), (found[4], PART, "part", chain.parts), (found[5], DRIVER, "driver", chain.drivers),
+            (found[3], LAYER, "layer", chain.layers),
+            (found[4], PART, "part", chain.parts),
+            (found[5], DRIVER, "driver", chain.drivers),
         ):
             for number in range(1, int(many) + 1):
                 out.append(self.numbered(pattern, f"{what} {number}", number))
@@ -218,7 +231,8 @@ def read_names(data: bytes) -> dict[str, str]:
         name, _, label = line.partition(" ")
         good = NAME.fullmatch(name) and 1 <= len(label) <= 128 and re.fullmatch(r"[ !#-~]+", label)
         if not good or name in labels:
-            raise Refused(f"names line {number}: this is no name, a space and 1 to 128 printable characters without a quote, or it is there twice")
+            raise Refused(f"names line {number}: this is no name of a trace, a space and 1 to 128 printable "
+                          "characters without a quote, or the name has a line above")
         labels[name] = label
     return labels
 

@@ -18,7 +18,9 @@ def sentence(report: Report, call: Call, other: Call | None, run: Run) -> str:
         return _parent(report, call, run)
     if report.rule == "children":
         many = report.children or 0
-        things = "an object that was made from it and lives" if many == 1 else f"{many} objects that were made from it and live"
+        things = "an object that was made from it and lives"
+        if many != 1:
+            things = f"{many} objects that were made from it and live"
         return f"{call.command} destroys {_shown(report.argument, run)} while it still owns {things}."
     return _parameter(report, call, run)
 
@@ -48,8 +50,8 @@ def _parameter(report: Report, call: Call, run: Run) -> str:
     maker = run.trace.makers[report.argument]
     if not maker.answer or maker.end > call.begin:
         return head + f"call {maker.number}, {maker.command}, which makes it, hasn't returned yet."
-    why = "was skipped" if maker.skipped else f"answered {maker.answer}" if maker.answer != "VK_SUCCESS" else "didn't make it"
-    return head + f"call {maker.number}, {maker.command}, {why}."
+    why = "didn't make it" if maker.answer in ("VK_SUCCESS", "void") else f"answered {maker.answer}"
+    return head + f"call {maker.number}, {maker.command}, {'was skipped' if maker.skipped else why}."
 
 
 def _ender(found: Object, run: Run) -> str:
@@ -79,5 +81,6 @@ def _overlap(report: Report, call: Call, other: Call, run: Run) -> str:
     found = run.objects.named(report.argument)
     direct = found is not None and any(name in found.names for names in other.arguments for name in names)
     same = "the same object" if direct else "an object that goes with it"
-    return (f"Thread {call.thread} begins {call.command} with {_shown(report.argument, run)} as {_place(report)} while thread {other.thread} "
-            f"is in call {other.number}, {other.command}, with {same}. At least one of the two must have it for itself alone.")
+    return (f"Thread {call.thread} begins {call.command} with {_shown(report.argument, run)} as {_place(report)} "
+            f"while thread {other.thread} is in call {other.number}, {other.command}, with {same}. At least one of "
+            "the two must have it for itself alone.")

@@ -1,6 +1,7 @@
-"""What the command table says of a command: its parameters with their marks, what it does to objects, and whether it answers a code.
+"""What the command table says of a command: its parameters with their marks, what it does to objects, and whether it
+answers a code.
 
-`commands.py` has the rows; `generate.py` makes that file from the table of the replayer, so that both have the same rows."""
+`commands.py` has the rows; `generate.py` makes that file from the replayer's table, so that both have the same."""
 from dataclasses import dataclass
 
 
@@ -19,9 +20,11 @@ class Parameter:
 
 @dataclass(frozen=True, slots=True)
 class Effect:
-    """What a command does: `create` or `retrieve` objects of a type, `destroy`, `free` or `reset` those of a parameter, or `none`.
+    """What a command does: `create` or `retrieve` objects of a type, `destroy`, `free` or `reset` those of a
+    parameter, or `none`.
 
-    The owner of what it makes is the object of parameter `owner`, that object's own owner where `owners_owner` is set, or nobody."""
+    The owner of what it makes is the object of parameter `owner`, that object's own owner where `owners_owner` is set,
+    or nobody."""
 
     kind: str = "none"
     type: str = ""

@@ -1,6 +1,7 @@
 """Reads a trace, of version 1 or 2, into calls and the order of their events.
 
-What `vkreplay run` would refuse is refused here too, with the line: a picture of half a trace would say what didn't happen."""
+What `vkreplay run` would refuse is refused here too, with the line: a picture of half a trace would say what didn't
+happen."""
 import re
 from dataclasses import dataclass, field
 
@@ -40,7 +41,8 @@ class Report:
 
 @dataclass(slots=True)
 class Call:
-    """A call: what the trace says of it, and what the text says came of it. Its row is none where the table hasn't the command."""
+    """A call: what the trace says of it, and what the text says came of it. Its row is none where the table hasn't the
+    command."""
 
     number: int
     thread: int
@@ -66,7 +68,8 @@ class Call:
 
 @dataclass(slots=True)
 class Trace:
-    """The calls, by their numbers; the events in order, each as a call and whether it is its begin; and the times of events."""
+    """The calls, by their numbers; the events in order, each as a call and whether it is its begin; the times that
+    comments give, each with the place of the event behind it; and of each name its type and the call that makes it."""
 
     version: int
     calls: list[Call]
@@ -127,7 +130,8 @@ class _Reader:
                 if kind is None:
                     raise Refused(f"{name} is no result of an earlier line")
                 if row and kind and kind != row.parameters[at].type:
-                    raise Refused(f"{name} is a {kind}, and {row.parameters[at].name} takes a {row.parameters[at].type}")
+                    wanted = row.parameters[at]
+                    raise Refused(f"{name} is a {kind}, and {wanted.name} takes a {wanted.type}")
 
     def _results(self, call: Call) -> None:
         """Whether the results are named as their thread's next ones, and as many as the row has."""
@@ -213,6 +217,7 @@ def read_trace(data: bytes) -> Trace:
             raise Refused(f"trace line {number}: {why}") from None
     if reader.open:
         call = min(reader.open.values(), key=lambda c: c.number)
-        raise Refused(f"trace line {len(lines) + 1}: call {call.number}, {call.command}, is open at the end: the trace is cut")
+        still = f"call {call.number}, {call.command}, is open at the end"
+        raise Refused(f"trace line {len(lines) + 1}: {still}: the trace is cut")
     reader.trace.threads = sorted({call.thread for call in reader.trace.calls})
     return reader.trace

@@ -1,9 +1,9 @@
 #!/usr/bin/env python3
 """vkperfetto.py TRACE TEXT > trace.json: a trace and what `vkreplay run` printed for it, in the Trace Event Format.
 
-Perfetto (ui.perfetto.dev) and chrome://tracing read it: calls are slices on their threads, reports instant events with their arguments,
-overlaps flows from the one call to the other, and the living objects of each type a counter. Times are the places of events, one a
-microsecond, or what a recorder's comments say where the trace has them."""
+Perfetto (ui.perfetto.dev) and chrome://tracing read it: calls are slices on their threads, reports instant events with
+their arguments, overlaps flows from the one call to the other, and the living objects of each type a counter. Times
+are the places of events, one a microsecond, or what a recorder's comments say where the trace has them."""
 import bisect
 import json
 import os
@@ -72,13 +72,16 @@ def slice_of(call: Call, clock: Clock) -> dict[str, object]:
 
 def instant(report: Report, call: Call, clock: Clock) -> dict[str, object]:
     """A report as an instant event."""
-    told: dict[str, object] = {"call": report.call, "place": report.place, "argument": report.argument, "sentence": report.words}
+    told: dict[str, object] = {
+        "call": report.call, "place": report.place, "argument": report.argument, "sentence": report.words,
+    }
     for name, value in (("index", report.index), ("children", report.children), ("with", report.other)):
         if value is not None:
             told[name] = value
     if report.label:
         told["name"] = report.label
-    return event("i", report.identifier, call.thread, clock.at(call.begin), s="t", cat=f"report,{report.rule}", args=told)
+    time, kind = clock.at(call.begin), f"report,{report.rule}"
+    return event("i", report.identifier, call.thread, time, s="t", cat=kind, args=told)
 
 
 def flow(number: int, call: Call, other: Call, clock: Clock) -> list[dict[str, object]]:
@@ -102,7 +105,10 @@ def counters(run: Run, clock: Clock) -> list[dict[str, object]]:
     for place, step, kind in sorted(changes):
         living[kind] += step
         at_place[place, kind] = living[kind]
-    return [event("C", f"living {kind}", 0, clock.at(place), args={"objects": many}) for (place, kind), many in at_place.items()]
+    return [
+        event("C", f"living {kind}", 0, clock.at(place), args={"objects": many})
+        for (place, kind), many in at_place.items()
+    ]
 
 
 def events(run: Run, trace: str) -> list[dict[str, object]]:

@@ -16,7 +16,8 @@ def _read(path: str) -> bytes:
 
 
 def paths_of(words: list[str], names: bool) -> tuple[str, str, str | None] | None:
-    """The paths of the trace, the text and, where `names` allows them, the names; or none where the words aren't understood."""
+    """The paths of the trace, the text and, where `names` allows them, the names; or none where the words aren't
+    understood."""
     rest, found = [], None
     waiting = list(words)
     while waiting:
@@ -33,7 +34,8 @@ def paths_of(words: list[str], names: bool) -> tuple[str, str, str | None] | Non
 
 
 def main(program: str, usage: str, names: bool, show: Callable[[Run, str, str], str]) -> int:
-    """Reads what the words name and prints what `show` makes of the run and its two paths: 0, or 2 with one line on standard error."""
+    """Reads what the words name and prints what `show` makes of the run and its two paths: 0, or 2 with one line on
+    standard error."""
     paths = paths_of(sys.argv[1:], names)
     if paths is None:
         print(f"usage: {usage}", file=sys.stderr)
