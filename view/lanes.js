@@ -1,6 +1,7 @@
-// The lanes of threads: calls as bars in the order of events, reports as marks, overlaps as lines. Only what is seen is drawn.
+// The lanes of threads: calls as bars in the order of events, reports as marks, overlaps as lines. Only what is seen
+// is drawn.
 
-// --- The lanes -----------------------------------------------------------------------------------------------------------------
+// --- The lanes ------------------------------------------------------------------------------------
 
 const canvas = byId("canvas");
 const pen = canvas.getContext("2d");
@@ -100,7 +101,7 @@ function drawBar(call, x, width, top, height) {
   const kind = colours[KINDS[calls.kinds[calls.command[call]]]];
   const inner = Math.max(1, width - 1);
   pen.fillStyle = kind;
-  if (calls.skipped[call]) hatch(x, top, inner, height, kind);
+  if (calls.skipped[call]) hatch(pen, x, top, inner, height, kind);
   else pen.fillRect(x, top, inner, height);
   if (width > 26) {
     pen.save();
@@ -123,24 +124,25 @@ function drawBar(call, x, width, top, height) {
   if (call === state.other) drawRing(x, top, inner, height, colours.mark);
 }
 
-function hatch(x, top, width, height, colour) {
-  pen.save();
-  pen.beginPath();
-  pen.rect(x, top, width, height);
-  pen.clip();
-  pen.strokeStyle = colour;
-  pen.globalAlpha = 0.4;
-  pen.lineWidth = 1;
-  pen.beginPath();
-  for (let at = x - height; at < x + width; at += 7) {
-    pen.moveTo(at, top + height);
-    pen.lineTo(at + height, top);
+// A skipped call: lines in its colour and a frame.
+function hatch(onto, x, top, width, height, colour) {
+  onto.save();
+  onto.beginPath();
+  onto.rect(x, top, width, height);
+  onto.clip();
+  onto.strokeStyle = colour;
+  onto.globalAlpha = 0.4;
+  onto.lineWidth = 1;
+  onto.beginPath();
+  for (let from = x - height; from < x + width; from += 7) {
+    onto.moveTo(from, top + height);
+    onto.lineTo(from + height, top);
   }
-  pen.stroke();
-  pen.restore();
-  pen.strokeStyle = colour;
-  pen.lineWidth = 1.5;
-  pen.strokeRect(x + 0.75, top + 0.75, Math.max(1, width - 1.5), height - 1.5);
+  onto.stroke();
+  onto.restore();
+  onto.strokeStyle = colour;
+  onto.lineWidth = 1.5;
+  onto.strokeRect(x + 0.75, top + 0.75, Math.max(1, width - 1.5), height - 1.5);
 }
 
 function drawRing(x, top, width, height, colour = colours.chosen) {
@@ -149,13 +151,18 @@ function drawRing(x, top, width, height, colour = colours.chosen) {
   pen.strokeRect(x - 0.5, top - 1.5, width + 1, height + 3);
 }
 
-// The mark of a rule: a shape of its own, so that it can be told without its colour.
+const MARKS = {
+  overlap: [[0, -6], [6, 0], [0, 6], [-6, 0]],
+  parent: [[0, -6], [6, 5], [-6, 5]],
+  children: [[-5, -5], [5, -5], [5, 5], [-5, 5]],
+};
+
+// The mark of a rule: a shape of its own, so that it can be told without its colour. A round one has no corners.
 function drawMark(onto, rule, x, y, colour, ground) {
   onto.beginPath();
-  if (rule === "overlap") { onto.moveTo(x, y - 6); onto.lineTo(x + 6, y); onto.lineTo(x, y + 6); onto.lineTo(x - 6, y); }
-  else if (rule === "parent") { onto.moveTo(x, y - 6); onto.lineTo(x + 6, y + 5); onto.lineTo(x - 6, y + 5); }
-  else if (rule === "children") onto.rect(x - 5, y - 5, 10, 10);
-  else onto.arc(x, y, 5.5, 0, 7);
+  const corners = MARKS[rule];
+  if (!corners) onto.arc(x, y, 5.5, 0, 7);
+  else corners.forEach(([right, down]) => onto.lineTo(x + right, y + down));
   onto.closePath();
   onto.fillStyle = colour;
   onto.strokeStyle = ground;
@@ -166,9 +173,17 @@ function drawMark(onto, rule, x, y, colour, ground) {
 
 const markX = (call) => xOf(calls.begin[call]) + 7;
 
+const beginOf = (at) => calls.begin[placeOf(run.reports[at].call)];
+
+// The reports that stand in view, as places of the list.
+function* inView() {
+  const first = lower(run.reports.length, state.from - 1, beginOf);
+  for (let at = first; at < run.reports.length && beginOf(at) < state.to; at += 1) yield at;
+}
+
 function drawReports(first, last) {
   const seen = new Set();
-  for (let at = lower(run.reports.length, state.from - 1, beginOf); at < run.reports.length && beginOf(at) < state.to; at += 1) {
+  for (const at of inView()) {
     const call = placeOf(run.reports[at].call);
     const lane = calls.lane[call];
     const x = Math.round(markX(call));
@@ -177,25 +192,24 @@ function drawReports(first, last) {
     seen.add(key);
     drawMark(pen, run.reports[at].rule, x, topOf(lane) + 8, colours.mark, colours.panel);
   }
-  if (state.report >= 0) {
-    const call = placeOf(run.reports[state.report].call);
-    if (markX(call) >= LEFT) drawMark(pen, run.reports[state.report].rule, markX(call), topOf(calls.lane[call]) + 8, colours.mark, colours.chosen);
-  }
+  const chosen = run.reports[state.report];
+  if (!chosen) return;
+  const call = placeOf(chosen.call);
+  const x = markX(call);
+  if (x >= LEFT) drawMark(pen, chosen.rule, x, topOf(calls.lane[call]) + 8, colours.mark, colours.chosen);
 }
 
-const beginOf = (at) => calls.begin[placeOf(run.reports[at].call)];
-
 function drawOverlaps() {
-  let drawn = 0;
   const seen = new Set();
-  for (let at = lower(run.reports.length, state.from - 1, beginOf); at < run.reports.length && beginOf(at) < state.to && drawn < 2000; at += 1) {
+  for (const at of inView()) {
     const report = run.reports[at];
     if (report.with === null || at === state.report) continue;
-    const key = `${Math.round(beginOf(at) / (state.to - state.from) * across())} ${calls.lane[placeOf(report.call)]}`;
+    const ends = [report.call, report.with].map((number) => calls.lane[placeOf(number)]);
+    const key = [Math.round(xOf(beginOf(at))), ...ends].join(" ");
     if (seen.has(key)) continue;
     seen.add(key);
-    drawn += 1;
     joinCalls(report, 1);
+    if (seen.size === 2000) break;
   }
   const chosen = run.reports[state.report];
   if (chosen && chosen.with !== null) joinCalls(chosen, 3);
@@ -239,7 +253,7 @@ function drawAxis() {
   }
 }
 
-// --- Moving in the lanes -------------------------------------------------------------------------------------------------------
+// --- Moving in the lanes --------------------------------------------------------------------------
 
 function look(from, to) {
   const whole = Math.max(run.events, 4);
@@ -274,7 +288,8 @@ function bring(places) {
   const to = Math.max(...places.map((k) => calls.end[k] + 1));
   const span = state.to - state.from;
   const wide = Math.max(10, Math.floor(across() / 55));
-  if (span > wide * 1.5 || to - from > span) look(from - Math.max(3, (wide - to + from) / 2), to + Math.max(3, (wide - to + from) / 2));
+  const beside = Math.max(3, (wide - to + from) / 2);
+  if (span > wide * 1.5 || to - from > span) look(from - beside, to + beside);
   else if (from < state.from || to > state.to) look((from + to - span) / 2, (from + to + span) / 2);
   const tops = places.map((k) => calls.lane[k] * tall);
   const low = Math.min(...tops);
@@ -306,10 +321,15 @@ function reportAt(lane, x, y) {
 
 function told(k) {
   const names = calls.arguments[k];
-  return `call ${calls.number[k].toLocaleString("en")} \u00b7 thread ${thread(k)} \u00b7 ${command(k)} ${names}${calls.skipped[k] ? " \u00b7 skipped" : ""}`;
+  const skipped = calls.skipped[k] ? " \u00b7 skipped" : "";
+  const call = `call ${calls.number[k].toLocaleString("en")}`;
+  return `${call} \u00b7 thread ${thread(k)} \u00b7 ${command(k)} ${names}${skipped}`;
 }
 
-const at = (event) => { const edge = canvas.getBoundingClientRect(); return [event.clientX - edge.left, event.clientY - edge.top]; };
+function at(event) {
+  const edge = canvas.getBoundingClientRect();
+  return [event.clientX - edge.left, event.clientY - edge.top];
+}
 
 function pointers() {
   let held = null;
@@ -328,7 +348,8 @@ function pointers() {
       return;
     }
     const found = hit(x, y);
-    byId("hover").textContent = found.report >= 0 ? run.reports[found.report].words : found.call >= 0 ? told(found.call) : "";
+    const call = found.call >= 0 ? told(found.call) : "";
+    byId("hover").textContent = found.report >= 0 ? run.reports[found.report].words : call;
   });
   canvas.addEventListener("pointerup", (event) => {
     const [x, y] = at(event);
@@ -342,10 +363,11 @@ function pointers() {
 
 function wheel(event) {
   const [x] = at(event);
+  const sideways = Math.abs(event.deltaX) > Math.abs(event.deltaY);
   if (event.ctrlKey || event.metaKey) {
     event.preventDefault();
     zoom(event.deltaY > 0 ? 1.25 : 0.8, x);
-  } else if (event.shiftKey || Math.abs(event.deltaX) > Math.abs(event.deltaY) || box.scrollHeight <= box.clientHeight + 1) {
+  } else if (event.shiftKey || sideways || box.scrollHeight <= box.clientHeight + 1) {
     event.preventDefault();
     const step = (event.deltaX || event.deltaY) / across() * (state.to - state.from);
     look(state.from + step, state.to + step);
@@ -355,7 +377,8 @@ function wheel(event) {
 function keys(event) {
   const acts = {
     ArrowRight: () => step(1), ArrowLeft: () => step(-1), ArrowDown: () => lane(1), ArrowUp: () => lane(-1),
-    Home: () => chooseCall(0), End: () => chooseCall(many - 1), "+": () => zoom(0.5), "=": () => zoom(0.5), "-": () => zoom(2),
+    Home: () => chooseCall(0), End: () => chooseCall(many - 1),
+    "+": () => zoom(0.5), "=": () => zoom(0.5), "-": () => zoom(2),
     0: () => look(0, run.events), r: () => stepReport(1), R: () => stepReport(-1), Enter: () => byId("detail").focus(),
   };
   if (!acts[event.key] || event.ctrlKey || event.altKey || event.metaKey || many === 0) return;

@@ -1,6 +1,6 @@
 // What is chosen, and the lists: reports, the chain, what was found.
 
-// --- What is chosen ------------------------------------------------------------------------------------------------------------
+// --- What is chosen -------------------------------------------------------------------------------
 
 function callLink(number, text) {
   const place = placeOf(number);
@@ -30,15 +30,19 @@ function argumentPairs(k) {
     const inner = word.startsWith("[") ? word.slice(1, -1).split(",").filter(Boolean) : [word];
     const shown = inner.slice(0, 200).map((name) => (name === "null" ? el("span", "quiet", "null") : nameLink(name)));
     if (inner.length > 200) shown.push(el("span", "quiet", `and ${inner.length - 200} more`));
-    return [names ? names[place] : `argument ${place + 1}`, ...(shown.length ? shown : [el("span", "quiet", "an empty list")])];
+    if (shown.length === 0) shown.push(el("span", "quiet", "an empty list"));
+    return [names ? names[place] : `argument ${place + 1}`, ...shown];
   });
 }
 
 function said(place, chosen) {
   const report = run.reports[place];
-  const node = el("div", "said", el("p", "", report.words), el("p", "quiet", `${report.identifier}, said by ${report.who}.`));
+  const source = el("p", "quiet", `${report.identifier}, said by ${report.who}.`);
+  const node = el("div", "said", el("p", "", report.words), source);
   if (report.label) node.append(el("p", "", `Its name is "${report.label}".`));
-  if (report.with !== null) node.append(el("p", "", "The other call: ", callLink(report.with, otherWords(report.with))));
+  if (report.with !== null) {
+    node.append(el("p", "", "The other call: ", callLink(report.with, otherWords(report.with))));
+  }
   if (chosen) node.dataset.report = String(place);
   return node;
 }
@@ -55,7 +59,10 @@ function callDetail(k, report) {
   for (const place of order.slice(0, 100)) out.push(said(place, place === report));
   const rows = [["thread", String(thread(k))], ...argumentPairs(k)];
   const results = calls.results[k] ? calls.results[k].split(",") : [];
-  if (results.length) rows.push(["makes", ...results.slice(0, 200).map(nameLink), el("span", "quiet", `${calls.born[k]} of ${results.length} born`)]);
+  if (results.length) {
+    const born = el("span", "quiet", `${calls.born[k]} of ${results.length} born`);
+    rows.push(["makes", ...results.slice(0, 200).map(nameLink), born]);
+  }
   rows.push(["answers", calls.answers[calls.answer[k]] === "void" ? "nothing" : calls.answers[calls.answer[k]]]);
   const payload = calls.payload[calls.number[k]];
   if (payload !== undefined) rows.push(["payload", el("code", "", payload)]);
@@ -72,7 +79,8 @@ function objectDetail(place) {
   if (object.label) rows.push(["called", `"${object.label}"`]);
   rows.push(["owner", owner ? button("link", ownerWords(owner), () => chooseObject(object.owner)) : "nobody"]);
   rows.push([object.created ? "made by" : "retrieved by", callLink(object.born, otherWords(object.born))]);
-  rows.push(["ended by", object.ended === null ? "no call: it lives at the end" : callLink(object.ended, otherWords(object.ended))]);
+  const lives = object.ended === null;
+  rows.push(["ended by", lives ? "no call: it lives at the end" : callLink(object.ended, otherWords(object.ended))]);
   const uses = el("div", "names");
   moreOf(uses, object.uses, 60, (number) => callLink(number));
   rows.push([`used in ${counted(object.used, "call", "calls")}`, uses]);
@@ -88,7 +96,10 @@ function ownerWords(owner) {
 function moreOf(node, list, some, make, from = 0) {
   for (const item of list.slice(from, from + some)) node.append(make(item));
   if (from + some >= list.length) return;
-  const rest = button("", `${(list.length - from - some).toLocaleString("en")} more`, () => { rest.remove(); moreOf(node, list, some, make, from + some); });
+  const rest = button("", `${(list.length - from - some).toLocaleString("en")} more`, () => {
+    rest.remove();
+    moreOf(node, list, some, make, from + some);
+  });
   node.append(rest);
 }
 
@@ -125,14 +136,16 @@ function chooseObject(place) {
   show(objectDetail(place));
 }
 
-// --- The lists: reports, chain, what was found ---------------------------------------------------------------------------------
+// --- The lists: reports, chain, what was found ----------------------------------------------------
 
 function reportRow(place) {
   const report = run.reports[place];
   const row = button("row", `call ${report.call.toLocaleString("en")}`, () => chooseReport(place));
   row.dataset.report = String(place);
   const index = report.index === null ? "" : ` [${report.index}]`;
-  row.append(el("span", "sub", `${report.argument}${index}${report.label ? ` "${report.label}"` : ""}${report.with === null ? "" : ` with call ${report.with}`}`));
+  const label = report.label ? ` "${report.label}"` : "";
+  const other = report.with === null ? "" : ` with call ${report.with.toLocaleString("en")}`;
+  row.append(el("span", "sub", `${report.argument}${index}${label}${other}`));
   return el("li", "", row);
 }
 
@@ -179,7 +192,9 @@ function chainNode(chain) {
   chain.layers.forEach(([name, path]) => {
     join();
     const layer = stepNode(name, path);
-    chain.parts.forEach(([kind, owner], k) => { if (owner === name) layer.append(el("span", "part", `${k + 1} ${kind}`)); });
+    chain.parts.forEach(([kind, owner], k) => {
+      if (owner === name) layer.append(el("span", "part", `${k + 1} ${kind}`));
+    });
     out.append(layer);
   });
   join();
@@ -198,17 +213,23 @@ function showChain() {
   run.notes.forEach(([kind, path]) => room.append(el("p", "quiet", `note ${kind} ${path}`)));
 }
 
+const has = (text, low) => text.toLowerCase().includes(low);
+
+// The calls that a word finds: by a name as it is written, or by a part of a command, an object's own name or a rule.
 function matches(text) {
   const low = text.toLowerCase();
   const exact = /^%\d+\.\d+$/.test(text) ? new RegExp(`(^|[ ,\\[])${text.replace(".", "\\.")}($|[ ,\\]])`) : null;
-  const hits = calls.commands.map((name) => name.toLowerCase().includes(low));
-  const named = new Set(exact ? [] : run.objects.flatMap((o) => (o.label && o.label.toLowerCase().includes(low) ? [o.born, ...o.uses] : [])));
-  const ruled = new Set(exact ? [] : run.reports.filter((r) => r.identifier.toLowerCase().includes(low)).map((r) => r.call));
+  const hits = calls.commands.map((name) => has(name, low));
+  const more = new Set();
+  if (!exact) {
+    run.objects.filter((o) => has(o.label, low)).forEach((o) => [o.born, ...o.uses].forEach((call) => more.add(call)));
+    run.reports.filter((r) => has(r.identifier, low)).forEach((r) => more.add(r.call));
+  }
   const number = /^\d+$/.test(text) ? Number(text) : -1;
   const out = [];
   for (let k = 0; k < many; k += 1) {
     const here = exact ? exact.test(calls.arguments[k]) || exact.test(calls.results[k])
-      : hits[calls.command[k]] || calls.number[k] === number || named.has(calls.number[k]) || ruled.has(calls.number[k]);
+      : hits[calls.command[k]] || calls.number[k] === number || more.has(calls.number[k]);
     if (here) out.push(k);
   }
   return out;
@@ -223,11 +244,15 @@ function search() {
   const list = byId("found-list");
   const found = matches(text);
   for (const k of found) state.marked[k] = 1;
-  const objects = run.objects.map((o, place) => place).filter((place) => run.objects[place].names.includes(text)
-    || (run.objects[place].label && run.objects[place].label.toLowerCase().includes(text.toLowerCase())));
-  byId("found-count").textContent = `${counted(found.length, "call", "calls")} and ${counted(objects.length, "object", "objects")}`;
+  const fits = (object) => object.names.includes(text) || has(object.label, text.toLowerCase());
+  const objects = run.objects.map((object, place) => place).filter((place) => fits(run.objects[place]));
+  const many = [counted(found.length, "call", "calls"), counted(objects.length, "object", "objects")];
+  byId("found-count").textContent = many.join(" and ");
   list.replaceChildren();
-  moreOf(list, objects, 20, (place) => el("li", "", button("row", ownerWords(run.objects[place]), () => chooseObject(place))));
+  moreOf(list, objects, 20, (place) => {
+    const row = button("row", ownerWords(run.objects[place]), () => chooseObject(place));
+    return el("li", "", row);
+  });
   moreOf(list, found, 50, (k) => {
     const row = button("row", `call ${calls.number[k].toLocaleString("en")} ${command(k)}`, () => chooseCall(k));
     row.append(el("span", "sub", calls.arguments[k].slice(0, 120)));

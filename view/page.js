@@ -5,14 +5,19 @@ const calls = run.calls;
 const many = calls.number.length;
 const KINDS = ["create", "retrieve", "end", "record", "queue", "other"];
 const KIND_WORDS = ["creates", "retrieves", "destroys, frees, resets", "records (vkCmd)", "queue", "other"];
-const RULES = { parameter: "no living object", parent: "wrong owner", children: "still owns objects", overlap: "used by two threads at once" };
+const RULES = {
+  parameter: "no living object", parent: "wrong owner", children: "still owns objects",
+  overlap: "used by two threads at once",
+};
 const AXIS = 22;
 const LEFT = 66;
 const LEAF = 40;
 const byId = (id) => document.getElementById(id);
-const state = { from: 0, to: Math.max(run.events, 4), call: -1, other: -1, report: -1, object: -1, marked: new Uint8Array(many) };
+const state = {
+  from: 0, to: Math.max(run.events, 4), call: -1, other: -1, report: -1, object: -1, marked: new Uint8Array(many),
+};
 
-// --- Small helpers -------------------------------------------------------------------------------------------------------------
+// --- Small helpers --------------------------------------------------------------------------------
 
 function el(tag, className, ...inside) {
   const node = document.createElement(tag);
@@ -49,7 +54,7 @@ const counted = (n, one, more) => `${n.toLocaleString("en")} ${n === 1 ? one : m
 const command = (k) => calls.commands[calls.command[k]];
 const thread = (k) => run.threads[calls.lane[k]];
 
-// --- What is kept beside the data: the calls of each lane, the objects of each name, the reports of each call ------------------
+// --- What is kept beside the data: the calls of each lane, the objects of each name, the reports of each call 
 
 const lanes = run.threads.map(() => []);
 for (let k = 0; k < many; k += 1) lanes[calls.lane[k]].push(k);
@@ -67,7 +72,8 @@ run.reports.forEach((report, at) => {
 function counts() {
   let skipped = 0;
   for (let k = 0; k < many; k += 1) skipped += calls.skipped[k];
-  return { calls: many, skipped, reports: run.reports.length, threads: run.threads.length, objects: run.objects.length };
+  const [reports, threads, objects] = [run.reports, run.threads, run.objects].map((list) => list.length);
+  return { calls: many, skipped, reports, threads, objects };
 }
 
 function showHead() {

@@ -6,7 +6,9 @@ let leaves = [];
 
 // Instances and devices stand open at first: what they own is what is asked for.
 function openFirst() {
-  run.objects.forEach((object, place) => { if (object.type === "Instance" || object.type === "Device") openLeaves.add(place); });
+  run.objects.forEach((object, place) => {
+    if (object.type === "Instance" || object.type === "Device") openLeaves.add(place);
+  });
 }
 
 function listLeaves() {
@@ -85,7 +87,8 @@ function treeKeys(event) {
   const place = state.object;
   const go = (to) => { if (leaves[to]) chooseObject(leaves[to][0]); };
   const acts = {
-    ArrowDown: () => go(row + 1), ArrowUp: () => go(Math.max(0, row - 1)), Home: () => go(0), End: () => go(leaves.length - 1),
+    ArrowDown: () => go(row + 1), ArrowUp: () => go(Math.max(0, row - 1)),
+    Home: () => go(0), End: () => go(leaves.length - 1),
     ArrowRight: () => (row >= 0 && children[place].length && !openLeaves.has(place) ? turn(place) : go(row + 1)),
     ArrowLeft: () => {
       if (row < 0) return;
@@ -98,6 +101,11 @@ function treeKeys(event) {
   event.preventDefault();
   acts[event.key]();
 }
+
+const filled = (colour, top, height) => (onto) => {
+  onto.fillStyle = colour;
+  onto.fillRect(0, top, 16, height);
+};
 
 function showLegend() {
   const list = byId("legend");
@@ -113,14 +121,14 @@ function showLegend() {
     list.append(el("li", "", small, text));
   };
   KINDS.forEach((kind, k) => {
-    if (calls.kinds.includes(k)) sample((onto) => { onto.fillStyle = colours[kind]; onto.fillRect(0, 2, 16, 10); }, KIND_WORDS[k]);
+    if (calls.kinds.includes(k)) sample(filled(colours[kind], 2, 10), KIND_WORDS[k]);
   });
-  if (calls.skipped.includes(1)) sample((onto) => { onto.strokeStyle = colours.text; onto.strokeRect(1, 3, 14, 8); }, "skipped (any colour, hatched)");
+  if (calls.skipped.includes(1)) sample((onto) => hatch(onto, 0, 2, 16, 10, colours.text), "skipped (in any colour)");
   const rules = new Set(run.reports.map((report) => report.rule));
   Object.entries(RULES).forEach(([rule, text]) => {
     if (rules.has(rule)) sample((onto) => drawMark(onto, rule, 8, 7, colours.mark, colours.panel), text);
   });
-  sample((onto) => { onto.fillStyle = colours.used; onto.fillRect(0, 9, 16, 4); }, "uses the chosen object, or was found");
+  sample(filled(colours.used, 9, 4), "uses the chosen object, or was found");
 }
 
 function listen() {

@@ -3,8 +3,8 @@
 page.
 
 The page stands alone: its script and its style are in it, and its policy allows no other and no network. What came
-from the files stands in it as JSON with each `<` escaped, and the script sets it as text alone, so that no name, path or
-payload becomes anything else."""
+from the files stands in it as JSON with each `<` escaped, and the script sets it as text alone, so that no name, path
+or payload becomes anything else."""
 import base64
 import hashlib
 import json
