@@ -23,7 +23,7 @@ const placeAt = (x) => state.from + (x - LEFT) / across() * (state.to - state.fr
 function measure() {
   const whole = AXIS + lanes.length * tall + 6;
   byId("room").style.height = `${whole}px`;
-  const most = Math.max(160, Math.floor(innerHeight * 0.46));
+  const most = Math.max(160, Math.floor(innerHeight * 0.42));
   const width = box.clientWidth;
   const height = Math.min(whole, most);
   const scale = devicePixelRatio || 1;
@@ -48,16 +48,32 @@ function drawNow() {
   pen.textBaseline = "middle";
   const first = Math.max(0, Math.floor(box.scrollTop / tall));
   const last = Math.min(lanes.length - 1, Math.floor((box.scrollTop + size.height - AXIS) / tall));
-  for (let lane = first; lane <= last; lane += 1) drawLane(lane);
+  for (let row = first; row <= last; row += 1) drawLane(laneOf[row]);
   drawOverlaps();
   drawReports(first, last);
   drawAxis();
   showWhere();
   canvas.dataset.from = state.from;
   canvas.dataset.to = state.to;
+  canvas.dataset.threads = laneOf.slice(first, last + 1).map((lane) => run.threads[lane]).join(" ");
 }
 
-const topOf = (lane) => AXIS + lane * tall - box.scrollTop;
+// The row in which each lane stands, and the lane of each row. A chosen overlap of far threads moves one beside the
+// other.
+let laneOf = lanes.map((_, lane) => lane);
+let rowOf = [...laneOf];
+const topOf = (lane) => AXIS + rowOf[lane] * tall - box.scrollTop;
+const roomFor = () => Math.max(1, Math.floor((size.height - AXIS) / tall));
+
+function order(lane, beside) {
+  laneOf = lanes.map((_, k) => k);
+  if (Math.abs(lane - beside) >= roomFor()) {
+    laneOf.splice(laneOf.indexOf(beside), 1);
+    laneOf.splice(laneOf.indexOf(lane) + (beside < lane ? 0 : 1), 0, beside);
+  }
+  rowOf = [];
+  laneOf.forEach((moved, row) => { rowOf[moved] = row; });
+}
 
 function drawLane(lane) {
   const top = topOf(lane);
@@ -188,7 +204,7 @@ function drawReports(first, last) {
     const lane = calls.lane[call];
     const x = Math.round(markX(call));
     const key = lane * 100000 + x;
-    if (lane < first || lane > last || x < LEFT || seen.has(key)) continue;
+    if (rowOf[lane] < first || rowOf[lane] > last || x < LEFT || seen.has(key)) continue;
     seen.add(key);
     drawMark(pen, run.reports[at].rule, x, topOf(lane) + 8, colours.mark, colours.panel);
   }
@@ -222,7 +238,7 @@ function joinCalls(report, width) {
   const x = markX(call);
   if (x < LEFT || other < 0) return;
   const y = topOf(calls.lane[call]) + 8;
-  const above = calls.lane[other] < calls.lane[call];
+  const above = rowOf[calls.lane[other]] < rowOf[calls.lane[call]];
   const end = topOf(calls.lane[other]) + (above ? tall - 9 : 17);
   pen.strokeStyle = colours.mark;
   pen.lineWidth = width;
@@ -249,7 +265,8 @@ function drawAxis() {
   for (let number = Math.max(step, Math.ceil((state.from + 1) / step) * step); number - 1 < state.to; number += step) {
     const x = xOf(number - 1);
     pen.fillRect(x, AXIS - 5, 1, 5);
-    pen.fillText(number.toLocaleString("en"), x + 3, AXIS / 2 - 1);
+    const text = number.toLocaleString("en");
+    if (x + 3 + pen.measureText(text).width < size.width) pen.fillText(text, x + 3, AXIS / 2 - 1);
   }
 }
 
@@ -291,7 +308,8 @@ function bring(places) {
   const beside = Math.max(3, (wide - to + from) / 2);
   if (span > wide * 1.5 || to - from > span) look(from - beside, to + beside);
   else if (from < state.from || to > state.to) look((from + to - span) / 2, (from + to + span) / 2);
-  const tops = places.map((k) => calls.lane[k] * tall);
+  order(calls.lane[places[0]], calls.lane[places[places.length - 1]]);
+  const tops = places.map((k) => rowOf[calls.lane[k]] * tall);
   const low = Math.min(...tops);
   if (low < box.scrollTop || Math.max(...tops) + tall > box.scrollTop + size.height - AXIS) box.scrollTop = low;
   draw();
@@ -299,8 +317,8 @@ function bring(places) {
 
 // The call at a point: the report's whose mark is there, or the nearest in the lane.
 function hit(x, y) {
-  const lane = Math.floor((y - AXIS + box.scrollTop) / tall);
-  if (y < AXIS || lane < 0 || lane >= lanes.length || x < LEFT) return { call: -1, report: -1 };
+  const lane = laneOf[Math.floor((y - AXIS + box.scrollTop) / tall)];
+  if (y < AXIS || lane === undefined || x < LEFT) return { call: -1, report: -1 };
   const report = reportAt(lane, x, y);
   if (report >= 0) return { call: placeOf(run.reports[report].call), report };
   const list = lanes[lane];
@@ -395,7 +413,7 @@ function step(way) {
 
 function lane(way) {
   if (state.call < 0) { chooseCall(0); return; }
-  const list = lanes[calls.lane[state.call] + way];
+  const list = lanes[laneOf[rowOf[calls.lane[state.call]] + way]];
   if (!list || list.length === 0) return;
   const next = lower(list.length, calls.begin[state.call], (k) => calls.end[list[k]]);
   chooseCall(list[Math.min(next, list.length - 1)]);

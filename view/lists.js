@@ -112,6 +112,11 @@ function show(nodes) {
   draw();
 }
 
+// Where all stands in one column, the lanes and what is chosen come into view.
+function reveal() {
+  if (innerWidth < 1000) byId("calls").scrollIntoView({ block: "start" });
+}
+
 function chooseCall(k) {
   state.call = k;
   state.report = state.other = -1;
@@ -140,7 +145,7 @@ function chooseObject(place) {
 
 function reportRow(place) {
   const report = run.reports[place];
-  const row = button("row", `call ${report.call.toLocaleString("en")}`, () => chooseReport(place));
+  const row = button("row", `call ${report.call.toLocaleString("en")}`, () => { chooseReport(place); reveal(); });
   row.dataset.report = String(place);
   const index = report.index === null ? "" : ` [${report.index}]`;
   const label = report.label ? ` "${report.label}"` : "";
@@ -250,11 +255,12 @@ function search() {
   byId("found-count").textContent = many.join(" and ");
   list.replaceChildren();
   moreOf(list, objects, 20, (place) => {
-    const row = button("row", ownerWords(run.objects[place]), () => chooseObject(place));
+    const row = button("row", ownerWords(run.objects[place]), () => { chooseObject(place); reveal(); });
     return el("li", "", row);
   });
   moreOf(list, found, 50, (k) => {
-    const row = button("row", `call ${calls.number[k].toLocaleString("en")} ${command(k)}`, () => chooseCall(k));
+    const name = `call ${calls.number[k].toLocaleString("en")} ${command(k)}`;
+    const row = button("row", name, () => { chooseCall(k); reveal(); });
     row.append(el("span", "sub", calls.arguments[k].slice(0, 120)));
     return el("li", "", row);
   });

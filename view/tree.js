@@ -35,12 +35,13 @@ function leafNode([place, level], row) {
   if (folds) node.setAttribute("aria-expanded", String(openLeaves.has(place)));
   node.style.top = `${row * LEAF}px`;
   node.style.paddingLeft = `${(level - 1) * 14 + 2}px`;
+  const line = el("div", "line");
   const fold = el("span", "fold", folds ? (openLeaves.has(place) ? "\u25be" : "\u25b8") : "");
   fold.addEventListener("click", (event) => { event.stopPropagation(); turn(place); });
   const when = object.ended === null ? `call ${object.born}, lives` : `calls ${object.born} to ${object.ended}`;
-  node.append(el("span", "when", when), fold, ownerWords(object));
-  node.append(lifeNode(object, (level - 1) * 14 + 20));
-  node.addEventListener("click", () => { chooseObject(place); tree.focus({ preventScroll: true }); });
+  line.append(fold, el("span", "who", ownerWords(object)), el("span", "when", when));
+  node.append(line, lifeNode(object, (level - 1) * 14 + 20));
+  node.addEventListener("click", () => { chooseObject(place); tree.focus({ preventScroll: true }); reveal(); });
   return node;
 }
 
