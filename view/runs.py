@@ -10,20 +10,20 @@ from objects import Objects
 from traces import NAME, Call, Refused, Report, Trace, read_trace
 
 REPORT = re.compile(
-    r"report (?P<call>\d+) (?P<place>\d+) (?P<identifier>(?:VUID|VKR)-(?P<command>vk\w+)-(?P<parameter>\w+)"
-    r"-(?P<rule>parameter|parent|children|overlap)) (?P<argument>null|%\d+\.\d+)"
-    r"(?: index=(?P<index>\d+))?(?: children=(?P<children>\d+))?(?: with=(?P<other>\d+))?"
+    r"report (?P<call>\d{1,18}) (?P<place>\d{1,18}) (?P<identifier>(?:VUID|VKR)-(?P<command>vk\w+)-(?P<parameter>\w+)"
+    r"-(?P<rule>parameter|parent|children|overlap)) (?P<argument>null|%\d{1,18}\.\d{1,18})"
+    r"(?: index=(?P<index>\d{1,18}))?(?: children=(?P<children>\d{1,18}))?(?: with=(?P<other>\d{1,18}))?"
     r"(?: \"(?P<label>[^\"]{1,128})\")?"
 )
-RET = re.compile(r"ret (\d+) (vk\w+) (\w+)(?: born=(\d+))?")
-END = re.compile(r"end calls=(\d+) skipped=(\d+) reports=(\d+)")
+RET = re.compile(r"ret (\d{1,18}) (vk\w+) (\w+)(?: born=(\d{1,18}))?")
+END = re.compile(r"end calls=(\d{1,18}) skipped=(\d{1,18}) reports=(\d{1,18})")
 CHAIN = re.compile(
-    r"chain (\d+) (ok layers=(\d+) parts=(\d+) drivers=(\d+)|no-driver|(layer-not-present|unguarded) (.+))"
+    r"chain (\d{1,18}) (ok layers=(\d{1,18}) parts=(\d{1,18}) drivers=(\d{1,18})|no-driver|(layer-not-present|unguarded) (.+))"
 )
 NOTE = re.compile(r"note (\S+) (.+)")
-LAYER = re.compile(r"layer (\d+) (\S+) (.+)")
-PART = re.compile(r"part (\d+) (threads|lifetimes|unique) (\S+)")
-DRIVER = re.compile(r"driver (\d+) (.*?\.json) (.+)|driver (\d+) (\S+) (.+)")
+LAYER = re.compile(r"layer (\d{1,18}) (\S+) (.+)")
+PART = re.compile(r"part (\d{1,18}) (threads|lifetimes|unique) (\S+)")
+DRIVER = re.compile(r"driver (\d{1,18}) (.*?\.json) (.+)|driver (\d{1,18}) (\S+) (.+)")
 REFUSED = {
     "layer": "VK_ERROR_LAYER_NOT_PRESENT",
     "no": "VK_ERROR_INCOMPATIBLE_DRIVER",
@@ -129,17 +129,25 @@ class _Walk:
         """One report, which must be one of this call and its arguments."""
         number = {k: None if found[k] is None else int(found[k]) for k in ("index", "children", "other")}
         report = Report(call.number, int(found["place"]), *found.group("identifier", "rule", "parameter", "argument"),
-                        number["index"], number["children"], number["other"], found["label"] or "")
+                        number["index"], number["children"], number["other"], label=found["label"] or "")
         other = self.open.get(report.other) if report.other else None
         there = report.place <= len(self.force.parts if self.force else [])
         fits = there and found["command"] == call.command and _is_written(call, report)
         if not fits or (report.rule == "overlap") != (other is not None and other.thread != call.thread):
             self.at -= 1
             raise self.stranger(f"a report that fits call {call.number}, {call.written() or 'without arguments'},")
+        report.who = self.who(report.place)
         report.label = report.label or self.run.labels.get(report.argument, "")
         report.words = sentences.sentence(report, call, other, self.run)
         call.reports.append(report)
         self.run.reports.append(report)
+
+    def who(self, place: int) -> str:
+        """Who reports at a place: the loader, or a part of a layer of the chain in force."""
+        if place == 0 or self.force is None:
+            return "the loader"
+        kind, layer = self.force.parts[place - 1]
+        return f"part {place}, {kind}, of {layer}"
 
     def stops(self, call: Call) -> bool:
         """Whether a report skips the call. Those that a text leaves out are judged by the objects."""

@@ -14,7 +14,7 @@ BEGIN = re.compile(
     r"b (?P<thread>[1-9]\d{0,3}) (?P<command>vk\w+)(?P<arguments>(?: (?:%\d+\.\d+|null|\[[^ \]]*\]))*)"
     r"(?: = (?P<results>\S+))? (?P<code>VK_[A-Z0-9_]+|void)(?: : (?P<payload>.+))?"
 )
-TIME = re.compile(r"#.*?\b(?:time[ =:]+(\d+)|(\d+) (?:us|microseconds))\b")
+TIME = re.compile(r"#.*?\b(?:time[ =:]+(\d{1,18})|(\d{1,18}) (?:us|microseconds))\b")
 MOST_THREADS = 1024
 
 
@@ -35,6 +35,7 @@ class Report:
     index: int | None = None
     children: int | None = None
     other: int | None = None
+    who: str = ""
     label: str = ""
     words: str = ""
 

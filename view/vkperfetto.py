@@ -20,7 +20,8 @@ PROCESS = 1
 
 
 class Clock:
-    """The time of each event's place. Between two times that a trace gives, events stand at even steps."""
+    """The time of each event's place. Between two times that a trace gives, and before and behind all of them, events
+    stand at even steps, none before time 0."""
 
     def __init__(self, trace: Trace):
         self.marks: list[tuple[int, float]] = []
@@ -38,7 +39,7 @@ class Clock:
             return float(place)
         after = min(max(bisect.bisect_right(self.places, place), 1), len(self.marks) - 1)
         (first, start), (second, stop) = self.marks[after - 1], self.marks[after]
-        return round(start + (place - first) * (stop - start) / (second - first), 3)
+        return max(0.0, round(start + (place - first) * (stop - start) / (second - first), 3))
 
 
 def event(phase: str, name: str, thread: int, time: float, **more: object) -> dict[str, object]:

@@ -99,25 +99,16 @@ def call_columns(run: Run, calls: list[Call]) -> dict[str, object]:
     }
 
 
-def report_rows(reports: list[Report], run: Run) -> list[dict[str, object]]:
+def report_rows(reports: list[Report]) -> list[dict[str, object]]:
     """The reports with their sentences."""
     return [
         {
-            "call": r.call, "place": r.place, "who": who(r, run), "identifier": r.identifier, "rule": r.rule,
+            "call": r.call, "place": r.place, "who": r.who, "identifier": r.identifier, "rule": r.rule,
             "argument": r.argument, "index": r.index, "children": r.children, "with": r.other, "label": r.label,
             "words": r.words,
         }
         for r in reports
     ]
-
-
-def who(report: Report, run: Run) -> str:
-    """Who reports: the loader, or a part of a layer of the chain in force."""
-    if report.place == 0:
-        return "the loader"
-    chain = [c for c in run.chains if c.call < report.call and not c.refused][-1]
-    kind, layer = chain.parts[report.place - 1]
-    return f"part {report.place}, {kind}, of {layer}"
 
 
 def chain_row(chain: Chain) -> dict[str, object]:
@@ -153,7 +144,7 @@ def data(run: Run, trace: str, text: str) -> dict[str, object]:
             "calls": len(run.calls), "skipped": run.skipped,
             "reports": run.told_reports, "objects": len(run.objects.all),
         },
-        "left": left_out(run, calls, reports), "calls": call_columns(run, calls), "reports": report_rows(reports, run),
+        "left": left_out(run, calls, reports), "calls": call_columns(run, calls), "reports": report_rows(reports),
         "notes": run.notes, "chains": [chain_row(c) for c in run.chains], "objects": object_rows(run, calls),
     }
 
