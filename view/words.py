@@ -1,4 +1,5 @@
 """What both programs do with their words: they read the files, and say in one line why there is nothing to show."""
+import gc
 import sys
 from collections.abc import Callable
 
@@ -40,6 +41,7 @@ def main(program: str, usage: str, names: bool, show: Callable[[Run, str, str], 
     if paths is None:
         print(f"usage: {usage}", file=sys.stderr)
         return 2
+    gc.disable()  # all of a run lives to the end, and looking through it again and again took half of the time
     try:
         run = read_run(_read(paths[0]), _read(paths[1]), _read(paths[2]) if paths[2] is not None else b"")
     except Refused as why:
