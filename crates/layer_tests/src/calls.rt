@@ -42,10 +42,6 @@ pub(crate) type Lists = &'static [&'static [u64]];
 #[derive(Clone, Copy)]
 pub(crate) struct Named(pub CommandId, pub Lists);
 
-// A call that comes back with one result; 0 for none.
-#[derive(Clone, Copy)]
-pub(crate) struct Made(pub CommandId, pub Lists, pub u64);
-
 /// A call with these handles in each of its parameters.
 pub(crate) fn call_of(alloc: Global, cmd: CommandId, params: &[&[u64]]) -> Result<LayerCall, Fail>
     ensures shape { IfOk result (λ call. HasParams call) }

@@ -4,7 +4,7 @@ ghost use Rattle.std.specs.Prelude.{◌<◌, length};
 ghost use Rattle.object_records.specs.Shape.{HasParams};
 ghost use Rattle.lifetime_layer.specs.Shape.{HasFewPlaces};
 
-use crate::calls::{Made, Named, call_of};
+use crate::calls::{Named, call_of};
 use command_tables::{LayerCall, Rule};
 use lifetime_layer::{Finding, LifeState, Verdict};
 use std::alloc::Global;
@@ -21,8 +21,6 @@ pub(crate) enum Step {
     Makes(Named, u64),
     // Just this is found at a call, and the call is skipped if there is any of it.
     Finds(Named, &'static [Found]),
-    // Just this is found at a call whose second parameter is written with a name that isn't born.
-    FindsUnborn(Named, &'static [Found]),
     // A call that came in before comes back with one result.
     Leaves(Named, u64),
     // So many objects live.
@@ -70,29 +68,13 @@ fn enters(
 }
 
 // Whether just this is found at a call, and the call is skipped if there is any of it.
-pub(crate) fn is_found(
+fn is_found(
     alloc: Global,
     state: &mut LifeState,
     named: &Named,
     found: &[Found],
 ) -> Result<bool, Fail> {
     let call = call_of(alloc, named.0, named.1)?;
-    enters(alloc, state, &call, found)
-}
-
-// The same, where the call's second parameter is written with a name that isn't born.
-fn is_found_unborn(
-    alloc: Global,
-    state: &mut LifeState,
-    named: &Named,
-    found: &[Found],
-) -> Result<bool, Fail> {
-    let mut call = call_of(alloc, named.0, named.1)?;
-    let _count = call.args.len();
-    if call.args.len() < 2 || call.args.param(1).len() < 1 {
-        return Err("no second parameter".into());
-    }
-    call.args.mark_unborn(1, 0);
     enters(alloc, state, &call, found)
 }
 
@@ -111,23 +93,6 @@ fn is_made(alloc: Global, state: &mut LifeState, named: &Named, handle: u64) -> 
     Ok(is_clean)
 }
 
-// The same of a call of a table.
-fn comes_back(alloc: Global, state: &mut LifeState, made: &Made) -> Result<bool, Fail> {
-    is_made(alloc, state, &Named(made.0, made.1), made.2)
-}
-
-pub(crate) fn make_all(
-    rt: &impl Abort,
-    alloc: Global,
-    state: &mut LifeState,
-    calls: &[Made],
-) -> Result<(), Fail> {
-    for i in 0..calls.len() {
-        assert!(rt; comes_back(alloc, state, &calls[i])?, "at made {i}");
-    }
-    Ok(())
-}
-
 fn goes(
     rt: &impl Abort,
     alloc: Global,
@@ -140,7 +105,6 @@ fn goes(
     match &steps[i] {
         Step::Makes(named, handle) => is_made(alloc, state, named, *handle),
         Step::Finds(named, found) => is_found(alloc, state, named, found),
-        Step::FindsUnborn(named, found) => is_found_unborn(alloc, state, named, found),
         Step::Leaves(named, handle) => {
             leave(alloc, state, named, *handle)?;
             Ok(true)

@@ -3,7 +3,7 @@
 ghost use Rattle.object_records.specs.Shape.{HasParams};
 ghost use Rattle.lifetime_layer.specs.Shape.{HasFewPlaces};
 
-use crate::calls::{Made, Named, call_of};
+use crate::calls::{Named, call_of};
 use command_tables::{LayerCall, Rule};
 use lifetime_layer::{Finding, Verdict};
 use std::alloc::Global;
@@ -13,14 +13,7 @@ use thread_layer::UseState;
 
 // A thread with the number of its call.
 #[derive(Clone, Copy)]
-pub(crate) struct Caller {
-    pub thread: u32,
-    pub number: u64,
-}
-
-pub(crate) fn on(thread: u32, number: u64) -> Caller {
-    Caller { thread, number }
-}
+pub(crate) struct Caller(pub u32, pub u64);
 
 // An argument by its parameter and place, and the number of the call that it overlaps with.
 #[derive(Clone, Copy)]
@@ -29,13 +22,13 @@ pub(crate) struct Overlap(pub u8, pub u32, pub u64);
 #[derive(Clone, Copy)]
 pub(crate) enum Step {
     // A call begins on a thread with a number: just these overlaps are found, and it isn't skipped.
-    Begins(u32, u64, Named, &'static [Overlap]),
+    Begins(Caller, Named, &'static [Overlap]),
     // A thread's call comes back with one result; 0 for none.
     Ends(u32, Named, u64),
 }
 
 // An overlap with a call, found by the part at place 3.
-pub(crate) fn overlap_finding(param: u8, index: u32, number: u64) -> Finding {
+fn overlap_finding(param: u8, index: u32, number: u64) -> Finding {
     Finding {
         place: 3,
         param,
@@ -66,27 +59,15 @@ fn enters(
 {
     let mut verdict = Verdict::new(alloc);
     state
-        .enter(caller.thread, caller.number, call, &mut verdict)
+        .enter(caller.0, caller.1, call, &mut verdict)
         .ok()
         .ok_or("memory")?;
     Ok(verdict.findings.as_slice() == findings && !verdict.skip)
 }
 
-// Whether a call that begins has just these findings, and isn't skipped.
-pub(crate) fn is_found(
-    alloc: Global,
-    state: &mut UseState,
-    caller: Caller,
-    named: &Named,
-    findings: &[Finding],
-) -> Result<bool, Fail> {
-    let call = call_of(alloc, named.0, named.1)?;
-    enters(alloc, state, caller, &call, findings)
-}
-
 // A thread's call comes back with one result; 0 for none.
 #[tactic(auto, using(object_records::proofs::Once::one_once))]
-pub(crate) fn end(
+fn end(
     alloc: Global,
     state: &mut UseState,
     thread: u32,
@@ -95,26 +76,6 @@ pub(crate) fn end(
 ) -> Result<(), Fail> {
     let call = call_of(alloc, named.0, named.1)?;
     state.leave(thread, &call, &[handle]).ok().ok_or("memory")?;
-    Ok(())
-}
-
-// Whether a call that begins on the first thread, and comes back with its result, has no findings.
-fn is_made(alloc: Global, state: &mut UseState, made: &Made) -> Result<bool, Fail> {
-    let named = Named(made.0, made.1);
-    let is_clean = is_found(alloc, state, on(1, 1), &named, &[])?;
-    end(alloc, state, 1, &named, made.2)?;
-    Ok(is_clean)
-}
-
-pub(crate) fn make_all(
-    rt: &impl Abort,
-    alloc: Global,
-    state: &mut UseState,
-    calls: &[Made],
-) -> Result<(), Fail> {
-    for i in 0..calls.len() {
-        assert!(rt; is_made(alloc, state, &calls[i])?, "at made {i}");
-    }
     Ok(())
 }
 
@@ -127,14 +88,13 @@ fn begins(
     overlaps: &[Overlap],
 ) -> Result<bool, Fail> {
     let findings = findings_of(alloc, overlaps)?;
-    is_found(alloc, state, caller, named, &findings)
+    let call = call_of(alloc, named.0, named.1)?;
+    enters(alloc, state, caller, &call, &findings)
 }
 
 fn goes(alloc: Global, state: &mut UseState, step: &Step) -> Result<bool, Fail> {
     match step {
-        Step::Begins(thread, number, named, overlaps) => {
-            begins(alloc, state, on(*thread, *number), named, overlaps)
-        }
+        Step::Begins(caller, named, overlaps) => begins(alloc, state, *caller, named, overlaps),
         Step::Ends(thread, named, handle) => {
             end(alloc, state, *thread, named, *handle)?;
             Ok(true)

@@ -1,79 +1,50 @@
-//! A small world for the stories: a device with a queue, a command pool and a descriptor pool.
-use crate::calls::{Made, Named};
-use crate::thread_steps::{Overlap, Step, all_go, make_all};
+//! A copy of a part that finds overlaps, and a handle that no trace has.
+use crate::calls::Named;
+use crate::thread_steps::{Caller, Overlap, Step, all_go};
 use command_tables::CommandId;
 use std::alloc::Global;
 use std::process::Abort;
 use std::test::Fail;
 use thread_layer::UseState;
 
-// The instance 1, its physical device 2, and the device 3 with the queue 4.
-static QUEUE: [Made; 4] = [
-    Made(CommandId::CreateInstance, &[], 1),
-    Made(CommandId::EnumeratePhysicalDevices, &[&[1]], 2),
-    Made(CommandId::CreateDevice, &[&[2]], 3),
-    Made(CommandId::GetDeviceQueue, &[&[3]], 4),
-];
+const CREATE_INSTANCE: Named = Named(CommandId::CreateInstance, &[]);
 
-// The command pool 5 with the command buffers 6 and 7.
-pub(crate) static COMMAND_POOL: [Made; 3] = [
-    Made(CommandId::CreateCommandPool, &[&[3]], 5),
-    Made(CommandId::AllocateCommandBuffers, &[&[3], &[5]], 6),
-    Made(CommandId::AllocateCommandBuffers, &[&[3], &[5]], 7),
-];
+const ENUMERATE: Named = Named(CommandId::EnumeratePhysicalDevices, &[&[1]]);
 
-// The descriptor pool 8 with the set 9.
-pub(crate) static SET: [Made; 2] = [
-    Made(CommandId::CreateDescriptorPool, &[&[3]], 8),
-    Made(CommandId::AllocateDescriptorSets, &[&[3], &[8], &[10]], 9),
-];
+const CREATE_DEVICE: Named = Named(CommandId::CreateDevice, &[&[2]]);
 
-// The instance, its physical device, and the device with the queue, and what these calls make besides.
-pub(crate) fn make(
-    rt: &impl Abort,
-    alloc: Global,
-    state: &mut UseState,
-    besides: &[Made],
-) -> Result<(), Fail> {
-    make_all(rt, alloc, state, &QUEUE)?;
-    make_all(rt, alloc, state, besides)
-}
-
-// On the device with its queue and what these calls make besides, each step goes as it must.
-fn go_from(
-    rt: &impl Abort,
-    alloc: Global,
-    state: &mut UseState,
-    besides: &[Made],
-    steps: &[Step],
-) -> Result<(), Fail> {
-    make(rt, alloc, state, besides)?;
-    all_go(rt, alloc, state, steps)
-}
-
-// The same, of a part at place 3.
-pub(crate) fn tell(
-    rt: &impl Abort,
-    alloc: Global,
-    besides: &[Made],
-    steps: &[Step],
-) -> Result<(), Fail> {
-    let mut state = UseState::new(alloc, 3);
-    go_from(rt, alloc, &mut state, besides, steps)
-}
+const GET_QUEUE: Named = Named(CommandId::GetDeviceQueue, &[&[3]]);
 
 const WAIT: Named = Named(CommandId::QueueWaitIdle, &[&[4]]);
 
-static BEFORE_THE_COPY: [Step; 1] = [Step::Begins(1, 20, WAIT, &[])];
+const WAIT_FOR_NOTHING: Named = Named(CommandId::QueueWaitIdle, &[&[40]]);
 
-static OF_THE_COPY: [Step; 4] = [
-    Step::Begins(2, 21, WAIT, &[Overlap(0, 0, 20)]),
-    Step::Ends(2, WAIT, 0),
-    Step::Ends(1, WAIT, 0),
-    Step::Begins(2, 22, WAIT, &[]),
+// The instance 1, its physical device 2, and the device 3 with the queue 4. A queue that nothing gave isn't used, and the wait for
+// the other is open.
+static BEFORE_THE_COPY: [Step; 13] = [
+    Step::Begins(Caller(1, 1), CREATE_INSTANCE, &[]),
+    Step::Ends(1, CREATE_INSTANCE, 1),
+    Step::Begins(Caller(1, 2), ENUMERATE, &[]),
+    Step::Ends(1, ENUMERATE, 2),
+    Step::Begins(Caller(1, 3), CREATE_DEVICE, &[]),
+    Step::Ends(1, CREATE_DEVICE, 3),
+    Step::Begins(Caller(1, 4), GET_QUEUE, &[]),
+    Step::Ends(1, GET_QUEUE, 4),
+    Step::Begins(Caller(1, 11), WAIT_FOR_NOTHING, &[]),
+    Step::Begins(Caller(2, 12), WAIT_FOR_NOTHING, &[]),
+    Step::Ends(1, WAIT_FOR_NOTHING, 0),
+    Step::Ends(2, WAIT_FOR_NOTHING, 0),
+    Step::Begins(Caller(1, 20), WAIT, &[]),
 ];
 
-static OF_THE_ORIGINAL: [Step; 1] = [Step::Begins(3, 23, WAIT, &[Overlap(0, 0, 20)])];
+static OF_THE_COPY: [Step; 4] = [
+    Step::Begins(Caller(2, 21), WAIT, &[Overlap(0, 0, 20)]),
+    Step::Ends(2, WAIT, 0),
+    Step::Ends(1, WAIT, 0),
+    Step::Begins(Caller(2, 22), WAIT, &[]),
+];
+
+static OF_THE_ORIGINAL: [Step; 1] = [Step::Begins(Caller(3, 23), WAIT, &[Overlap(0, 0, 20)])];
 
 // A copy with room for three births, and for three further open calls with three uses.
 fn goes_on(rt: &impl Abort, alloc: Global, copy: &mut UseState) -> Result<(), Fail> {
@@ -87,7 +58,7 @@ fn copy_goes_on(rt: &impl Abort, alloc: Global, state: &UseState) -> Result<(), 
 }
 
 fn go_apart(rt: &impl Abort, alloc: Global, state: &mut UseState) -> Result<(), Fail> {
-    go_from(rt, alloc, state, &[], &BEFORE_THE_COPY)?;
+    all_go(rt, alloc, state, &BEFORE_THE_COPY)?;
     copy_goes_on(rt, alloc, state)?;
     all_go(rt, alloc, state, &OF_THE_ORIGINAL)
 }
