@@ -170,7 +170,7 @@ def is_clean(trace, calls):
         raise Wrong(f"status {ended}, and {len(returns)} returns of {calls}")
 
 
-def cases(_):
+def cases():
     for part in (longest_lines, longest_payloads, full_lines, most_names, most_devices, cut_traces, cut_files):
         yield from part()
     yield from generated_traces()
