@@ -1,5 +1,6 @@
 """Replays of what is long: lines and lists of the most bytes and of one more, many lines, the most names, traces and
 stream files that are cut, and generated traces. What is wanted follows from the rule that stands beside it."""
+import limits
 from runs import ALONE, MACHINE, THREADS, TOP, VALIDATED, Wrong, ran, run
 from traces import BARE, DEVICE, DEVICE_TEXT, INSTANCE, LONGEST, START, WAIT, calls_of, end, generated, waited
 
@@ -101,6 +102,15 @@ def most_devices():
     yield "65 streams", run, THREADS, MACHINE, ("", "line 67: Section", 3), "".join(streams) + "teardown\n"
 
 
+def more_of_files():
+    """Stream files with the most events and the most names, and one more of them in teardown."""
+    more = "teardown\nb 1024 vkCreateFence %1.3 = %1024.1 VK_SUCCESS\nr 1024\n"
+    for what, made in (("Events", limits.many_events), ("Names", limits.many_names), ("Names", limits.names_before)):
+        wanted = "", f"limit {what} 262144", 6
+        given = lambda made=made: "".join(made()).replace("teardown\n", more)
+        yield f"{made.__name__} and one more", run, THREADS, MACHINE, wanted, given
+
+
 def cut_traces():
     """A trace in which each begin returns at once, cut behind each byte. It ends well where it is cut behind a return,
     or before the end of its line, and has then its end line; else it stops. Before the first begin nothing is printed,
@@ -171,6 +181,7 @@ def is_clean(trace, calls):
 
 
 def cases():
-    for part in (longest_lines, longest_payloads, full_lines, most_names, most_devices, cut_traces, cut_files):
+    yield from longest_lines()
+    for part in (longest_payloads, full_lines, most_names, most_devices, more_of_files, cut_traces, cut_files):
         yield from part()
     yield from generated_traces()
