@@ -178,7 +178,7 @@ SOAK = ["soak", "--number", "1", "--calls"]
 
 # What it is, the words, the variables, what is given, the text, the line that is said, the status, and the bound in MB,
 # about 1.5 times what was measured, which stands behind it. ROOM stands for the folder of the machines.
-ALONE = [
+TRACES = [
     ("a million turns", [*SOAK, "1000000", "--root", MACHINE], {}, nothing, soaked(1_000_000), "", 0, 0),  # 0
     ("a million turns, validated", [*SOAK, "1000000", "--root", MACHINE], VALIDATED, nothing, soaked(1_000_000), "", 0,
      0),  # 0
@@ -198,7 +198,7 @@ ALONE = [
 ]
 
 # The same of stream files, which are never at fault: what is wanted of them is the calls that they have.
-THREADS = [
+FILES = [
     ("64 streams, 16 devices, 262,144 events", {}, many_events, 131_072, 0),  # 0
     ("64 streams, 16 devices, 262,144 events, validated", VALIDATED, many_events, 131_072, 0),  # 0
     ("262,144 names, most of streams", {}, many_names, 767, 0),  # 0
@@ -282,11 +282,11 @@ def measured(number, room):
     """Measures a row of both tables."""
     programs = [os.environ.get(name, f"{TOP}/crates/{crate}/out/{crate}")
                 for name, crate in (("VKREPLAY", "vkreplay"), ("VKREPLAY_MT", "vkreplay_mt"))]
-    if number < len(ALONE):
-        _, words, variables, given, text, line, status, _ = ALONE[number]
+    if number < len(TRACES):
+        _, words, variables, given, text, line, status, _ = TRACES[number]
         words = [word.replace("ROOM", room) for word in words]
         return measure(programs[0], words, variables, given, lambda wrote: compared(wrote, text), line, status)
-    _, variables, given, calls, _ = THREADS[number - len(ALONE)]
+    _, variables, given, calls, _ = FILES[number - len(TRACES)]
     words = ["--root", MACHINE]
     return measure(programs[1], words, variables, given, lambda wrote: merged(wrote, given, variables, calls), "", 0)
 
@@ -295,7 +295,7 @@ def bounded(number, room, took):
     """That a row is as it must be, measured by a process of its own, within its bound."""
     import subprocess
     from runs import Wrong
-    what, *_, bound = [*ALONE, *THREADS][number]
+    what, *_, bound = [*TRACES, *FILES][number]
     words = [sys.executable, "-S", "-E", "-B", __file__, str(number), room]
     said = subprocess.run(words, stdout=subprocess.PIPE, text=True).stdout
     if not said:
@@ -311,7 +311,7 @@ def bounded(number, room, took):
 def cases(room, took):
     """The rows as cases; what they took is appended to a list."""
     machines(room)
-    for number, (what, *_) in enumerate([*ALONE, *THREADS]):
+    for number, (what, *_) in enumerate([*TRACES, *FILES]):
         yield what, bounded, number, str(room), took
 
 
