@@ -197,13 +197,14 @@ function* inView() {
   for (let at = first; at < run.reports.length && beginOf(at) < state.to; at += 1) yield at;
 }
 
+// Marks stand side by side: where reports are denser, the first of each place is drawn.
 function drawReports(first, last) {
   const seen = new Set();
   for (const at of inView()) {
     const call = reportCall[at];
     const lane = calls.lane[call];
     const x = Math.round(markX(call));
-    const key = lane * 100000 + x;
+    const key = lane * 100000 + Math.floor(x / 9);
     if (rowOf[lane] < first || rowOf[lane] > last || x < LEFT || seen.has(key)) continue;
     seen.add(key);
     drawMark(pen, run.reports[at].rule, x, topOf(lane) + 8, colours.mark, colours.panel);
@@ -220,7 +221,7 @@ function drawOverlaps() {
   for (const at of inView()) {
     const report = run.reports[at];
     if (report.with === null || at === state.report) continue;
-    const key = [Math.round(xOf(beginOf(at))), calls.lane[reportCall[at]], calls.lane[placeOf(report.with)]].join(" ");
+    const key = [Math.floor(xOf(beginOf(at)) / 3), calls.lane[reportCall[at]], calls.lane[placeOf(report.with)]].join(" ");
     if (seen.has(key)) continue;
     seen.add(key);
     joinCalls(report, 1);
