@@ -189,7 +189,7 @@ function drawMark(onto, rule, x, y, colour, ground) {
 
 const markX = (call) => xOf(calls.begin[call]) + 7;
 
-const beginOf = (at) => calls.begin[placeOf(run.reports[at].call)];
+const beginOf = (at) => calls.begin[reportCall[at]];
 
 // The reports that stand in view, as places of the list.
 function* inView() {
@@ -197,13 +197,14 @@ function* inView() {
   for (let at = first; at < run.reports.length && beginOf(at) < state.to; at += 1) yield at;
 }
 
+// Marks stand side by side: where reports are denser, the first of each place is drawn.
 function drawReports(first, last) {
   const seen = new Set();
   for (const at of inView()) {
-    const call = placeOf(run.reports[at].call);
+    const call = reportCall[at];
     const lane = calls.lane[call];
     const x = Math.round(markX(call));
-    const key = lane * 100000 + x;
+    const key = lane * 100000 + Math.floor(x / 9);
     if (rowOf[lane] < first || rowOf[lane] > last || x < LEFT || seen.has(key)) continue;
     seen.add(key);
     drawMark(pen, run.reports[at].rule, x, topOf(lane) + 8, colours.mark, colours.panel);
@@ -220,8 +221,7 @@ function drawOverlaps() {
   for (const at of inView()) {
     const report = run.reports[at];
     if (report.with === null || at === state.report) continue;
-    const ends = [report.call, report.with].map((number) => calls.lane[placeOf(number)]);
-    const key = [Math.round(xOf(beginOf(at))), ...ends].join(" ");
+    const key = [Math.floor(xOf(beginOf(at)) / 3), calls.lane[reportCall[at]], calls.lane[placeOf(report.with)]].join(" ");
     if (seen.has(key)) continue;
     seen.add(key);
     joinCalls(report, 1);
@@ -331,7 +331,7 @@ function reportAt(lane, x, y) {
   if (y > topOf(lane) + 16) return -1;
   const start = lower(run.reports.length, placeAt(x - 16), beginOf);
   for (let at = start; at < run.reports.length && beginOf(at) <= placeAt(x + 9); at += 1) {
-    const call = placeOf(run.reports[at].call);
+    const call = reportCall[at];
     if (calls.lane[call] === lane && Math.abs(markX(call) - x) <= 9) return at;
   }
   return -1;

@@ -103,8 +103,11 @@ function moreOf(node, list, some, make, from = 0) {
   node.append(rest);
 }
 
+// Shows what is chosen, and says its head and its first report to who can't see it.
 function show(nodes) {
   byId("chosen").replaceChildren(...nodes);
+  const report = document.querySelector("#chosen .said p");
+  byId("said").textContent = nodes[0].textContent + (report ? `. ${report.textContent}` : "");
   byId("detail").scrollTop = 0;
   for (const row of document.querySelectorAll("#report-list .row[data-report]")) {
     row.setAttribute("aria-current", String(Number(row.dataset.report) === state.report));

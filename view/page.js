@@ -63,6 +63,7 @@ run.objects.forEach((object, at) => object.names.forEach((name) => objectOf.set(
 const children = run.objects.map(() => []);
 const roots = [];
 run.objects.forEach((object, at) => (object.owner === null ? roots : children[object.owner]).push(at));
+const reportCall = run.reports.map((report) => placeOf(report.call));
 const reportsOf = new Map();
 run.reports.forEach((report, at) => {
   if (!reportsOf.has(report.call)) reportsOf.set(report.call, []);
