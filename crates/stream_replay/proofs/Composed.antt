@@ -110,6 +110,7 @@ module _ (s : Setup) (file : FileParts) (merge : List TraceEvent) (whole : IsGap
         record {
           merged = merged;
           replies = replies_are;
+          each = record { setup = went.stands.stands.each; before = stands_between.stands.each };
           stands = subst (λ es. StandsFor s k2 es (all_replies replies_are)) (sym turned) (goes.stands (reverse merge ++ reverse file.setup) (replies_before replies_are) stands_between whole);
           wrote = all_wrote none text_on;
           first = first;

@@ -1,5 +1,5 @@
 -- What the replay of a stream file comes to. Files and merges stand oldest first, the events and replies of traces newest first. Source: this project.
-use Rattle.std.specs.Prelude.{◌≡◌, ⊤, ℕ, Bool, Option, Some, None, List, [], ◌∷◌, ◌++◌, map, reverse, slice_get}
+use Rattle.std.specs.Prelude.{◌≡◌, ⊤, ℕ, Bool, Option, Some, None, List, [], ◌∷◌, ◌++◌, length, map, reverse, slice_get}
 use Rattle.std.specs.List.{AllByRecursion, slice_index_or}
 use Rattle.std.specs.Global.{Vec}
 use Rattle.command_tables.specs.Calls.{DriverCallContent, ReplyContent}
@@ -7,7 +7,7 @@ use Rattle.trace_format.specs.declared.event.Name.{Name}
 use Rattle.trace_format.specs.Content.{TraceEvent}
 use Rattle.trace_format.specs.Grammar.{IsEvent}
 use Rattle.model_driver.specs.Logs.{Log}
-use Rattle.replay_model.specs.Direct.{exchanges}
+use Rattle.replay_model.specs.Direct.{exchanges, sends_in}
 use Rattle.replay_model.specs.Judged.{judged}
 use Rattle.replay_model.specs.Setup.{Setup}
 use Rattle.replay_model.specs.Text.{lines}
@@ -46,6 +46,11 @@ replies_before r = r.merge ++ r.setup
 abbrev pub all_replies : SectionReplies → List ReplyContent
 all_replies r = r.teardown ++ replies_before r
 
+-- Setup and the merge have each as many replies as driver calls, so that no reply to a call of the one counts for the other.
+pub record AnswerEach (s : Setup) (file : FileParts) (merge : List TraceEvent) (r : SectionReplies) : Type 0 where
+  pub setup : length r.setup ≡ sends_in (judged s (reverse file.setup))
+  pub before : length (replies_before r) ≡ sends_in (judged s (reverse merge ++ reverse file.setup))
+
 -- a log has just these, where it is told
 abbrev pub TellsJust : List (DriverCallContent × ReplyContent) → Log → Type 0
 TellsJust told None = ⊤
@@ -69,6 +74,7 @@ TellStreams log s file merge r _ _ = ⊥
 pub record HasReplayed {S : Type 0} (log : S → Log) (s : Setup) (file : FileParts) (merge : List TraceEvent) (text : List ℕ) (k : Option Kept) (seats : List S) : Type 0 where
   pub merged : IsMerge file.streams merge
   pub replies : SectionReplies
+  pub each : AnswerEach s file merge replies
   pub stands : StandsFor s k (reverse (merged_events file merge)) (all_replies replies)
   pub wrote : text ≡ lines s (judged s (reverse (merged_events file merge)))
   pub first : S
