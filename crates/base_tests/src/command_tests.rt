@@ -42,31 +42,8 @@ fn each_command_is_found(rt: HostRuntime) -> Result<(), Fail> {
     Ok(())
 }
 
-/// Names beside those of the table, and the codes that they spell.
-static CODE_NAMES: [(&str, Option<Code>); 6] = [
-    (
-        "VK_ERROR_OUT_OF_POOL_MEMORY",
-        Some(Code::ErrorOutOfPoolMemory),
-    ),
-    ("", None),
-    ("VK_SUCCES", None),
-    ("VK_SUCCESSS", None),
-    ("vk_success", None),
-    ("void", None),
-];
-
-fn check_code_names(rt: &impl Abort) {
-    for (name, code) in &CODE_NAMES {
-        assert_eq!(rt; Code::find(name.as_bytes()), *code, "at {name}");
-    }
-}
-
 #[test]
-fn each_code_is_found(rt: HostRuntime) {
-    for code in &CODES {
-        let name = code.name();
-        assert_eq!(rt; Code::find(name.as_bytes()), Some(*code), "at {name}");
-    }
+fn codes_stand_in_order(rt: HostRuntime) {
     assert_eq!(rt;
         [CODES[0], CODES[6], CODES[24]],
         [
@@ -75,27 +52,6 @@ fn each_code_is_found(rt: HostRuntime) {
             Code::ErrorValidationFailedExt
         ]
     );
-    check_code_names(&rt);
-}
-
-/// Names near those of commands, and the numbers of the commands that they are of.
-static NAMES: [(&str, Option<u8>); 8] = [
-    ("", None),
-    ("vk", None),
-    ("vkWaitForFence", None),
-    ("vkwaitforfences", None),
-    ("VKWAITFORFENCES", None),
-    (" vkWaitForFences", None),
-    ("vkWaitForFences", Some(92)),
-    ("vkAcquireNextImageKHR", Some(1)),
-];
-
-#[test]
-fn other_names_are_not_found(rt: HostRuntime) {
-    for (name, number) in &NAMES {
-        let found = find(name.as_bytes()).map(|id| id.number());
-        assert_eq!(rt; found, *number, "at {name}");
-    }
 }
 
 #[test]

@@ -3,7 +3,7 @@ ghost use Rattle.std.specs.Prelude.{◌≡◌, Ok, Err, Some};
 ghost use Rattle.replay_base.specs.Bytes.{IsSpent};
 
 use replay_base::{Failed, Line, LineError, LineReader, MemSource, PlainSource, Source};
-use std::alloc::{AllocError, Global};
+use std::alloc::Global;
 use std::process::Abort;
 use std::test::Fail;
 
@@ -165,77 +165,5 @@ fn what_was_read_is_at_hand(rt: HostRuntime) -> Result<(), Fail> {
     check_read(&rt, &mut reader);
     assert_eq!(rt; reader.line(), b"c".as_slice());
     assert_eq!(rt; reader.advance_kept(), Some(Ok(Line::End)));
-    Ok(())
-}
-
-// A line of so many bytes behind a short one.
-fn long_line(alloc: Global, size: usize, end: &[u8]) -> Result<Vec<u8>, AllocError> {
-    let mut bytes = b"a\n".to_vec(alloc)?;
-    bytes.extend_from_slice(&vec![in alloc; b'x'; size]?)?;
-    bytes.extend_from_slice(end)?;
-    Ok(bytes)
-}
-
-// What comes for it.
-fn check_long(
-    rt: &impl Abort,
-    alloc: Global,
-    size: usize,
-    end: &[u8],
-    wanted: Result<Line, LineError>,
-) -> Result<(), Fail> {
-    let bytes = long_line(alloc, size, end)?;
-    let mut reader = reader_of(alloc, PlainSource::new(bytes))?;
-    let mut line = Vec::new(alloc);
-    let found = [reader.next(&mut line), reader.next(&mut line)];
-    assert_eq!(rt; found, [Ok(Line::Text), wanted], "at {size}");
-    if wanted == Ok(Line::Text) {
-        assert_eq!(rt; [line.len(), reader.line().len()], [size, size]);
-    }
-    Ok(())
-}
-
-const TOO_LONG: Result<Line, LineError> = Err(LineError::TooLong { at: 2 });
-
-// Sizes of lines, what stands behind the line, and what comes for it.
-static LONG: [(usize, &str, Result<Line, LineError>); 6] = [
-    (65_535, "\n", Ok(Line::Text)),
-    (65_536, "\n", Ok(Line::Text)),
-    (65_536, "", Ok(Line::Text)),
-    (65_537, "\n", TOO_LONG),
-    (65_537, "", TOO_LONG),
-    (200_000, "\n", TOO_LONG),
-];
-
-#[test]
-fn the_longest_line_has_65536_bytes(rt: HostRuntime) -> Result<(), Fail> {
-    for (size, end, wanted) in &LONG {
-        check_long(&rt, rt.alloc(), *size, end.as_bytes(), *wanted)?;
-    }
-    Ok(())
-}
-
-fn repeated(alloc: Global, line: &[u8], count: usize) -> Result<Vec<u8>, AllocError> {
-    let mut bytes = Vec::new(alloc);
-    for _ in 0..count {
-        bytes.extend_from_slice(line)?;
-    }
-    Ok(bytes)
-}
-
-fn check_next(rt: &impl Abort, reader: &mut LineReader<PlainSource>, next: Line, line: &[u8]) {
-    assert_eq!(rt; reader.advance(), Ok(next));
-    assert_eq!(rt; reader.line(), line);
-}
-
-#[test]
-fn many_lines_go_through_one_buffer(rt: HostRuntime) -> Result<(), Fail> {
-    let alloc = rt.alloc();
-    let bytes = repeated(alloc, b"0123456789abcdef\n", 20_000)?;
-    let mut reader = reader_of(alloc, PlainSource::new(bytes))?;
-    for _ in 0..20_000 {
-        check_next(&rt, &mut reader, Line::Text, b"0123456789abcdef");
-    }
-    check_next(&rt, &mut reader, Line::End, b"");
     Ok(())
 }

@@ -72,6 +72,18 @@ fn a_sink_fails_where_its_list_says_so_and_where_it_is_full(rt: HostRuntime) -> 
 }
 
 #[test]
+fn a_sink_of_a_million_bytes(rt: HostRuntime) -> Result<(), Fail> {
+    let alloc = rt.alloc();
+    let bytes = vec![in alloc; b'x'; 1_000_000]?;
+    let mut sink = MemSink::new(alloc, 1_000_000, Vec::new(alloc))
+        .ok()
+        .ok_or("memory")?;
+    assert_eq!(rt; put_all(&mut sink, &bytes), Ok(()));
+    assert!(rt; sink.bytes() == bytes.as_slice());
+    Ok(())
+}
+
+#[test]
 fn lines_lie_between_line_feeds(rt: HostRuntime) {
     let one = split_line(b"a\r\n\nb");
     assert_eq!(rt; one.line, b"a\r".as_slice());

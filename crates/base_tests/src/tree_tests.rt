@@ -7,7 +7,6 @@ use std::io::{self, ErrorKind, Read};
 use std::process::Abort;
 use std::rt::Files;
 use std::test::Fail;
-use std::{env, process};
 
 // The names in a folder, sorted. What was in the list before is gone.
 fn names_in<T: Tree>(alloc: Global, tree: &mut T, folder: &str) -> Result<Vec<String>, TreeError> {
@@ -106,6 +105,48 @@ fn check_memory_reads(rt: &impl Abort, alloc: Global, tree: &mut MemTree) {
     );
 }
 
+// A tree of so many files in one folder.
+fn crowded(alloc: Global, count: u32) -> Result<MemTree, AllocError> {
+    let mut tree = MemTree::new(alloc);
+    for number in 0..count {
+        let path = format!(in alloc; "/d/{number}.json")?;
+        tree.put(path.as_str(), b"{}").ok().ok_or(AllocError)?;
+    }
+    Ok(tree)
+}
+
+// How many names such a tree lists.
+fn count_names(alloc: Global, count: u32) -> Result<usize, TreeError> {
+    let mut tree = crowded(alloc, count)?;
+    let mut names = Vec::new(alloc);
+    tree.list("/d", &mut names)?;
+    Ok(names.len())
+}
+
+// A tree of one file of so many bytes.
+fn large(alloc: Global, size: usize) -> Result<MemTree, AllocError> {
+    let mut tree = MemTree::new(alloc);
+    let bytes = vec![in alloc; b' '; size]?;
+    tree.put("/d/a.json", &bytes).ok().ok_or(AllocError)?;
+    Ok(tree)
+}
+
+// What a read of it answers.
+fn taken_of(alloc: Global, size: usize) -> Result<(TreeRead, usize), TreeError> {
+    let mut tree = large(alloc, size)?;
+    taken(alloc, &mut tree, "/d/a.json", size)
+}
+
+#[test]
+fn trees_in_memory_of_every_size(rt: HostRuntime) -> Result<(), Fail> {
+    for count in [1u32, 30, 1_000] {
+        assert_eq!(rt; count_names(rt.alloc(), count)?, count as usize);
+    }
+    let found = taken_of(rt.alloc(), 1_048_576)?;
+    assert_eq!(rt; found, (TreeRead::Data, 1_048_576));
+    Ok(())
+}
+
 // The same tree, whose second and fourth call fail.
 fn failing(alloc: Global) -> Result<MemTree, NoMemory> {
     let mut tree = planted(alloc)?;
@@ -130,81 +171,6 @@ fn calls_with_a_listed_number_fail(rt: HostRuntime) -> Result<(), Fail> {
     let alloc = rt.alloc();
     let mut tree = failing(alloc).ok().ok_or("memory")?;
     check_failing(&rt, alloc, &mut tree);
-    Ok(())
-}
-
-// Makes `a.json` of five bytes, `b.txt` of none, and a folder named `x.json`.
-fn plant(rt: &HostRuntime, folder: &str) -> io::Result<()> {
-    let alloc = rt.alloc();
-    fs::create_dir(rt, folder)?;
-    fs::write(rt, format!(in alloc; "{folder}/a.json")?, "12345")?;
-    fs::write(rt, format!(in alloc; "{folder}/b.txt")?, "")?;
-    fs::create_dir(rt, format!(in alloc; "{folder}/x.json")?)
-}
-
-fn own_folder(rt: &HostRuntime) -> Result<String, Fail> {
-    let temp = env::temp_dir(rt)?;
-    let id = process::id(rt.process());
-    Ok(format!(in rt.alloc(); "{}/vkreplay_tree_{id}", temp.as_path().as_str())?)
-}
-
-// Paths in the folder, how many bytes may be read there, and what a read answers.
-static FILES: [(&str, usize, Result<(TreeRead, usize), TreeError>); 7] = [
-    ("a.json", 5, Ok((TreeRead::Data, 5))),
-    ("a.json", 4, Ok((TreeRead::TooLarge, 0))),
-    ("b.txt", 0, Ok((TreeRead::Data, 0))),
-    ("none.json", 9, Ok((TreeRead::Absent, 0))),
-    ("none/a.json", 9, Ok((TreeRead::Absent, 0))),
-    ("a.json/a.json", 9, Ok((TreeRead::Absent, 0))),
-    ("x.json", 9, Err(TreeError::Failed)),
-];
-
-fn check_files<T: Tree>(
-    rt: &impl Abort,
-    alloc: Global,
-    tree: &mut T,
-    folder: &str,
-) -> Result<(), AllocError> {
-    for (name, max, wanted) in &FILES {
-        let path = format!(in alloc; "{folder}/{name}")?;
-        assert_eq!(rt;
-            taken(alloc, tree, path.as_str(), *max),
-            *wanted,
-            "at {name}"
-        );
-    }
-    Ok(())
-}
-
-fn check_no_names<T: Tree>(
-    rt: &impl Abort,
-    alloc: Global,
-    tree: &mut T,
-    folder: &str,
-) -> Result<(), TreeError> {
-    for name in ["none", "a.json", "a.json/b", "x.json"] {
-        let path = format!(in alloc; "{folder}/{name}")?;
-        check_list(rt, alloc, tree, path.as_str(), "")?;
-    }
-    Ok(())
-}
-
-#[test]
-fn the_file_system_is_a_tree(rt: HostRuntime) -> Result<(), Fail> {
-    let alloc = rt.alloc();
-    let folder = own_folder(&rt)?;
-    plant(&rt, folder.as_str())?;
-    let mut tree = FsTree::new(&rt);
-    check_list(
-        &rt,
-        alloc,
-        &mut tree,
-        folder.as_str(),
-        "a.json b.txt x.json ",
-    )?;
-    check_files(&rt, alloc, &mut tree, folder.as_str())?;
-    check_no_names(&rt, alloc, &mut tree, folder.as_str())?;
-    fs::remove_dir_all(&rt, folder.as_str())?;
     Ok(())
 }
 

@@ -12,7 +12,7 @@ use thiserror::Error;
 pub(crate) const MOST_LAYERS: usize = 64;
 
 /// What is said beside a chain, once for each occurrence of the name.
-#[derive(Debug, Drop, PartialEq, Eq)]
+#[derive(Debug, PartialEq, Eq)]
 pub enum ChainNote {
     /// A name of `VK_INSTANCE_LAYERS` that no layer has which can be used.
     EnvMissing(String),
@@ -20,13 +20,33 @@ pub enum ChainNote {
     Off(String),
 }
 
+impl Drop for ChainNote {
+    fn drop(self) {
+        match self {
+            ChainNote::EnvMissing(_part) => {}
+            ChainNote::Off(_part) => {}
+        }
+    }
+}
+
 /// A chain: its layers from the application down, its parts with the places of their layers from 1, the drivers, and notes.
-#[derive(Debug, Drop, PartialEq, Eq)]
+#[derive(Debug, PartialEq, Eq)]
 pub struct Chain {
     pub layers: Vec<FoundLayer>,
     pub parts: Vec<(PartKind, u32)>,
     pub drivers: Vec<FoundDriver>,
     pub notes: Vec<ChainNote>,
+}
+
+impl Drop for Chain {
+    fn drop(self) {
+        let Chain {
+            layers: _layers,
+            parts: _parts,
+            drivers: _drivers,
+            notes: _notes,
+        } = self;
+    }
 }
 
 /// A chain, or why there is none.

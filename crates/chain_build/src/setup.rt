@@ -4,7 +4,6 @@ use env_filters::EnvList;
 use layer_search::{Drivers, FoundLayer, LayerList};
 
 /// The drivers, layers and variables of a run, and the path of the executable.
-#[derive(Drop)]
 pub struct Setup {
     pub drivers: Drivers,
     pub explicit: LayerList,
@@ -14,4 +13,17 @@ pub struct Setup {
     pub over: Option<FoundLayer>,
     pub env: EnvList,
     pub exe: String,
+}
+
+impl Drop for Setup {
+    fn drop(self) {
+        let Setup {
+            drivers: _drivers,
+            explicit: _explicit,
+            implicit: _implicit,
+            over: _over,
+            env: _env,
+            exe: _exe,
+        } = self;
+    }
 }

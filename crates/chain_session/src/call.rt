@@ -14,7 +14,6 @@ use trace_format::Name;
 
 /// An open call: how it was judged, the call as it stood above each part that it came to and above the terminator, and what its drivers
 /// answered.
-#[derive(Drop)]
 pub struct OpenCall {
     pub(crate) number: u64,
     pub(crate) thread: u32,
@@ -33,6 +32,27 @@ pub struct OpenCall {
     pub(crate) bottom: LayerCall,
     /// The chain that comes in force where the call succeeds.
     pub(crate) chain: Option<Chain>,
+}
+
+impl Drop for OpenCall {
+    fn drop(self) {
+        let OpenCall {
+            number: _number,
+            thread: _thread,
+            cmd: _cmd,
+            args: _args,
+            results: _results,
+            code: _code,
+            payload: _payload,
+            stop: _stop,
+            refusal: _refusal,
+            drivers: _drivers,
+            replies: _replies,
+            held: _held,
+            bottom: _bottom,
+            chain: _chain,
+        } = self;
+    }
 }
 
 impl OpenCall {

@@ -8,13 +8,24 @@ use session_tables::ObjectTable;
 
 /// What is kept of the events so far: how many calls there were, how many of them were skipped, and how many reports; what the parts of the
 /// session keep; and the open calls.
-#[derive(Drop)]
 pub struct Kept {
     pub(crate) calls: u64,
     pub(crate) skipped: u64,
     pub(crate) reports: u64,
     pub(crate) parts: SessionParts,
     pub(crate) open_calls: OpenCalls,
+}
+
+impl Drop for Kept {
+    fn drop(self) {
+        let Kept {
+            calls: _calls,
+            skipped: _skipped,
+            reports: _reports,
+            parts: _parts,
+            open_calls: _open_calls,
+        } = self;
+    }
 }
 
 // Each object that lives has one birth.

@@ -11,9 +11,14 @@ use std::alloc::{AllocError, Global};
 use std::marker::Model;
 
 /// The open calls, oldest first. Each stays where it is until it is closed.
-#[derive(Drop)]
 pub struct OpenCalls {
     calls: Vec<Box<OpenCall>>,
+}
+
+impl Drop for OpenCalls {
+    fn drop(self) {
+        let OpenCalls { calls: _calls } = self;
+    }
 }
 
 impl Model for OpenCalls {

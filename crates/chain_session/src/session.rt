@@ -28,12 +28,21 @@ use std::alloc::Global;
 use trace_format::Event;
 
 /// What is kept of the events of a trace so far. Nothing is kept before the first begin, which brings the setup and the kit.
-#[derive(Drop)]
 pub struct Session {
     alloc: Global,
     no_chain: NoChain,
     // Behind a box: whoever passes a session on moves a pointer.
     pub(crate) started: Option<Box<Started>>,
+}
+
+impl Drop for Session {
+    fn drop(self) {
+        let Session {
+            alloc: _alloc,
+            no_chain: _no_chain,
+            started: _started,
+        } = self;
+    }
 }
 
 impl Session {

@@ -30,12 +30,21 @@ use session_parts::{Beginning, SessionParts};
 use std::alloc::Global;
 
 /// What is kept, and the stored rows of the chain in force, which may have no parts.
-#[derive(Drop)]
 pub struct Started {
     pub(crate) kept: Kept,
     table: DispatchTable,
     room: Room,
     ghost agrees: { table.rows ≡ kinds_of kept.parts.states.kept },
+}
+
+impl Drop for Started {
+    fn drop(self) {
+        let Started {
+            kept: _kept,
+            table: _table,
+            room: _room,
+        } = self;
+    }
 }
 
 // Nothing is kept yet, above so many drivers.

@@ -9,11 +9,21 @@ use std::marker::Model;
 /// The handles of a call with at most `P` parameters: a list of handles for each parameter, and a mark beside each handle
 /// which says that the name it was written with is not born yet. Contracts see besides how much can be held with no
 /// further memory.
-#[derive(Debug, Drop)]
+#[derive(Debug)]
 pub struct HandleArgs<const P: usize> {
     lengths: Vec<usize>,
     handles: Vec<u64>,
     unborn: Vec<bool>,
+}
+
+impl<const P: usize> Drop for HandleArgs<P> {
+    fn drop(self) {
+        let HandleArgs {
+            lengths: _lengths,
+            handles: _handles,
+            unborn: _unborn,
+        } = self;
+    }
 }
 
 impl<const P: usize> Model for HandleArgs<P> {

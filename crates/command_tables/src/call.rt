@@ -9,7 +9,7 @@ use std::alloc::Global;
 
 /// A call as a layer is given it. Its shape is that of its command's row: a list of handles for each parameter, with exactly
 /// one handle where the parameter takes no list.
-#[derive(Debug, Drop)]
+#[derive(Debug)]
 pub struct LayerCall {
     pub cmd: CommandId,
     pub args: HandleArgs<6>,
@@ -19,6 +19,18 @@ pub struct LayerCall {
     pub code: Option<Code>,
     /// What else the call takes, which is passed on.
     pub payload: Vec<u8>,
+}
+
+impl Drop for LayerCall {
+    fn drop(self) {
+        let LayerCall {
+            cmd: _cmd,
+            args: _args,
+            asked: _asked,
+            code: _code,
+            payload: _payload,
+        } = self;
+    }
 }
 
 impl LayerCall {

@@ -11,13 +11,23 @@ use std::marker::Model;
 
 /// The call as it stood above each part that it came to, from the application down, in buffers that later walks use again. Contracts see
 /// besides how much each buffer can hold with no further memory.
-#[derive(Drop)]
 pub struct Held {
     alloc: Global,
     cmd: CommandId,
     forms: Vec<LayerCall>,
     // How many of the forms are held.
     count: usize,
+}
+
+impl Drop for Held {
+    fn drop(self) {
+        let Held {
+            alloc: _alloc,
+            cmd: _cmd,
+            forms: _forms,
+            count: _count,
+        } = self;
+    }
 }
 
 impl Model for Held {

@@ -22,11 +22,20 @@ use thread_layer::UseState;
 use unique_layer::UniqueState;
 
 /// What a part keeps.
-#[derive(Drop)]
 pub enum Part {
     Threads(UseState),
     Lifetimes(LifeState),
     Unique(UniqueState),
+}
+
+impl Drop for Part {
+    fn drop(self) {
+        match self {
+            Part::Threads(_part) => {}
+            Part::Lifetimes(_part) => {}
+            Part::Unique(_part) => {}
+        }
+    }
 }
 
 // A part that was given nothing yet.

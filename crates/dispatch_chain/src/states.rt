@@ -14,10 +14,18 @@ use std::marker::Model;
 
 /// What the parts of a chain keep, from the application down. Part k of the chain, from 1, names the place k in its findings. Contracts
 /// see besides for how much each part has room.
-#[derive(Drop)]
 pub struct LayerStates {
     pub(crate) alloc: Global,
     pub(crate) parts: Vec<Part>,
+}
+
+impl Drop for LayerStates {
+    fn drop(self) {
+        let LayerStates {
+            alloc: _alloc,
+            parts: _parts,
+        } = self;
+    }
 }
 
 impl Model for LayerStates {

@@ -21,10 +21,18 @@ use std::marker::Model;
 
 /// For each command the parts of a chain that intercept it; no rows are kept where there are no parts. A contract sees the kinds of the
 /// chain's parts.
-#[derive(Drop)]
 pub struct Rows {
     kinds: Vec<PartKind>,
     rows: Vec<Vec<Entry>>,
+}
+
+impl Drop for Rows {
+    fn drop(self) {
+        let Rows {
+            kinds: _kinds,
+            rows: _rows,
+        } = self;
+    }
 }
 
 impl Model for Rows {
@@ -40,10 +48,18 @@ impl Model for Rows {
 }
 
 /// The rows of a chain, with the functions that its parts are called by.
-#[derive(Drop)]
 pub struct DispatchTable {
     pub kit: Kit,
     pub rows: Rows,
+}
+
+impl Drop for DispatchTable {
+    fn drop(self) {
+        let DispatchTable {
+            kit: _kit,
+            rows: _rows,
+        } = self;
+    }
 }
 
 // Whether a unique part issues ids for objects of this type: non-dispatchable ones but surfaces.

@@ -18,9 +18,14 @@ pub enum LayerKindBit {
 }
 
 /// A list of globs: the value of `VK_LOADER_LAYERS_DISABLE` and its kin.
-#[derive(Drop)]
 pub struct FilterList {
     globs: Vec<Glob>,
+}
+
+impl Drop for FilterList {
+    fn drop(self) {
+        let FilterList { globs: _globs } = self;
+    }
 }
 
 impl Model for FilterList {

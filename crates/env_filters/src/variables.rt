@@ -13,9 +13,14 @@ struct Entry {
 }
 
 /// Environment variables with their values. The last value of a name counts.
-#[derive(Drop)]
 pub struct EnvList {
     entries: Vec<Entry>,
+}
+
+impl Drop for EnvList {
+    fn drop(self) {
+        let EnvList { entries: _entries } = self;
+    }
 }
 
 impl Model for EnvList {

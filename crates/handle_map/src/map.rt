@@ -12,12 +12,21 @@ use std::marker::Model;
 
 /// Values by type and id, in order of insertion, found through `S` chains; 4,294,967,295 values at most. Contracts see besides how much can be held with no
 /// further memory.
-#[derive(Drop)]
 pub struct HandleMap<const S: usize> {
     set: HandleSet<S>,
     // Where the values of each pair stand.
     spans: Vec<Span>,
     values: Vec<u64>,
+}
+
+impl<const S: usize> Drop for HandleMap<S> {
+    fn drop(self) {
+        let HandleMap {
+            set: _set,
+            spans: _spans,
+            values: _values,
+        } = self;
+    }
 }
 
 impl<const S: usize> Model for HandleMap<S> {

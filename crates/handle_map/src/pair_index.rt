@@ -12,13 +12,22 @@ use std::marker::Model;
 
 /// Pairs of a type and an id, each once, in order of insertion, 4,294,967,295 at most. Each takes 12 bytes where ids are dense, 8 for the
 /// pair and 4 for its row. Contracts see besides how many further ones can be held with no further memory.
-#[derive(Drop)]
 pub struct PairIndex {
     list: PairList,
     rows: PlaceRows,
     // The places of the pairs that no row notes: those whose ids aren't dense, and those that share their id with an earlier one. There may
     // be many, and many chains keep the way to each short.
     sparse: HandleMap<4096>,
+}
+
+impl Drop for PairIndex {
+    fn drop(self) {
+        let PairIndex {
+            list: _list,
+            rows: _rows,
+            sparse: _sparse,
+        } = self;
+    }
 }
 
 impl Model for PairIndex {

@@ -15,13 +15,23 @@ const MOST: usize = 4294967295;
 
 /// Pairs of a type and an id, each once, in order of insertion, found through `S` chains; 4,294,967,295 at most. Contracts see besides how
 /// many further ones can be held with no further memory.
-#[derive(Drop)]
 pub struct HandleSet<const S: usize> {
     entries: Vec<Entry>,
     // For each chain one more than the place of its last entry, or 0; empty until room is first made.
     firsts: Vec<u32>,
     hints: Hints,
     bounds: Bounds,
+}
+
+impl<const S: usize> Drop for HandleSet<S> {
+    fn drop(self) {
+        let HandleSet {
+            entries: _entries,
+            firsts: _firsts,
+            hints: _hints,
+            bounds: _bounds,
+        } = self;
+    }
 }
 
 impl<const S: usize> Model for HandleSet<S> {

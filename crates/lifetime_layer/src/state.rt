@@ -18,10 +18,18 @@ use std::alloc::Global;
 use std::marker::Model;
 
 /// What a lifetimes part keeps: its place in the chain, and the objects that it was told of, each known by its type and its handle.
-#[derive(Drop)]
 pub struct LifeState {
     place: u32,
     records: ObjectRecords,
+}
+
+impl Drop for LifeState {
+    fn drop(self) {
+        let LifeState {
+            place: _place,
+            records: _records,
+        } = self;
+    }
 }
 
 impl Model for LifeState {

@@ -6,10 +6,18 @@ use command_tables::NoMemory;
 use std::alloc::Global;
 
 /// What was found at a call so far, and whether the call is to be skipped.
-#[derive(Drop)]
 pub struct Verdict {
     pub findings: Vec<Finding>,
     pub skip: bool,
+}
+
+impl Drop for Verdict {
+    fn drop(self) {
+        let Verdict {
+            findings: _findings,
+            skip: _skip,
+        } = self;
+    }
 }
 
 impl Verdict {

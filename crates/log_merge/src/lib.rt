@@ -4,7 +4,5 @@
 #![tactic(auto)]
 
 mod merging;
-#[cfg(test)]
-mod tests;
 
 pub use merging::merge_logs;

@@ -2,14 +2,23 @@
 //! Source: Khronos Vulkan-Loader, LoaderDriverInterface.md and LoaderLayerInterface.md, the tables of manifest fields.
 
 /// A variable of the environment and a value.
-#[derive(Debug, Drop, PartialEq, Eq)]
+#[derive(Debug, PartialEq, Eq)]
 pub struct EnvPair {
     pub name: String,
     pub value: String,
 }
 
+impl Drop for EnvPair {
+    fn drop(self) {
+        let EnvPair {
+            name: _name,
+            value: _value,
+        } = self;
+    }
+}
+
 /// A driver.
-#[derive(Debug, Drop, PartialEq, Eq)]
+#[derive(Debug, PartialEq, Eq)]
 pub struct DriverEntry {
     /// Where the shared library is, as the manifest spells it.
     pub library: String,
@@ -17,8 +26,17 @@ pub struct DriverEntry {
     pub portability: bool,
 }
 
+impl Drop for DriverEntry {
+    fn drop(self) {
+        let DriverEntry {
+            library: _library,
+            portability: _portability,
+        } = self;
+    }
+}
+
 /// A layer.
-#[derive(Debug, Drop, PartialEq, Eq)]
+#[derive(Debug, PartialEq, Eq)]
 pub struct LayerEntry {
     pub name: String,
     /// Where the shared library is, as the manifest spells it; a meta-layer has none.
@@ -35,6 +53,21 @@ pub struct LayerEntry {
     pub app_keys: Vec<String>,
     /// The folders in which the override layer has explicit layers searched.
     pub override_paths: Vec<String>,
+}
+
+impl Drop for LayerEntry {
+    fn drop(self) {
+        let LayerEntry {
+            name: _name,
+            library: _library,
+            components: _components,
+            disable: _disable,
+            enable: _enable,
+            blacklist: _blacklist,
+            app_keys: _app_keys,
+            override_paths: _override_paths,
+        } = self;
+    }
 }
 
 /// The layers of one manifest.

@@ -20,11 +20,20 @@ pub enum Policy {
 }
 
 /// A call to a driver. No mark of its body counts.
-#[derive(Debug, Drop)]
+#[derive(Debug)]
 pub struct DriverCall {
     /// The driver's place in the chain, from 0.
     pub driver: u32,
     pub body: LayerCall,
+}
+
+impl Drop for DriverCall {
+    fn drop(self) {
+        let DriverCall {
+            driver: _driver,
+            body: _body,
+        } = self;
+    }
 }
 
 impl DriverCall {
@@ -52,10 +61,19 @@ impl DriverCall {
 }
 
 /// What a driver answered.
-#[derive(Debug, Drop)]
+#[derive(Debug)]
 pub struct DriverReply {
     pub code: Option<Code>,
     pub handles: Vec<u64>,
+}
+
+impl Drop for DriverReply {
+    fn drop(self) {
+        let DriverReply {
+            code: _code,
+            handles: _handles,
+        } = self;
+    }
 }
 
 impl DriverReply {

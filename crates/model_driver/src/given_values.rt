@@ -13,12 +13,21 @@ use std::marker::Model;
 
 /// The values that a driver has given, from 1 on. Each takes its memory when it is first given, so that none is needed
 /// when it comes back. Only the first call after `Fresh` takes memory once more, for all values given so far.
-#[derive(Drop)]
 pub struct GivenValues {
     driver: u32,
     // Of each value whether it has come back, and where values are given again those that have, the least first.
     back: Vec<bool>,
     free: Option<BinaryHeap<Reverse<u64>>>,
+}
+
+impl Drop for GivenValues {
+    fn drop(self) {
+        let GivenValues {
+            driver: _driver,
+            back: _back,
+            free: _free,
+        } = self;
+    }
 }
 
 impl Model for GivenValues {

@@ -14,10 +14,18 @@ use std::alloc::Global;
 use std::marker::Model;
 
 /// Answers by its policy, for each driver of the chain by itself; at first by `Fresh`. It tells no log.
-#[derive(Drop)]
 pub struct ModelDriver {
     policy: Policy,
     given: Vec<GivenValues>,
+}
+
+impl Drop for ModelDriver {
+    fn drop(self) {
+        let ModelDriver {
+            policy: _policy,
+            given: _given,
+        } = self;
+    }
 }
 
 impl Model for ModelDriver {

@@ -19,12 +19,22 @@ use std::marker::Model;
 pub struct SharedModel;
 
 /// A seat of the shared model driver. Of its room only that of handles is ever used up.
-#[derive(Drop)]
 pub struct ModelSeat {
     policy: Policy,
     left: u32,
     back: Vec<bool>,
     free: Option<BinaryHeap<Reverse<u64>>>,
+}
+
+impl Drop for ModelSeat {
+    fn drop(self) {
+        let ModelSeat {
+            policy: _policy,
+            left: _left,
+            back: _back,
+            free: _free,
+        } = self;
+    }
 }
 
 impl Model for ModelSeat {

@@ -26,12 +26,20 @@ pub struct Owned {
 const _: () = prove!(size_of::<Owned>() == 8);
 
 /// The links of all records.
-#[derive(Drop)]
 pub struct LinkTable {
     // For each record one more than the place of the record before it that has the same owner; 0 where there is none.
     previous: Vec<u32>,
     // What each record owns. Owners stand at the front of most traces: behind the latest owner there is nothing.
     owned: Vec<Owned>,
+}
+
+impl Drop for LinkTable {
+    fn drop(self) {
+        let LinkTable {
+            previous: _previous,
+            owned: _owned,
+        } = self;
+    }
 }
 
 impl Model for LinkTable {

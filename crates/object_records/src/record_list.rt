@@ -17,13 +17,22 @@ use std::marker::Model;
 const MOST: usize = 4294967295;
 
 /// The records of all objects that were born, the oldest first.
-#[derive(Drop)]
 pub struct RecordList {
     // The pairs of the objects. Handles of other origin come between dense ids, so that a record need not stand at the place of its id.
     index: PairIndex,
     kept: Vec<KeptRecord>,
     // The owners that weren't born, of which there are none in most traces.
     strays: Vec<Object>,
+}
+
+impl Drop for RecordList {
+    fn drop(self) {
+        let RecordList {
+            index: _index,
+            kept: _kept,
+            strays: _strays,
+        } = self;
+    }
 }
 
 impl Model for RecordList {

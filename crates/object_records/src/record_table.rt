@@ -18,7 +18,6 @@ use std::alloc::Global;
 use std::marker::Model;
 
 /// The records of all objects that were born, the oldest first.
-#[derive(Drop)]
 pub struct RecordTable {
     records: RecordList,
     links: LinkTable,
@@ -30,6 +29,18 @@ pub struct RecordTable {
     passed: Vec<u32>,
     // Whether a record has an owner that wasn't born.
     has_strays: bool,
+}
+
+impl Drop for RecordTable {
+    fn drop(self) {
+        let RecordTable {
+            records: _records,
+            links: _links,
+            queues: _queues,
+            passed: _passed,
+            has_strays: _has_strays,
+        } = self;
+    }
 }
 
 impl Model for RecordTable {

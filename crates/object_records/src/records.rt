@@ -20,10 +20,18 @@ use std::marker::Model;
 
 /// The objects that were born, each known by its type and its handle, with their owners, and which of them live; the oldest first.
 /// Contracts see besides how many further ones can be born with no further memory.
-#[derive(Drop)]
 pub struct ObjectRecords {
     table: RecordTable,
     live_count: usize,
+}
+
+impl Drop for ObjectRecords {
+    fn drop(self) {
+        let ObjectRecords {
+            table: _table,
+            live_count: _live_count,
+        } = self;
+    }
 }
 
 impl Model for ObjectRecords {

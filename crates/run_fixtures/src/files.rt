@@ -27,9 +27,6 @@ pub const LIFETIMES: (&str, &str) = (
 /// The home of a user.
 pub const HOME: (&str, &str) = ("HOME", "/home/u");
 
-/// A manifest of a driver without a version.
-pub const UNVERSIONED: (&str, &str) = ("/etc/vulkan/icd.d/c.json", "{}");
-
 /// The variables of these pairs.
 pub fn variables(alloc: Global, pairs: Pairs) -> Result<EnvList, Fail> {
     let mut env = EnvList::new(alloc);

@@ -1,11 +1,11 @@
 ghost use Rattle.std.specs.Prelude.{◌≡◌, None};
 ghost use Rattle.std.specs.Option.{option_map};
 
-use crate::files::{DRIVER, Pairs, tree_of, variables};
+use crate::files::{Pairs, tree_of, variables};
 use dispatch_chain::Kit;
 use env_filters::EnvList;
 use model_driver::Driver;
-use replay_base::{MemSink, MemSource, MemTree, NoMemory, Sink, Source, Tree};
+use replay_base::{MemSink, MemSource, MemTree, Sink, Source, Tree};
 use replay_core::{Session, Status};
 use replay_tool::replay_main;
 use std::alloc::Global;
@@ -28,13 +28,10 @@ pub fn words_of(alloc: Global, text: &str) -> Result<Vec<String>, Fail> {
     Ok(words)
 }
 
-fn sink_of(alloc: Global, room: usize, fails: u64) -> Result<MemSink, NoMemory> {
-    MemSink::new(alloc, room, vec![in alloc; fails]?)
-}
-
-/// A sink with room for 4,096 bytes, whose call of this number fails, where it isn't 0.
-pub fn sink(alloc: Global, fails: u64) -> Result<MemSink, Fail> {
-    Ok(sink_of(alloc, 4096, fails).ok().ok_or("no memory")?)
+/// A sink with room for so many bytes, of which the calls with these numbers fail.
+pub fn sink_of(alloc: Global, room: usize, fails: &[u64]) -> Result<MemSink, Fail> {
+    let fails = Vec::from_slice(alloc, fails)?;
+    Ok(MemSink::new(alloc, room, fails).ok().ok_or("no memory")?)
 }
 
 /// What goes in and out of a run over memory.
@@ -46,33 +43,18 @@ pub struct Streams {
     pub errs: MemSink,
 }
 
-/// The streams of a run over this trace, whose output fails at the call of a number, where that isn't 0.
-pub fn streams_with(
-    alloc: Global,
-    files: Pairs,
-    trace: MemSource,
-    write_fails: u64,
-) -> Result<Streams, Fail> {
+/// The streams of a run over this trace that doesn't fail.
+pub fn streams_over(alloc: Global, files: Pairs, trace: &str) -> Result<Streams, Fail> {
+    let bytes = Vec::from_slice(alloc, trace.as_bytes())?;
     let tree = tree_of(alloc, files)?;
-    let out = sink(alloc, write_fails)?;
-    let errs = sink(alloc, 0)?;
+    let out = sink_of(alloc, 4096, &[])?;
+    let errs = sink_of(alloc, 4096, &[])?;
     Ok(Streams {
         tree,
-        trace,
+        trace: MemSource::new(bytes, Vec::new(alloc)),
         out,
         errs,
     })
-}
-
-/// The streams of a run that doesn't fail.
-pub fn streams_over(alloc: Global, files: Pairs, trace: &str) -> Result<Streams, Fail> {
-    let bytes = Vec::from_slice(alloc, trace.as_bytes())?;
-    streams_with(alloc, files, MemSource::new(bytes, Vec::new(alloc)), 0)
-}
-
-/// The same over one driver.
-pub fn streams_at(alloc: Global, trace: &str) -> Result<Streams, Fail> {
-    streams_over(alloc, &[DRIVER], trace)
 }
 
 /// How a run ended.
@@ -155,18 +137,4 @@ pub fn run_set<D: Driver>(
 {
     let (words, env) = asked(alloc, words, env)?;
     Ok(run_of(kit, session, alloc, &words, &env, streams, driver))
-}
-
-/// The same without variables.
-pub fn run_with<D: Driver>(
-    kit: &Kit,
-    session: Session,
-    alloc: Global,
-    words: &str,
-    streams: &mut Streams,
-    driver: &mut D,
-) -> Result<Outcome, Fail>
-    requires fresh { option_map (λ x. x.value.kept) session.started ≡ None }
-{
-    run_set(kit, session, alloc, words, &[], streams, driver)
 }

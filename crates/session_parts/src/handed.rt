@@ -11,9 +11,14 @@ use std::marker::Model;
 
 /// The handle above the first part for each object that is born, in any order. An object is found by its number. Contracts see besides how many
 /// further ones can be handed with no further memory.
-#[derive(Drop)]
 pub struct HandedTable {
     handles: ObjectPlaces<u64>,
+}
+
+impl Drop for HandedTable {
+    fn drop(self) {
+        let HandedTable { handles: _handles } = self;
+    }
 }
 
 impl Model for HandedTable {

@@ -27,7 +27,6 @@ use std::mem;
 
 /// The names that stand for objects; the births of what lives; the retrieved objects with their owners and keys; and the handle of each object
 /// that was born, as it stands above the first part of the chain. Contracts see besides for how much more there is room.
-#[derive(Drop)]
 pub struct NameTable {
     alloc: Global,
     named: session_tables::NamedTable,
@@ -36,6 +35,19 @@ pub struct NameTable {
     handed: HandedTable,
     // What the steps of a call that enters and of its return fill.
     scratch: Scratch,
+}
+
+impl Drop for NameTable {
+    fn drop(self) {
+        let NameTable {
+            alloc: _alloc,
+            named: _named,
+            objects: _objects,
+            retrieved: _retrieved,
+            handed: _handed,
+            scratch: _scratch,
+        } = self;
+    }
 }
 
 impl Model for NameTable {

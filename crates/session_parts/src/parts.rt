@@ -32,11 +32,20 @@ use std::alloc::Global;
 use trace_format::Event;
 
 /// What the parts of the chain keep, what its end keeps, and the names with their objects.
-#[derive(Drop)]
 pub struct SessionParts {
     pub states: LayerStates,
     pub terminator: Terminator,
     pub names: NameTable,
+}
+
+impl Drop for SessionParts {
+    fn drop(self) {
+        let SessionParts {
+            states: _states,
+            terminator: _terminator,
+            names: _names,
+        } = self;
+    }
 }
 
 // What a call ends, unless it is skipped.

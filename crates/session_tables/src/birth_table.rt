@@ -20,9 +20,14 @@ pub struct BirthEntry {
 
 /// The births of the objects that live. What an end takes out leaves its room to the next birth. Contracts see besides how many further births
 /// can be held with no further memory.
-#[derive(Drop)]
 pub struct BirthTable {
     births: PlacedTable<BirthEntry>,
+}
+
+impl Drop for BirthTable {
+    fn drop(self) {
+        let BirthTable { births: _births } = self;
+    }
 }
 
 impl Model for BirthTable {

@@ -20,7 +20,6 @@ const MOST: usize = 4294967295;
 
 /// The names that stand for objects, in any order; 4,294,967,295 at most. A name whose object is made of it takes a byte. Contracts see besides
 /// how many were put, and how many further ones can be with no further memory.
-#[derive(Drop)]
 pub struct NamedTable {
     // The type of the object that is made of a name, in the row of the name's thread, at its number.
     types: Vec<Vec<FiledType>>,
@@ -28,6 +27,17 @@ pub struct NamedTable {
     others: BesideNames,
     count: usize,
     alloc: Global,
+}
+
+impl Drop for NamedTable {
+    fn drop(self) {
+        let NamedTable {
+            types: _types,
+            others: _others,
+            count: _count,
+            alloc: _alloc,
+        } = self;
+    }
 }
 
 impl Model for NamedTable {

@@ -25,12 +25,21 @@ use std::mem;
 
 /// The births of the objects that live, and for each owner a list of what was born below it, at any depth. An end takes out the births that it
 /// reaches, and the lists of these objects.
-#[derive(Drop)]
 pub struct ObjectTable {
     births: BirthTable,
     lists: OwnedLists,
     // Room for owners that is used again at each return.
     owners: Vec<Object>,
+}
+
+impl Drop for ObjectTable {
+    fn drop(self) {
+        let ObjectTable {
+            births: _births,
+            lists: _lists,
+            owners: _owners,
+        } = self;
+    }
 }
 
 impl Model for ObjectTable {

@@ -30,11 +30,20 @@ pub struct OwnedNode {
 /// listed until the nodes are full and have no room: then what lives is listed anew in the same memory, and the nodes are full again at
 /// twice as many, and at no fewer than there are births. So nodes take memory by what lived at one time, and each node and each birth is
 /// looked at a few times at most.
-#[derive(Drop)]
 pub struct OwnedLists {
     pub heads: PlacedTable<u32>,
     pub nodes: Vec<OwnedNode>,
     pub full: usize,
+}
+
+impl Drop for OwnedLists {
+    fn drop(self) {
+        let OwnedLists {
+            heads: _heads,
+            nodes: _nodes,
+            full: _full,
+        } = self;
+    }
 }
 
 impl OwnedLists {

@@ -6,13 +6,24 @@ use object_model::Object;
 use std::alloc::{AllocError, Global};
 
 /// The owners of an object. By the table of commands there are at most three, which take no memory of their own.
-#[derive(Drop)]
 pub enum OwnerList {
     None,
     One([Object; 1]),
     Two([Object; 2]),
     Three([Object; 3]),
     More(Vec<Object>),
+}
+
+impl Drop for OwnerList {
+    fn drop(self) {
+        match self {
+            OwnerList::None => {}
+            OwnerList::One(_part) => {}
+            OwnerList::Two(_part) => {}
+            OwnerList::Three(_part) => {}
+            OwnerList::More(_part) => {}
+        }
+    }
 }
 
 impl OwnerList {

@@ -23,13 +23,22 @@ pub struct RetrievedEntry {
 
 /// The retrieved objects, the oldest first, found through chains. Contracts see besides how many further ones, and how many further bytes of
 /// their payloads, can be kept with no further memory.
-#[derive(Drop)]
 pub struct RetrievedTable {
     entries: Vec<RetrievedEntry>,
     // The payloads of all keys.
     bytes: Vec<u8>,
     // For each chain one more than the place of its latest entry.
     latest: HandleMap<1024>,
+}
+
+impl Drop for RetrievedTable {
+    fn drop(self) {
+        let RetrievedTable {
+            entries: _entries,
+            bytes: _bytes,
+            latest: _latest,
+        } = self;
+    }
 }
 
 impl Model for RetrievedTable {

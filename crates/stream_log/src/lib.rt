@@ -15,10 +15,6 @@ mod owner;
 mod place;
 mod seen;
 mod step_clock;
-#[cfg(test)]
-mod tests;
-#[cfg(test)]
-mod thread_tests;
 mod tick;
 mod ticket;
 mod ticks;

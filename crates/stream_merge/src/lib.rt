@@ -8,8 +8,6 @@ mod cursor;
 mod events;
 mod places;
 mod replies;
-#[cfg(test)]
-mod tests;
 
 pub use events::gather_events;
 pub use replies::gather_replies;

@@ -11,8 +11,6 @@ mod naming;
 mod placing;
 mod plans;
 mod table;
-#[cfg(test)]
-mod tests;
 
 pub use laws::{each_call_is_on_a_planned_device, each_device_is_planned};
 pub use placing::place_calls;

@@ -26,13 +26,23 @@ use std::marker::Model;
 
 /// The end of a chain: ids of dispatchable handles and surfaces, numbered over all of them from 1, each driver's values for
 /// them, and the driver behind each that has one of its own.
-#[derive(Drop)]
 pub struct Terminator {
     alloc: Global,
     drivers: u32,
     issued: IssuedIds,
     // Room for the values of one result.
     values: Vec<DriverValue>,
+}
+
+impl Drop for Terminator {
+    fn drop(self) {
+        let Terminator {
+            alloc: _alloc,
+            drivers: _drivers,
+            issued: _issued,
+            values: _values,
+        } = self;
+    }
 }
 
 impl Model for Terminator {

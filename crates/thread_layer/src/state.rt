@@ -19,13 +19,23 @@ use std::alloc::Global;
 use std::marker::Model;
 
 /// What a threads part was told of: which objects were born and live, and the open calls with what they use, the oldest first.
-#[derive(Drop)]
 pub struct UseState {
     place: u32,
     records: ObjectRecords,
     opens: OpenUses,
     // Room for what is gathered of one call.
     gathered: Gathered,
+}
+
+impl Drop for UseState {
+    fn drop(self) {
+        let UseState {
+            place: _place,
+            records: _records,
+            opens: _opens,
+            gathered: _gathered,
+        } = self;
+    }
 }
 
 impl Model for UseState {

@@ -18,8 +18,6 @@ mod read;
 mod sections;
 mod stream_file;
 mod stream_rules;
-#[cfg(test)]
-mod tests;
 mod thread;
 
 pub use error::StreamError;

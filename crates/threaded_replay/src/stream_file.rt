@@ -9,11 +9,21 @@ use std::alloc::{AllocError, Global};
 use trace_format::Event;
 
 /// The events of a stream file: those of setup, those of each stream with its thread, in the file's order, and those of teardown.
-#[derive(Debug, Drop)]
+#[derive(Debug)]
 pub struct StreamFile {
     pub setup: Vec<Event>,
     pub streams: Vec<(u32, Vec<Event>)>,
     pub teardown: Vec<Event>,
+}
+
+impl Drop for StreamFile {
+    fn drop(self) {
+        let StreamFile {
+            setup: _setup,
+            streams: _streams,
+            teardown: _teardown,
+        } = self;
+    }
 }
 
 // Room for a block of a reader: one byte more than a line may have.

@@ -1,12 +1,11 @@
 // What stands after a fault of the source, the sink or the tree.
 use crate::files::{behind_device, two_streams};
 use crate::runs::{
-    CHECKED, Ran, is_done, is_refused, printed, recording, run, run_on, run_with, sink_of,
-    source_of,
+    CHECKED, Ran, is_done, is_refused, printed, recording, run, run_on, run_with, source_of,
 };
 use replay_base::{MemSink, MemSource};
 use replay_core::Status;
-use run_fixtures::{ByteSource, tree_of, variables};
+use run_fixtures::{ByteSource, sink_of, tree_of, variables};
 use std::alloc::{AllocError, Global};
 use std::process::Abort;
 use std::sync::Wait;
@@ -27,7 +26,7 @@ fn fails_behind<H: Abort + Threads + Wait + Sync>(
         fails_at: count,
         faults: 0,
     };
-    let out = sink_of(alloc, 4096)?;
+    let out = sink_of(alloc, 4096, &[])?;
     let ran = run_on(rt, alloc, CHECKED, &mut streams, out, &recording(), &NoGate)?;
     is_refused(rt, &ran, Status::ReadFault, "vkreplay: read fault\n", text);
     Ok(())
@@ -65,7 +64,7 @@ fn ran_at_read<H: Threads + Wait + Sync>(
 ) -> Result<Ran, Fail> {
     let bytes = Vec::from_slice(alloc, text.as_bytes())?;
     let mut streams = MemSource::new(bytes, Vec::from_slice(alloc, &[read])?);
-    let out = sink_of(alloc, 4096)?;
+    let out = sink_of(alloc, 4096, &[])?;
     run_on(rt, alloc, CHECKED, &mut streams, out, &recording(), &NoGate)
 }
 
@@ -127,19 +126,13 @@ fn fills_the_sink<H: Abort + Threads + Wait + Sync>(
     whole: &str,
 ) -> Result<(), Fail> {
     for room in places_in(alloc, whole)? {
-        let ran = ran_into(rt, alloc, text, sink_of(alloc, room)?)?;
+        let ran = ran_into(rt, alloc, text, sink_of(alloc, room, &[])?)?;
         if room < whole.len() {
             has_a_front(rt, &ran, whole);
         }
         assert_eq!(rt; ran.out.bytes().len(), room);
     }
     Ok(())
-}
-
-// A sink whose write with this number fails.
-fn failing_sink(alloc: Global, write: u64) -> Result<MemSink, Fail> {
-    let fails = Vec::from_slice(alloc, &[write])?;
-    Ok(MemSink::new(alloc, 4096, fails).ok().ok_or("no memory")?)
 }
 
 // Goes through the writes until one isn't made.
@@ -150,7 +143,7 @@ fn fails_at_each_write<H: Abort + Threads + Wait + Sync>(
     whole: &str,
 ) -> Result<(), Fail> {
     for write in 1..1000 {
-        let ran = ran_into(rt, alloc, text, failing_sink(alloc, write)?)?;
+        let ran = ran_into(rt, alloc, text, sink_of(alloc, 4096, &[write])?)?;
         if ran.status == Status::Reported {
             assert_eq!(rt; printed(&ran)?, whole);
             assert!(rt; write > 1);
@@ -183,7 +176,7 @@ fn ran_failing<H: Abort + Threads + Wait + Sync>(
     let mut tree = tree_of(alloc, CHECKED.files)?;
     tree.fail_at(call).ok().ok_or("no memory")?;
     let mut streams = source_of(alloc, text)?;
-    let out = sink_of(alloc, 4096)?;
+    let out = sink_of(alloc, 4096, &[])?;
     let ran = run_with(
         rt,
         alloc,

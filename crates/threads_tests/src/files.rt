@@ -1,20 +1,16 @@
 // Stream files that several tests go through.
 use std::alloc::{AllocError, Global};
 
-/// The events that make an instance, its physical device and a device.
-pub(crate) const DEVICE: &str =
+// The events that make an instance, its physical device and a device.
+const DEVICE: &str =
     "b 1 vkCreateInstance = %1.1 VK_SUCCESS\nr 1\nb 1 vkEnumeratePhysicalDevices %1.1 = %1.2 VK_SUCCESS\nr 1\nb 1 vkCreateDevice %1.2 = %1.3 VK_SUCCESS\nr 1\n";
 
-/// What is printed of them with the validation layer.
-pub(crate) const CHECKED_TEXT: &str =
-    "chain 1 ok layers=1 parts=3 drivers=1\nlayer 1 VK_LAYER_KHRONOS_validation /usr/share/vulkan/explicit_layer.d/v.json\npart 1 threads VK_LAYER_KHRONOS_validation\npart 2 lifetimes VK_LAYER_KHRONOS_validation\npart 3 unique VK_LAYER_KHRONOS_validation\ndriver 1 /etc/vulkan/icd.d/a.json libvulkan_a.so\nret 1 vkCreateInstance VK_SUCCESS born=1\nret 2 vkEnumeratePhysicalDevices VK_SUCCESS born=1\nret 3 vkCreateDevice VK_SUCCESS born=1\n";
-
-/// Two streams that make an object each.
-pub(crate) const TWO_STREAMS: &str =
+// Two streams that make an object each.
+const TWO_STREAMS: &str =
     "stream 1\nb 1 vkCreateBuffer %1.3 = %1.4 VK_SUCCESS\nr 1\nstream 2\nb 2 vkCreateFence %1.3 = %2.1 VK_SUCCESS\nr 2\n";
 
-/// The end of both objects.
-pub(crate) const BOTH_END: &str =
+// The end of both objects.
+const BOTH_END: &str =
     "b 1 vkDestroyBuffer %1.3 %1.4 void\nr 1\nb 1 vkDestroyFence %1.3 %2.1 void\nr 1\n";
 
 /// A file whose setup makes a device: the next line is the ninth.

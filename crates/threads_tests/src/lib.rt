@@ -1,5 +1,6 @@
-//! Whole runs of the program for threads, over memory: what no clause of its call says. They stand apart, since a crate with tests is proved a
-//! second time with them.
+//! Whole runs of the program for threads, over memory: that workers run beside each other, sources, sinks and trees that fail, and that no driver is
+//! told of a file that is refused. They stand apart, since a crate with tests is proved a second time with them. What a run prints and says is shown
+//! by the stored cases and stream files of the built program.
 #![tactic(auto)]
 
 #[cfg(test)]
@@ -7,16 +8,10 @@ mod beside_tests;
 #[cfg(test)]
 mod fault_tests;
 #[cfg(test)]
-mod file_table;
-#[cfg(test)]
-mod file_tests;
-#[cfg(test)]
 mod files;
 #[cfg(test)]
 mod limit_tests;
 #[cfg(test)]
 mod meeting;
-#[cfg(test)]
-mod merge_tests;
 #[cfg(test)]
 mod runs;

@@ -1,17 +1,12 @@
-// Runs of the program over memory, and of the program without threads on what it printed.
-ghost use Rattle.std.specs.Prelude.{◌≡◌, None};
-ghost use Rattle.std.specs.Option.{option_map};
-
+// Runs of the program over memory.
 use command_tables::NoMemory;
 use dispatch_chain::Kit;
 use env_filters::EnvList;
 use lifetime_layer::LifeState;
 use model_driver::{RecordingSeat, RecordingShared, SharedDriver, SharedModel};
 use replay_base::{MemSink, MemTree, PlainSource, Source};
-use replay_core::{Session, Status};
-use run_fixtures::{
-    DRIVER, HOME, Pairs, Seen, VALIDATION, seen_over, tree_of, variables, words_of,
-};
+use replay_core::Status;
+use run_fixtures::{DRIVER, HOME, Pairs, VALIDATION, sink_of, tree_of, variables, words_of};
 use std::alloc::{AllocError, Global};
 use std::process::Abort;
 use std::sync::Wait;
@@ -34,13 +29,6 @@ fn kit() -> Kit {
     )
 }
 
-// A session over that kit.
-fn fresh(alloc: Global) -> Session
-    ensures { option_map (λ x. x.value.kept) result.started ≡ None }
-{
-    Session::new(alloc, &kit())
-}
-
 /// What a run is over: the words, the files and the variables.
 #[derive(Clone, Copy)]
 pub(crate) struct Machine {
@@ -49,14 +37,7 @@ pub(crate) struct Machine {
     pub env: Pairs,
 }
 
-/// One driver and no layer.
-pub(crate) const PLAIN: Machine = Machine {
-    words: "",
-    files: &[DRIVER],
-    env: &[HOME],
-};
-
-/// The same, with the validation layer turned on.
+/// One driver, with the validation layer turned on.
 pub(crate) const CHECKED: Machine = Machine {
     words: "",
     files: &[DRIVER, VALIDATION],
@@ -71,15 +52,6 @@ pub(crate) struct Ran {
     pub calls: Vec<usize>,
     pub out: MemSink,
     pub errs: MemSink,
-}
-
-/// A sink with room for so many bytes.
-pub(crate) fn sink_of(alloc: Global, room: usize) -> Result<MemSink, Fail> {
-    Ok(
-        MemSink::new(alloc, room, Vec::new(alloc))
-            .ok()
-            .ok_or("no memory")?,
-    )
 }
 
 /// A source of a text.
@@ -120,7 +92,7 @@ pub(crate) fn run_with<H: Threads + Wait + Sync, S: Source, D: SharedDriver, G: 
     gate: &G,
 ) -> Result<Ran, Fail> {
     let words = words_of(alloc, words)?;
-    let mut errs = sink_of(alloc, 4096)?;
+    let mut errs = sink_of(alloc, 4096, &[])?;
     let ended = threads_main(
         rt,
         alloc,
@@ -177,7 +149,7 @@ pub(crate) fn run<H: Threads + Wait + Sync>(
     text: &str,
 ) -> Result<Ran, Fail> {
     let mut streams = source_of(alloc, text)?;
-    let out = sink_of(alloc, 262_144)?;
+    let out = sink_of(alloc, 262_144, &[])?;
     run_on(rt, alloc, machine, &mut streams, out, &recording(), &NoGate)
 }
 
@@ -209,30 +181,4 @@ pub(crate) fn is_done(rt: &impl Abort, ran: &Ran, status: Status, calls: &[usize
 /// What a run printed.
 pub(crate) fn printed(ran: &Ran) -> Result<&str, Fail> {
     Ok(std::str::from_utf8(ran.out.bytes()).ok().ok_or("no text")?)
-}
-
-/// The trace that a run printed, without its last line's end, and the text behind it.
-pub(crate) fn trace_and_text(ran: &Ran) -> Result<(&str, &str), Fail> {
-    Ok(printed(ran)?.split_once("\ntext\n").ok_or("no text")?)
-}
-
-// A replay of a trace without threads.
-fn replay_of(alloc: Global, machine: Machine, trace: &str) -> Result<Seen, Fail> {
-    let env = variables(alloc, machine.env)?;
-    let mut tree = tree_of(alloc, machine.files)?;
-    seen_over(&kit(), fresh(alloc), alloc, "run", &env, &mut tree, trace)
-}
-
-/// A replay of the printed trace without threads prints the text behind it, with the same status.
-pub(crate) fn replays_alike(
-    rt: &impl Abort,
-    alloc: Global,
-    machine: Machine,
-    ran: &Ran,
-) -> Result<(), Fail> {
-    let (trace, text) = trace_and_text(ran)?;
-    let seen = replay_of(alloc, machine, trace)?;
-    let shown = [seen.out.as_slice() == text.as_bytes(), seen.errs.is_empty()];
-    assert_eq!(rt; (seen.status, shown), (ran.status, [true, true]), "{trace}");
-    Ok(())
 }

@@ -47,7 +47,6 @@ impl From<AllocError> for AcceptError {
 }
 
 /// What the next event of a trace reads of the earlier ones. A name is found by its thread and number.
-#[derive(Drop)]
 pub struct TraceState {
     alloc: Global,
     calls: u64,
@@ -55,6 +54,19 @@ pub struct TraceState {
     has_instance: bool,
     creating: Option<u32>,
     threads: Vec<ThreadState>,
+}
+
+impl Drop for TraceState {
+    fn drop(self) {
+        let TraceState {
+            alloc: _alloc,
+            calls: _calls,
+            names: _names,
+            has_instance: _has_instance,
+            creating: _creating,
+            threads: _threads,
+        } = self;
+    }
 }
 
 impl Model for TraceState {

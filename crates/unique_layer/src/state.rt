@@ -19,10 +19,18 @@ use std::marker::Model;
 
 /// What a unique part keeps: its ids with the handles below them, and the ids of retrieved objects by their keys, the oldest
 /// first. Contracts see besides how many objects can be born to it with no further memory.
-#[derive(Drop)]
 pub struct UniqueState {
     ids: IssuedValues,
     kept: KeptIds,
+}
+
+impl Drop for UniqueState {
+    fn drop(self) {
+        let UniqueState {
+            ids: _ids,
+            kept: _kept,
+        } = self;
+    }
 }
 
 impl Model for UniqueState {

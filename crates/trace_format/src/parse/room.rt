@@ -10,13 +10,24 @@ const MOST_LISTS: usize = 6;
 
 /// Room for the events of a trace. A line that is read takes it, and an event that is given back leaves its own, so that lines
 /// which are read one after the other take memory only where one is longer than those before it.
-#[derive(Drop)]
 pub struct EventRoom {
     alloc: Global,
     args: Vec<TraceArg>,
     places: Vec<Vec<Option<Name>>>,
     results: Vec<Name>,
     payload: Vec<u8>,
+}
+
+impl Drop for EventRoom {
+    fn drop(self) {
+        let EventRoom {
+            alloc: _alloc,
+            args: _args,
+            places: _places,
+            results: _results,
+            payload: _payload,
+        } = self;
+    }
 }
 
 /// An empty vector with the room of this one, in whose place a new one stands.

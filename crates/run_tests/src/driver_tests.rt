@@ -1,0 +1,131 @@
+// What the drivers are told, and that no text comes of which handles they answer. What each of these traces prints is a stored case.
+ghost use Rattle.std.specs.Prelude.{IsTrue};
+ghost use Rattle.model_driver.specs.Driver.{are_handles};
+
+use crate::driver_table::{FIRST, ROWS, Row};
+use crate::kit::{fresh, kit};
+use model_driver::{AdverseDriver, Driver, ModelDriver, RecordingDriver};
+use run_fixtures::{Streams, all_calls, run_set, streams_over};
+use std::alloc::{AllocError, Global};
+use std::process::Abort;
+use std::test::Fail;
+
+// Lines, with a text behind each.
+fn lines_of(alloc: Global, lines: &[&str], behind: &str) -> Result<String, AllocError> {
+    let mut text = String::new(alloc);
+    for line in lines {
+        text.push_str(line)?;
+        text.push_str(behind)?;
+    }
+    Ok(text)
+}
+
+fn trace_of(alloc: Global, row: &Row) -> Result<String, AllocError> {
+    let behind = if row.with_returns { "\n" } else { "\nr 1\n" };
+    let events = lines_of(alloc, row.events, behind)?;
+    format!(in alloc; "vktrace 1\n{events}")
+}
+
+fn ran_under<D: Driver>(alloc: Global, row: &Row, driver: &mut D) -> Result<Streams, Fail> {
+    let trace = trace_of(alloc, row)?;
+    let mut streams = streams_over(alloc, row.files, trace.as_str())?;
+    run_set(
+        &kit(),
+        fresh(alloc),
+        alloc,
+        row.words,
+        row.env,
+        &mut streams,
+        driver,
+    )?;
+    Ok(streams)
+}
+
+fn tells<D: Driver + Drop>(
+    rt: &impl Abort,
+    alloc: Global,
+    row: &Row,
+    inner: D,
+    told: &[&str],
+) -> Result<Streams, Fail> {
+    let mut driver = RecordingDriver::new(alloc, inner);
+    let streams = ran_under(alloc, row, &mut driver)?;
+    let calls = all_calls(alloc, driver.log())?;
+    let told = lines_of(alloc, told, "\n")?;
+    assert!(rt; calls.as_slice() == told.as_bytes(), "{told}");
+    Ok(streams)
+}
+
+// A driver that answers these handles, and 1 behind them: the text is the same.
+fn prints_under(
+    rt: &impl Abort,
+    alloc: Global,
+    row: &Row,
+    handles: &[u64],
+    text: &[u8],
+) -> Result<(), Fail>
+    requires { IsTrue (are_handles handles.now) }
+{
+    let mut driver = AdverseDriver::new(Vec::from_slice(alloc, handles)?);
+    let streams = ran_under(alloc, row, &mut driver)?;
+    assert!(rt; streams.out.bytes() == text, "{handles:?}");
+    Ok(())
+}
+
+// One handle for all; the greatest one for all; one for each object; those that the layer for unique handles counts itself; and
+// these in another order.
+fn prints_under_each(rt: &impl Abort, alloc: Global, row: &Row, text: &[u8]) -> Result<(), Fail> {
+    const M: u64 = u64::MAX;
+    prints_under(rt, alloc, row, &[1], text)?;
+    prints_under(rt, alloc, row, &[M, M, M, M, M, M, M, M, M, M, M, M], text)?;
+    prints_under(
+        rt,
+        alloc,
+        row,
+        &[109, 108, 107, 106, 105, 104, 103, 102, 101],
+        text,
+    )?;
+    prints_under(
+        rt,
+        alloc,
+        row,
+        &[1, 2, 3, 4, 5, 6, 7, 8, 9, 10, 11, 12],
+        text,
+    )?;
+    prints_under(
+        rt,
+        alloc,
+        row,
+        &[2, 1, 4, 3, 6, 5, 8, 7, 10, 9, 12, 11],
+        text,
+    )
+}
+
+#[test]
+fn the_drivers_are_told_what_they_answered(rt: HostRuntime) -> Result<(), Fail> {
+    let alloc = rt.alloc();
+    for row in ROWS.iter() {
+        let streams = tells(&rt, alloc, row, ModelDriver::new(alloc), row.told)?;
+        assert!(rt; streams.out.bytes().starts_with(b"chain 1 "));
+        assert!(rt; streams.errs.bytes().is_empty());
+        prints_under_each(&rt, alloc, row, streams.out.bytes())?;
+    }
+    Ok(())
+}
+
+#[test]
+fn the_driver_may_answer_one_handle_twice(rt: HostRuntime) -> Result<(), Fail> {
+    let alloc = rt.alloc();
+    let adverse = AdverseDriver::new(Vec::from_slice(alloc, &[7, 7, 9])?);
+    let told = [
+        "1 vkCreateInstance asked=1 VK_SUCCESS -> [7]",
+        "1 vkEnumeratePhysicalDevices [7] asked=1 VK_SUCCESS -> [7]",
+        "1 vkCreateDevice [7] asked=1 VK_SUCCESS -> [9]",
+        "1 vkDestroyDevice [9] asked=0 void -> []",
+        "1 vkDestroyInstance [7] asked=0 void -> []",
+    ];
+    let streams = tells(&rt, alloc, &FIRST, adverse, &told)?;
+    let end = b"end calls=5 skipped=0 reports=0\n".as_slice();
+    assert!(rt; streams.out.bytes().ends_with(end));
+    Ok(())
+}
