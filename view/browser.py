@@ -141,9 +141,16 @@ class Page:
         for kind in ("mousePressed", "mouseReleased"):
             self.ask("Input.dispatchMouseEvent", type=kind, x=x, y=y, button="left", clickCount=1)
 
+    def drag(self, start: tuple[float, float], stop: tuple[float, float]) -> None:
+        """Presses the mouse at one point and lets it go at another."""
+        for kind, (x, y) in (("mousePressed", start), ("mouseMoved", stop), ("mouseReleased", stop)):
+            self.ask("Input.dispatchMouseEvent", type=kind, x=x, y=y, button="left", buttons=1, clickCount=1)
+
     def key(self, word: str) -> None:
+        """Presses a key, by its character or its name."""
         for kind in ("keyDown", "keyUp"):
-            self.ask("Input.dispatchKeyEvent", type=kind, key=word, text=word if kind == "keyDown" else "")
+            text = word if kind == "keyDown" and len(word) == 1 else ""
+            self.ask("Input.dispatchKeyEvent", type=kind, key=word, text=text)
 
     def look(self, size: tuple[int, int], scheme: str) -> None:
         """How large the window is, and whether it is light or dark."""

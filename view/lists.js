@@ -138,6 +138,7 @@ function chooseReport(place) {
 
 function chooseObject(place) {
   state.object = place;
+  state.call = state.other = state.report = -1;
   state.marked.fill(0);
   for (const number of run.objects[place].uses) { const k = placeOf(number); if (k >= 0) state.marked[k] = 1; }
   openTo(place);
