@@ -95,7 +95,7 @@ static void leak(void) {
     teardown();
 }
 
-//! leak_device: ours VKR-vkDestroyInstance-instance-children*1; layer VUID-vkDestroyInstance-instance-00629
+//! leak_device: ours VKR-vkDestroyInstance-instance-children*1; layer UNASSIGNED-ObjectTracker-ObjectLeak
 static void leak_device(void) {
     setup();
     make_device();
@@ -170,7 +170,7 @@ static void freed_commands_submitted(void) {
     teardown();
 }
 
-//! dead_view: ours VUID-vkCreateFramebuffer-pAttachments-parameter*1; layer VUID-VkFramebufferCreateInfo-flags-02778
+//! dead_view: ours VUID-vkCreateFramebuffer-pAttachments-parameter*1; layer VUID_Undefined
 static void dead_view(void) {
     setup();
     VkImage image = make_image();

@@ -101,7 +101,7 @@ static void submit_often(int number) {
     for (int i = 0; i < turns; i++) submit(VK_NULL_HANDLE, VK_NULL_HANDLE);
 }
 
-//! threads_queue: ours VKR-vkQueueSubmit-queue-overlap*some; layer UNASSIGNED-Threading-MultipleThreads-Write
+//! threads_queue: ours VKR-vkQueueSubmit-queue-overlap*some; layer UNASSIGNED-Threading-MultipleThreads
 static void threads_queue(void) {
     setup();
     beside(submit_often, 2);
@@ -114,7 +114,7 @@ static void bind_into_first(int number) {
     bind_often(commands[0], turns);
 }
 
-//! threads_command_buffer: ours VKR-vkCmdBindIndexBuffer-commandBuffer-overlap*some; layer UNASSIGNED-Threading-MultipleThreads-Write
+//! threads_command_buffer: ours VKR-vkCmdBindIndexBuffer-commandBuffer-overlap*some; layer UNASSIGNED-Threading-MultipleThreads
 static void threads_command_buffer(void) {
     setup();
     make_pools(1);
@@ -131,7 +131,7 @@ static void threads_command_buffer(void) {
 
 static void bind_into_own(int number) { bind_often(commands[number], turns); }
 
-//! threads_command_pool: ours VKR-vkCmdBindIndexBuffer-commandBuffer-overlap*some; layer UNASSIGNED-Threading-MultipleThreads-Write
+//! threads_command_pool: ours VKR-vkCmdBindIndexBuffer-commandBuffer-overlap*some; layer UNASSIGNED-Threading-MultipleThreads
 static void threads_command_pool(void) {
     setup();
     make_pools(1);
@@ -171,7 +171,7 @@ static void allocate_often(int number) {
     for (int i = 0; i < turns; i++) make_set(descriptor_pool, set_layout);
 }
 
-//! threads_descriptor_pool: ours VKR-vkAllocateDescriptorSets-descriptorPool-overlap*some; layer UNASSIGNED-Threading-MultipleThreads-Write
+//! threads_descriptor_pool: ours VKR-vkAllocateDescriptorSets-descriptorPool-overlap*some; layer UNASSIGNED-Threading-MultipleThreads
 static void threads_descriptor_pool(void) {
     setup();
     make_sets(1);
@@ -184,7 +184,7 @@ static void write_often(int number) {
     for (int i = 0; i < turns; i++) write_set(set, (uint32_t)number, buffer);
 }
 
-//! threads_set: ours VKR-vkUpdateDescriptorSets-dstSet-overlap*some; layer UNASSIGNED-Threading-MultipleThreads-Write
+//! threads_set: ours VKR-vkUpdateDescriptorSets-dstSet-overlap*some; layer UNASSIGNED-Threading-MultipleThreads
 static void threads_set(void) {
     setup();
     make_sets(2);
@@ -206,7 +206,7 @@ static void flush_often(int number) {
     }
 }
 
-//! threads_memory: ours VKR-vkMapMemory-memory-overlap*some VKR-vkUnmapMemory-memory-overlap*some; layer UNASSIGNED-Threading-MultipleThreads-Write VUID-vkMapMemory-memory-00678 VUID-vkUnmapMemory-memory-00689
+//! threads_memory: ours VKR-vkMapMemory-memory-overlap*some VKR-vkUnmapMemory-memory-overlap*some; layer UNASSIGNED-Threading-MultipleThreads VUID-vkMapMemory-memory-00678 VUID-vkUnmapMemory-memory-00689
 static void threads_memory(void) {
     setup();
     memory = make_memory(4096);
@@ -239,7 +239,7 @@ static void idle_or_submit(int number) {
     }
 }
 
-//! threads_idle: ours VKR-vkDeviceWaitIdle-device-overlap*some VKR-vkQueueSubmit-queue-overlap*some; layer UNASSIGNED-Threading-MultipleThreads-Write
+//! threads_idle: ours VKR-vkDeviceWaitIdle-device-overlap*some VKR-vkQueueSubmit-queue-overlap*some; layer UNASSIGNED-Threading-MultipleThreads
 static void threads_idle(void) {
     setup();
     beside(idle_or_submit, 2);
