@@ -285,12 +285,13 @@ static const struct Entry *find(const struct Entry *entries, const char *name) {
 
 int main(int count, char **words) {
     const struct Entry *all[] = {lifetime_programs, thread_programs, shape_programs};
-    for (int i = 0; count == 2 && i < 3; i++) {
+    if (count == 3) turns = atoi(words[2]);
+    for (int i = 0; count >= 2 && i < 3; i++) {
         const struct Entry *found = find(all[i], words[1]);
         if (found == NULL) continue;
         found->run();
         return 0;
     }
-    fprintf(stderr, "vkrecord_programs NAME: no such program\n");
+    fprintf(stderr, "vkrecord_programs NAME [TURNS]: no such program\n");
     return 98;
 }

@@ -17,6 +17,7 @@ struct Machine {
 };
 
 extern struct Machine machine;
+extern int turns;      // of the threads that are wrong
 
 typedef void (*Program)(void);
 struct Entry {

@@ -4,7 +4,9 @@
 #include <pthread.h>
 #include <stddef.h>
 
-enum { most_threads = 4, turns = 20000, right_turns = 500, short_threads = 1500 };
+enum { most_threads = 4, right_turns = 500, short_threads = 1500 };
+
+int turns = 20000;
 
 typedef void (*Work)(int number);
 struct Job {
