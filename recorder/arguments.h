@@ -38,18 +38,23 @@ void list_descriptors(Call& call, uint32_t count, const VkWriteDescriptorSet* wr
     call.close_list();
 }
 
-void arguments_of_vkUpdateDescriptorSets(Call& call, VkDevice device, uint32_t write_count, const VkWriteDescriptorSet* writes,
-                                         uint32_t copy_count, const VkCopyDescriptorSet* copies) {
+void arguments_of_vkUpdateDescriptorSets(Call& call, VkDevice device, uint32_t write_count,
+                                         const VkWriteDescriptorSet* writes, uint32_t copy_count,
+                                         const VkCopyDescriptorSet* copies) {
     call.one(device);
     call.open_list();
     for (uint32_t i = 0; i < write_count; i++) call.item(writes[i].dstSet);
     for (uint32_t i = 0; i < copy_count; i++) call.item(copies[i].dstSet);
     call.close_list();
     using Write = VkWriteDescriptorSet;
-    list_descriptors(call, write_count, writes, has_sampler, [](const Write& w, uint32_t k) { return w.pImageInfo[k].sampler; });
-    list_descriptors(call, write_count, writes, has_image, [](const Write& w, uint32_t k) { return w.pImageInfo[k].imageView; });
-    list_descriptors(call, write_count, writes, has_buffer, [](const Write& w, uint32_t k) { return w.pBufferInfo[k].buffer; });
-    list_descriptors(call, write_count, writes, has_texels, [](const Write& w, uint32_t k) { return w.pTexelBufferView[k]; });
+    list_descriptors(call, write_count, writes, has_sampler,
+                     [](const Write& w, uint32_t k) { return w.pImageInfo[k].sampler; });
+    list_descriptors(call, write_count, writes, has_image,
+                     [](const Write& w, uint32_t k) { return w.pImageInfo[k].imageView; });
+    list_descriptors(call, write_count, writes, has_buffer,
+                     [](const Write& w, uint32_t k) { return w.pBufferInfo[k].buffer; });
+    list_descriptors(call, write_count, writes, has_texels,
+                     [](const Write& w, uint32_t k) { return w.pTexelBufferView[k]; });
 }
 
 void arguments_of_vkCreateDescriptorSetLayout(Call& call, VkDevice device, const VkDescriptorSetLayoutCreateInfo* info,
@@ -80,12 +85,14 @@ void list_module(Call& call, const VkPipelineShaderStageCreateInfo& stage) {
 }
 
 void arguments_of_vkCreateGraphicsPipelines(Call& call, VkDevice device, VkPipelineCache cache, uint32_t count,
-                                            const VkGraphicsPipelineCreateInfo* infos, const VkAllocationCallbacks*, VkPipeline*) {
+                                            const VkGraphicsPipelineCreateInfo* infos, const VkAllocationCallbacks*,
+                                            VkPipeline*) {
     call.one(device);
     call.one(cache);
     call.open_list();
     for (uint32_t i = 0; i < count; i++) {
-        for (uint32_t k = 0; infos[i].pStages != nullptr && k < infos[i].stageCount; k++) list_module(call, infos[i].pStages[k]);
+        for (uint32_t k = 0; infos[i].pStages != nullptr && k < infos[i].stageCount; k++)
+            list_module(call, infos[i].pStages[k]);
     }
     call.close_list();
     call.open_list();
@@ -97,7 +104,8 @@ void arguments_of_vkCreateGraphicsPipelines(Call& call, VkDevice device, VkPipel
 }
 
 void arguments_of_vkCreateComputePipelines(Call& call, VkDevice device, VkPipelineCache cache, uint32_t count,
-                                           const VkComputePipelineCreateInfo* infos, const VkAllocationCallbacks*, VkPipeline*) {
+                                           const VkComputePipelineCreateInfo* infos, const VkAllocationCallbacks*,
+                                           VkPipeline*) {
     call.one(device);
     call.one(cache);
     call.open_list();
@@ -108,7 +116,8 @@ void arguments_of_vkCreateComputePipelines(Call& call, VkDevice device, VkPipeli
     call.close_list();
 }
 
-void arguments_of_vkCreateDescriptorUpdateTemplate(Call& call, VkDevice device, const VkDescriptorUpdateTemplateCreateInfo* info,
+void arguments_of_vkCreateDescriptorUpdateTemplate(Call& call, VkDevice device,
+                                                   const VkDescriptorUpdateTemplateCreateInfo* info,
                                                    const VkAllocationCallbacks*, VkDescriptorUpdateTemplate*) {
     call.one(device);
     const bool of_sets = info->templateType == VK_DESCRIPTOR_UPDATE_TEMPLATE_TYPE_DESCRIPTOR_SET;
@@ -126,7 +135,8 @@ void arguments_of_vkGetDeviceQueue2(Call& call, VkDevice device, const VkDeviceQ
                  (info->flags != 0 ? "," + std::to_string(info->flags) : ""));
 }
 
-void arguments_of_vkBindBufferMemory2(Call& call, VkDevice device, uint32_t count, const VkBindBufferMemoryInfo* infos) {
+void arguments_of_vkBindBufferMemory2(Call& call, VkDevice device, uint32_t count,
+                                      const VkBindBufferMemoryInfo* infos) {
     call.spread();
     call.one(device);
     call.open_list();
@@ -141,7 +151,9 @@ void arguments_of_vkBindBufferMemory2(Call& call, VkDevice device, uint32_t coun
 void arguments_of_vkBindImageMemory2(Call& call, VkDevice device, uint32_t count, const VkBindImageMemoryInfo* infos) {
     call.spread();
     call.one(device);
-    auto counts = [](const VkBindImageMemoryInfo& info) { return info.memory != VK_NULL_HANDLE || info.pNext == nullptr; };
+    auto counts = [](const VkBindImageMemoryInfo& info) {
+        return info.memory != VK_NULL_HANDLE || info.pNext == nullptr;
+    };
     call.open_list();
     for (uint32_t i = 0; i < count; i++) {
         if (counts(infos[i])) call.item(infos[i].image);
@@ -158,18 +170,22 @@ void list_semaphores(Call& call, uint32_t count, const VkSemaphoreSubmitInfo* in
     for (uint32_t i = 0; i < count; i++) call.item(infos[i].semaphore);
 }
 
-void arguments_of_vkQueueSubmit2(Call& call, VkQueue queue, uint32_t count, const VkSubmitInfo2* submits, VkFence fence) {
+void arguments_of_vkQueueSubmit2(Call& call, VkQueue queue, uint32_t count, const VkSubmitInfo2* submits,
+                                 VkFence fence) {
     call.one(queue);
     call.open_list();
-    for (uint32_t i = 0; i < count; i++) list_semaphores(call, submits[i].waitSemaphoreInfoCount, submits[i].pWaitSemaphoreInfos);
+    for (uint32_t i = 0; i < count; i++)
+        list_semaphores(call, submits[i].waitSemaphoreInfoCount, submits[i].pWaitSemaphoreInfos);
     call.close_list();
     call.open_list();
     for (uint32_t i = 0; i < count; i++) {
-        for (uint32_t k = 0; k < submits[i].commandBufferInfoCount; k++) call.item(submits[i].pCommandBufferInfos[k].commandBuffer);
+        for (uint32_t k = 0; k < submits[i].commandBufferInfoCount; k++)
+            call.item(submits[i].pCommandBufferInfos[k].commandBuffer);
     }
     call.close_list();
     call.open_list();
-    for (uint32_t i = 0; i < count; i++) list_semaphores(call, submits[i].signalSemaphoreInfoCount, submits[i].pSignalSemaphoreInfos);
+    for (uint32_t i = 0; i < count; i++)
+        list_semaphores(call, submits[i].signalSemaphoreInfoCount, submits[i].pSignalSemaphoreInfos);
     call.close_list();
     call.one(fence);
 }
@@ -189,7 +205,8 @@ void observe_vkSetDebugUtilsObjectNameEXT(VkDevice, const VkDebugUtilsObjectName
 
 // Its types have the numbers of VkObjectType up to the command pool's.
 void observe_vkDebugMarkerSetObjectNameEXT(VkDevice, const VkDebugMarkerObjectNameInfoEXT* info) {
-    if (info->objectType <= VK_DEBUG_REPORT_OBJECT_TYPE_COMMAND_POOL_EXT) log_label(info->objectType, info->object, info->pObjectName);
+    if (info->objectType <= VK_DEBUG_REPORT_OBJECT_TYPE_COMMAND_POOL_EXT)
+        log_label(info->objectType, info->object, info->pObjectName);
 }
 
 }  // namespace

@@ -14,7 +14,8 @@ public:
     ThreadState(const ThreadState&) = delete;
     ThreadState& operator=(const ThreadState&) = delete;
     ~ThreadState();
-    // The number, 0 where 1,024 other threads have one. It is taken at the first call and given back when the thread ends.
+    // The number, 0 where 1,024 other threads have one. It is taken at the first call and given back when the thread
+    // ends.
     uint16_t number();
 
     std::vector<uint64_t> record;
@@ -35,8 +36,9 @@ uint64_t bits_of(Handle handle) {
     }
 }
 
-// The begin is logged before the call goes down, so that a call that crashes below is seen; the return when it comes back.
-// No lock is held in between. A call that comes while its thread is in another one is made by a layer and isn't logged.
+// The begin is logged before the call goes down, so that a call that crashes below is seen; the return when it comes
+// back. No lock is held in between. A call that comes while its thread is in another one is made by a layer and isn't
+// logged.
 class Call {
 public:
     explicit Call(uint16_t row);

@@ -1,6 +1,6 @@
-// vkrecord_convert VERSION OUT LOG..: writes the traces of raw logs, OUT.trace, OUT.2.trace and so on, one for each instance, and
-// beside each the names that the program gave its objects, as OUT.names, OUT.2.names. The last line on standard error says what
-// was recorded.
+// vkrecord_convert VERSION OUT LOG..: writes the traces of raw logs, OUT.trace, OUT.2.trace and so on, one for each
+// instance, and beside each the names that the program gave its objects, as OUT.names, OUT.2.names. The last line on
+// standard error says what was recorded.
 #include "objects.h"
 #include "reader.h"
 #include "writer.h"
@@ -304,7 +304,8 @@ Object* Converter::owner_of_made(const Row& row, const Written& call) const {
 
 void Converter::apply_end(const Row& row, const Written& call) {
     const EffectKind kind = row.effect.kind;
-    if (kind != EffectKind::destroy_object && kind != EffectKind::free_object && kind != EffectKind::reset_object) return;
+    if (kind != EffectKind::destroy_object && kind != EffectKind::free_object && kind != EffectKind::reset_object)
+        return;
     for (const Object* object : call.arguments[row.effect.place]) {
         auto* ended = const_cast<Object*>(object);
         if (ended == nullptr) continue;
@@ -334,7 +335,8 @@ void Converter::write(const Record& record, Written& call, const Back& back) {
     }
     Object* owner = owner_of_made(row, call);
     for (uint64_t handle : back.handles) call.made.push_back(objects_.make(row.effect.made, handle, owner, trace_));
-    if (is_one(row.effect.kind) && call.made.empty()) call.made.push_back(objects_.make(row.effect.made, 0, owner, trace_));
+    if (is_one(row.effect.kind) && call.made.empty())
+        call.made.push_back(objects_.make(row.effect.made, 0, owner, trace_));
     if (!is_one(row.effect.kind) && !is_many(row.effect.kind)) call.made.clear();
     const uint64_t before = writer.calls();
     write_pieces(record, call, back, writer);
@@ -355,8 +357,8 @@ void Converter::write(const Record& record, Written& call, const Back& back) {
     }
 }
 
-// Most calls are one piece. A spread one is one for each place of its lists; a creation that succeeded in part is two, one for
-// what came and one for what didn't.
+// Most calls are one piece. A spread one is one for each place of its lists; a creation that succeeded in part is two,
+// one for what came and one for what didn't.
 void Converter::write_pieces(const Record& record, Written& call, const Back& back, TraceWriter& writer) {
     if (record.kind == RecordKind::spread) {
         const size_t count = call.arguments.back().size();
@@ -367,7 +369,8 @@ void Converter::write_pieces(const Record& record, Written& call, const Back& ba
         }
         return;
     }
-    auto came = std::stable_partition(call.made.begin(), call.made.end(), [](const Object* made) { return made->handle != 0; });
+    auto came = std::stable_partition(call.made.begin(), call.made.end(),
+                                      [](const Object* made) { return made->handle != 0; });
     const bool in_part = is_many(rows[call.row].effect.kind) && back.code != 0 && came != call.made.begin() &&
                          !is_get(rows[call.row].effect.kind);
     if (!in_part) return writer.begin(call);
@@ -423,7 +426,9 @@ bool write_names(const Trace& trace) {
 void say(const Summary& summary, const std::string& out, size_t traces) {
     std::vector<std::pair<uint64_t, std::string>> often;
     for (const auto& [name, count] : summary.names_without_row) often.emplace_back(count, name);
-    std::sort(often.begin(), often.end(), [](const auto& a, const auto& b) { return a.first > b.first || (a.first == b.first && a.second < b.second); });
+    std::sort(often.begin(), often.end(), [](const auto& a, const auto& b) {
+        return a.first > b.first || (a.first == b.first && a.second < b.second);
+    });
     std::string text = "vkrecord: " + out + ".trace: " + std::to_string(summary.calls) + " calls recorded, " +
                        std::to_string(summary.without_row) + " without a row";
     for (size_t i = 0; i < std::min<size_t>(often.size(), 10); i++) {
@@ -431,9 +436,12 @@ void say(const Summary& summary, const std::string& out, size_t traces) {
     }
     if (!often.empty()) text += ")";
     text += ", threads " + std::to_string(summary.threads) + ", instances " + std::to_string(traces);
-    if (summary.unknown_handle > 0) text += ", left out for a handle that no recorded call gave " + std::to_string(summary.unknown_handle);
-    if (summary.failed_instances > 0) text += ", failed vkCreateInstance left out " + std::to_string(summary.failed_instances);
-    if (summary.beyond_limit > 0) text += ", left out beyond vkreplay's limits " + std::to_string(summary.beyond_limit);
+    if (summary.unknown_handle > 0)
+        text += ", left out for a handle that no recorded call gave " + std::to_string(summary.unknown_handle);
+    if (summary.failed_instances > 0)
+        text += ", failed vkCreateInstance left out " + std::to_string(summary.failed_instances);
+    if (summary.beyond_limit > 0)
+        text += ", left out beyond vkreplay's limits " + std::to_string(summary.beyond_limit);
     if (summary.lost > 0) text += ", lost for want of room or of thread numbers " + std::to_string(summary.lost);
     std::fprintf(stderr, "%s\n", text.c_str());
 }

@@ -1,10 +1,11 @@
 #!/usr/bin/env python3
-"""generate.py TABLE FURTHER NEWER REGISTRY BY_HAND OUT: writes OUT/rows.h and OUT/wrappers.h, from which layer and converter are built.
+"""generate.py TABLE FURTHER NEWER REGISTRY BY_HAND OUT: writes OUT/rows.h and OUT/wrappers.h, from which layer and
+converter are built.
 
-TABLE is table.rt of the crate command_tables, FURTHER a file of rows in the same form (those of trace version 2), NEWER a list of
-newer commands with the older ones whose rows they take, REGISTRY Debian's vk.xml, and BY_HAND the header whose functions
-`arguments_of_COMMAND` log the handles of those commands whose members count under conditions, and whose functions
-`observe_COMMAND` log something else of commands without a row."""
+TABLE is table.rt of the crate command_tables, FURTHER a file of rows in the same form (those of trace version 2),
+NEWER a list of newer commands with the older ones whose rows they take, REGISTRY Debian's vk.xml, and BY_HAND the
+header whose functions `arguments_of_COMMAND` log the handles of those commands whose members count under conditions,
+and whose functions `observe_COMMAND` log something else of commands without a row."""
 import re
 import sys
 import xml.etree.ElementTree as ElementTree
@@ -170,7 +171,7 @@ def read_registry(path):
 
 
 def handle_paths(registry, command):
-    """All handles that a command is given: for each the steps from the parameter to it. pNext and pAllocator are left out."""
+    """All handles that a command is given, but in pNext and pAllocator: for each the steps from a parameter to it."""
     found = []
 
     def walk(member, steps, depth):
@@ -309,7 +310,7 @@ def wrapper(registry, name, row, by_hand, numbers):
 
 
 def wrapped_names(registry):
-    """The commands that get a wrapper: those with a dispatchable first parameter, but for those that layer.cpp has by hand."""
+    """The commands that get a wrapper: all with a dispatchable first parameter, but for those of layer.cpp."""
     def dispatchable(name):
         first = registry.commands[registry.base(name)].params[:1]
         return bool(first) and registry.handles.get(first[0].type, False)
@@ -358,10 +359,13 @@ def next_table(registry, names):
 
 def wrapper_list(registry, names):
     """All wrappers by name, in byte order."""
-    lines = ["struct Wrapper {", "    const char* name;", "    PFN_vkVoidFunction function;", "    bool of_device;", "};", "",
-             "const Wrapper wrappers[] = {"]
-    lines += [f'    {{"{n}", reinterpret_cast<PFN_vkVoidFunction>(record_{n}), {str(is_of_device(registry, n)).lower()}}},'
-              for n in sorted(names)]
+    def text(name):
+        of_device = str(is_of_device(registry, name)).lower()
+        return f'    {{"{name}", reinterpret_cast<PFN_vkVoidFunction>(record_{name}), {of_device}}},'
+
+    lines = ["struct Wrapper {", "    const char* name;", "    PFN_vkVoidFunction function;", "    bool of_device;",
+             "};", "", "const Wrapper wrappers[] = {"]
+    lines += [text(name) for name in sorted(names)]
     return "\n".join(lines + ["};"])
 
 
@@ -398,7 +402,8 @@ def rows_header(rows, unlisted):
     lines = ["// Made by generate.py.", "#pragma once", "#include <cstdint>", "", "enum class ObjectType : uint8_t {"]
     lines += [f"    {t}," for t in types] + ["};", "", '#include "row.h"', "", "inline constexpr Row rows[] = {"]
     lines += [row_text(row) for row in rows] + ["};", ""]
-    lines += ["inline constexpr const char* commands_without_row[] = {"] + [f'    "{n}",' for n in unlisted] + ["};", ""]
+    lines += ["inline constexpr const char* commands_without_row[] = {"]
+    lines += [f'    "{n}",' for n in unlisted] + ["};", ""]
     lines += [f"inline constexpr uint16_t row_of_{row.name} = {k};" for k, row in enumerate(rows)]
     return "\n".join(lines) + "\n"
 
@@ -421,8 +426,9 @@ def main():
     wrappers = [wrapper(registry, n, row_of(n), by_hand, numbers) for n in names]
     out.mkdir(parents=True, exist_ok=True)
     (out / "rows.h").write_text(rows_header(rows, unlisted))
-    parts = ["// Made by generate.py.", platform_types(registry), next_table(registry, names), '#include "arguments.h"',
-             "namespace {", "\n\n".join(wrappers), wrapper_list(registry, names), "}  // namespace"]
+    parts = ["// Made by generate.py.", platform_types(registry), next_table(registry, names),
+             '#include "arguments.h"', "namespace {", "\n\n".join(wrappers), wrapper_list(registry, names),
+             "}  // namespace"]
     (out / "wrappers.h").write_text("\n\n".join(parts) + "\n")
 
 

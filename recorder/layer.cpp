@@ -18,6 +18,8 @@
 
 namespace {
 
+static_assert(std::size(commands_without_row) <= most_commands_without_row);
+
 // An instance or a device with what stands below it.
 struct Chain {
     void* key = nullptr;
@@ -27,7 +29,8 @@ struct Chain {
     Next next;
 };
 
-// The living chains. A chain is never freed, since a thread may still be in a call of it, and isn't changed once it is found here.
+// The living chains. A chain is never freed, since a thread may still be in a call of it, and isn't changed once it is
+// found here.
 struct Chains {
     std::array<std::atomic<Chain*>, 256> living{};
     std::mutex lock;
@@ -39,7 +42,8 @@ Chains& chains() {
     return *all;
 }
 
-// The word that the loader keeps at the front of a dispatchable handle: one for all handles of an instance, or of a device.
+// The word that the loader keeps at the front of a dispatchable handle: one for all handles of an instance, or of a
+// device.
 template <class Handle>
 void* key_of(Handle handle) {
     void* key = nullptr;
@@ -96,7 +100,8 @@ Link* find_link(const void* first, VkStructureType type) {
 
 std::string joined_layers(const VkInstanceCreateInfo& info) {
     std::string names;
-    for (uint32_t i = 0; i < info.enabledLayerCount; i++) names += (i > 0 ? "," : "") + std::string(info.ppEnabledLayerNames[i]);
+    for (uint32_t i = 0; i < info.enabledLayerCount; i++)
+        names += (i > 0 ? "," : "") + std::string(info.ppEnabledLayerNames[i]);
     return names;
 }
 
@@ -105,19 +110,22 @@ void note_instance(const VkInstanceCreateInfo& info) {
     log.note("program", program_invocation_name);
     const char* forced = std::getenv("VK_INSTANCE_LAYERS");
     const std::string names = joined_layers(info);
-    log.note("layers", (forced != nullptr ? std::string(forced) : "") + (names.empty() ? "" : ", by the application " + names));
+    log.note("layers",
+             (forced != nullptr ? std::string(forced) : "") + (names.empty() ? "" : ", by the application " + names));
 }
 
 void note_driver(const Chain& chain, VkPhysicalDevice physical_device) {
     VkPhysicalDeviceProperties properties{};
     chain.next.vkGetPhysicalDeviceProperties(physical_device, &properties);
     const uint32_t version = properties.apiVersion;
-    Log::get().note("driver", std::string(properties.deviceName) + ", Vulkan " + std::to_string(VK_API_VERSION_MAJOR(version)) + "." +
-                                  std::to_string(VK_API_VERSION_MINOR(version)) + "." + std::to_string(VK_API_VERSION_PATCH(version)));
+    Log::get().note("driver", std::string(properties.deviceName) + ", Vulkan " +
+                                  std::to_string(VK_API_VERSION_MAJOR(version)) + "." +
+                                  std::to_string(VK_API_VERSION_MINOR(version)) + "." +
+                                  std::to_string(VK_API_VERSION_PATCH(version)));
 }
 
-VKAPI_ATTR VkResult VKAPI_CALL record_vkCreateInstance(const VkInstanceCreateInfo* info, const VkAllocationCallbacks* allocator,
-                                                       VkInstance* instance) {
+VKAPI_ATTR VkResult VKAPI_CALL record_vkCreateInstance(const VkInstanceCreateInfo* info,
+                                                       const VkAllocationCallbacks* allocator, VkInstance* instance) {
     auto* link = find_link<VkLayerInstanceCreateInfo>(info->pNext, VK_STRUCTURE_TYPE_LOADER_INSTANCE_CREATE_INFO);
     if (link == nullptr) return VK_ERROR_INITIALIZATION_FAILED;
     auto chain = std::make_unique<Chain>();
@@ -200,13 +208,14 @@ const Wrapper* find_wrapper(const char* name) {
     for (const Wrapper& wrapper : wrappers_by_hand) {
         if (std::strcmp(wrapper.name, name) == 0) return &wrapper;
     }
-    const Wrapper* found = std::lower_bound(std::begin(wrappers), std::end(wrappers), name, [](const Wrapper& wrapper, const char* wanted) {
-        return std::strcmp(wrapper.name, wanted) < 0;
-    });
+    const Wrapper* found = std::lower_bound(
+        std::begin(wrappers), std::end(wrappers), name,
+        [](const Wrapper& wrapper, const char* wanted) { return std::strcmp(wrapper.name, wanted) < 0; });
     return found != std::end(wrappers) && std::strcmp(found->name, name) == 0 ? found : nullptr;
 }
 
-// What the layer answers where the next one answers `below`: nothing where that has nothing, as for an extension that isn't on.
+// What the layer answers where the next one answers `below`: nothing where that has nothing, as for an extension that
+// isn't on.
 PFN_vkVoidFunction over(const char* name, PFN_vkVoidFunction below, bool of_device_alone) {
     if (below == nullptr) return nullptr;
     const Wrapper* wrapper = find_wrapper(name);
@@ -221,7 +230,8 @@ VKAPI_ATTR PFN_vkVoidFunction VKAPI_CALL get_of_device(VkDevice device, const ch
 VKAPI_ATTR PFN_vkVoidFunction VKAPI_CALL get_of_instance(VkInstance instance, const char* name) {
     if (std::strcmp(name, "vkGetInstanceProcAddr") == 0) return reinterpret_cast<PFN_vkVoidFunction>(get_of_instance);
     if (std::strcmp(name, "vkGetDeviceProcAddr") == 0) return reinterpret_cast<PFN_vkVoidFunction>(get_of_device);
-    if (std::strcmp(name, "vkCreateInstance") == 0) return reinterpret_cast<PFN_vkVoidFunction>(record_vkCreateInstance);
+    if (std::strcmp(name, "vkCreateInstance") == 0)
+        return reinterpret_cast<PFN_vkVoidFunction>(record_vkCreateInstance);
     if (instance == VK_NULL_HANDLE) return nullptr;
     return over(name, chain_of(instance).get_of_instance(instance, name), false);
 }

@@ -19,8 +19,8 @@ constexpr uint64_t greatest_step = uint64_t{1} << 26;
 // The path of the next log of this process: VKRECORD_FOLDER, else the current folder.
 std::string log_path(int number) {
     const char* folder = std::getenv("VKRECORD_FOLDER");
-    return std::string(folder != nullptr && *folder != 0 ? folder : ".") + "/vkrecord." + std::to_string(getpid()) + "." +
-           std::to_string(number) + ".log";
+    return std::string(folder != nullptr && *folder != 0 ? folder : ".") + "/vkrecord." + std::to_string(getpid()) +
+           "." + std::to_string(number) + ".log";
 }
 
 // A forked process has the same mapping: it records nothing, so that one log has one process.
@@ -57,7 +57,8 @@ bool Log::open_file() {
     return true;
 }
 
-// Makes the file at least so long. Room is taken from the disk before it is mapped, since a page without room ends the process.
+// Makes the file at least so long. Room is taken from the disk before it is mapped, since a page without room ends the
+// process.
 bool Log::grow_to(uint64_t wanted) {
     if (wanted <= size_.load(std::memory_order_acquire)) return true;
     if (wanted > greatest_size) return false;

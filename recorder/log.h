@@ -14,7 +14,8 @@ public:
     static Log& get();
 
     bool is_on() const { return on_.load(std::memory_order_relaxed); }
-    // Appends a record, whose first word this sets. The place that it takes is the ticket by which all records are ordered.
+    // Appends a record, whose first word this sets. The place that it takes is the ticket by which all records are
+    // ordered.
     void append(std::vector<uint64_t>& record, RecordKind kind);
     void note(const std::string& key, const std::string& value);
     void count_without_row(uint16_t command);

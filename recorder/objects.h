@@ -21,7 +21,7 @@ struct Object {
     uint32_t trace = 0;
     Name name;
     Object* owner = nullptr;
-    size_t place = 0;                  // among its owner's children
+    size_t place = 0;  // among its owner's children
     std::vector<Object*> children;
 };
 
@@ -46,7 +46,8 @@ private:
     };
     struct Hash {
         size_t operator()(const Key& key) const {
-            return static_cast<size_t>((key.handle ^ static_cast<uint64_t>(key.type) << 56) * 0x9e3779b97f4a7c15 >> 16);
+            return static_cast<size_t>((key.handle ^ static_cast<uint64_t>(key.type) << 56) * 0x9e3779b97f4a7c15 >>
+                                       16);
         }
     };
     struct Stack {

@@ -1,4 +1,5 @@
-// The raw log: what the layer writes and the converter reads. All numbers are 64-bit words in the machine's byte order.
+// The raw log: what the layer writes and the converter reads. All numbers are 64-bit words in the machine's order of
+// bytes.
 //
 // The file begins with a LogHeader, and with records from `first_record` on. A record is
 //   word 0   its length in words (32 bits), its kind (8), its state (8), the mark (16)
@@ -12,8 +13,8 @@
 //   note     a text "KEY VALUE"
 // A text is its number of bytes in one word, and the bytes, filled up with zeros.
 //
-// Records stand in the order in which they took their places. A record whose state isn't `whole` was cut by the end of its
-// thread; where a record has no first word, the next one begins at the next word that isn't zero.
+// Records stand in the order in which they took their places. A record whose state isn't `whole` was cut by the end
+// of its thread; where a record has no first word, the next one begins at the next word that isn't zero.
 #pragma once
 #include <atomic>
 #include <cstddef>
@@ -30,8 +31,8 @@ enum class RecordState : uint8_t { open = 0, whole = 1 };
 struct LogHeader {
     uint64_t word;
     uint64_t process;
-    std::atomic<uint64_t> position;       // bytes that records have taken
-    std::atomic<uint64_t> lost_calls;     // calls that found no thread number or no room
+    std::atomic<uint64_t> position;    // bytes that records have taken
+    std::atomic<uint64_t> lost_calls;  // calls that found no thread number or no room
     std::atomic<uint64_t> without_row[most_commands_without_row];
 };
 static_assert(sizeof(LogHeader) <= first_record);

@@ -11,7 +11,7 @@ struct Record {
     uint16_t thread;
     uint16_t row;
     int32_t code;
-    const uint64_t* words;      // behind the first two
+    const uint64_t* words;  // behind the first two
     uint32_t count;
 };
 

@@ -22,7 +22,8 @@ struct RowParam {
     bool optional;
 };
 
-// What a call does to objects: the type that it makes or gives and whose it becomes, or at which parameter it ends some.
+// What a call does to objects: the type that it makes or gives and whose it becomes, or at which parameter it ends
+// some.
 struct Effect {
     EffectKind kind;
     ObjectType made;

@@ -11,7 +11,8 @@ constexpr size_t most_places = 1024;
 
 // Places of a list that one call takes: so many that its line stays below 65,536 bytes.
 size_t places_of(const Row& row) {
-    size_t lists = row.effect.kind == EffectKind::new_many_object || row.effect.kind == EffectKind::get_many_object ? 1 : 0;
+    size_t lists =
+        row.effect.kind == EffectKind::new_many_object || row.effect.kind == EffectKind::get_many_object ? 1 : 0;
     for (size_t i = 0; i < row.param_count; i++) lists += row.params[i].many ? 1 : 0;
     return lists > 4 ? most_places / 2 : most_places;
 }
@@ -30,7 +31,8 @@ std::string printable(const std::string& text) {
 
 std::string spelled(Name name) { return "%" + std::to_string(name.thread) + "." + std::to_string(name.number); }
 
-TraceWriter::TraceWriter(const std::string& path, int version) : file_(std::fopen(path.c_str(), "wb")), version_(version) {
+TraceWriter::TraceWriter(const std::string& path, int version)
+    : file_(std::fopen(path.c_str(), "wb")), version_(version) {
     failed_ = file_ == nullptr;
     line("vktrace " + std::to_string(version));
 }
@@ -42,7 +44,8 @@ TraceWriter::~TraceWriter() {
 void TraceWriter::line(const std::string& text) {
     lines_++;
     if (file_ == nullptr) return;
-    if (std::fwrite(text.data(), 1, text.size(), file_) != text.size() || std::fputc('\n', file_) == EOF) failed_ = true;
+    if (std::fwrite(text.data(), 1, text.size(), file_) != text.size() || std::fputc('\n', file_) == EOF)
+        failed_ = true;
 }
 
 void TraceWriter::comment(const std::string& text) {
@@ -87,7 +90,8 @@ void TraceWriter::begin_piece(const Written& call, size_t from, size_t places, b
     if (!call.payload.empty()) text_ += " : " + printable(call.payload);
     line(text_);
     calls_++;
-    if (calls_ % 1000 == 0) comment("call " + std::to_string(calls_) + " at " + std::to_string(call.microseconds) + " us");
+    if (calls_ % 1000 == 0)
+        comment("call " + std::to_string(calls_) + " at " + std::to_string(call.microseconds) + " us");
     if (!is_last) line("r " + std::to_string(call.thread));
 }
 

@@ -1,9 +1,11 @@
-// What the small programs share: an instance, a device and a queue, and makers of objects. A maker of a device's object takes the
-// device from `machine`. Each program is a function with a head line
+// What the small programs share: an instance, a device and a queue, and makers of objects. A maker of a device's
+// object takes the device from `machine`. Each program is a function with a head line, which may go on behind `//!` and
+// blanks:
 //   //! NAME: ours REPORTS; layer REPORTS; FURTHER
-// `ours` says which reports vkreplay gives for the recorded trace, as ID*COUNT, or ID*some where threads decide how often;
-// `layer` what VK_LAYER_KHRONOS_validation reports; `nothing` stands for none. Further: `ours2 REPORTS` where a trace of version 2
-// gives others, `status N` (else 0), `alone` (recorded without the validation layer), `traces N` (else 1), `labels N` (else 0).
+// `ours` says which reports vkreplay gives for the recorded trace, as ID*COUNT, or ID*some where threads decide how
+// often; `layer` what VK_LAYER_KHRONOS_validation reports; `nothing` stands for none. Further: `ours2 REPORTS` where a
+// trace of version 2 gives others, `status N` (else 0), `alone` (recorded without the validation layer), `traces N`
+// (else 1), `labels N` (else 0).
 #pragma once
 #define _GNU_SOURCE
 #include <stdint.h>
@@ -17,7 +19,7 @@ struct Machine {
 };
 
 extern struct Machine machine;
-extern int turns;      // of the threads that are wrong
+extern int turns;  // of the threads that are wrong
 
 typedef void (*Program)(void);
 struct Entry {
@@ -54,5 +56,5 @@ VkPipelineLayout make_pipeline_layout(const VkDescriptorSetLayout *layout);
 VkRenderPass make_render_pass(void);
 VkFramebuffer make_framebuffer(VkRenderPass render_pass, VkImageView view);
 VkShaderModule make_shader(void);
-VkResult make_pipelines(VkShaderModule shader, VkPipelineLayout layout, uint32_t count, const VkPipelineCreateFlags *flags,
-                        VkPipeline *pipelines);
+VkResult make_pipelines(VkShaderModule shader, VkPipelineLayout layout, uint32_t count,
+                        const VkPipelineCreateFlags *flags, VkPipeline *pipelines);

@@ -1,5 +1,5 @@
-// cost [CALLS]: records so many vkCmdBindIndexBuffer, two million where no number is given, into command buffers of a thousand, and
-// prints the processor time of a call in nanoseconds.
+// cost [CALLS]: records so many vkCmdBindIndexBuffer, two million where no number is given, into command buffers of a
+// thousand, and prints the processor time of a call in nanoseconds.
 #define _GNU_SOURCE
 #include <stdio.h>
 #include <stdlib.h>
@@ -31,12 +31,14 @@ static void setup(void) {
     vkEnumeratePhysicalDevices(instance, &count, &physical_device);
     float priority = 1;
     VkDeviceQueueCreateInfo queue_info = {VK_STRUCTURE_TYPE_DEVICE_QUEUE_CREATE_INFO, NULL, 0, 0, 1, &priority};
-    VkDeviceCreateInfo info = {.sType = VK_STRUCTURE_TYPE_DEVICE_CREATE_INFO, .queueCreateInfoCount = 1, .pQueueCreateInfos = &queue_info};
+    VkDeviceCreateInfo info = {
+        .sType = VK_STRUCTURE_TYPE_DEVICE_CREATE_INFO, .queueCreateInfoCount = 1, .pQueueCreateInfos = &queue_info};
     must(vkCreateDevice(physical_device, &info, NULL, &device));
 }
 
 static VkBuffer make_buffer(VkDeviceMemory *memory) {
-    VkBufferCreateInfo info = {.sType = VK_STRUCTURE_TYPE_BUFFER_CREATE_INFO, .size = 256, .usage = VK_BUFFER_USAGE_INDEX_BUFFER_BIT};
+    VkBufferCreateInfo info = {
+        .sType = VK_STRUCTURE_TYPE_BUFFER_CREATE_INFO, .size = 256, .usage = VK_BUFFER_USAGE_INDEX_BUFFER_BIT};
     VkBuffer buffer;
     must(vkCreateBuffer(device, &info, NULL, &buffer));
     VkMemoryRequirements needs;
@@ -56,7 +58,8 @@ int main(int count, char **words) {
                                          .flags = VK_COMMAND_POOL_CREATE_RESET_COMMAND_BUFFER_BIT};
     VkCommandPool pool;
     must(vkCreateCommandPool(device, &pool_info, NULL, &pool));
-    VkCommandBufferAllocateInfo allocate = {VK_STRUCTURE_TYPE_COMMAND_BUFFER_ALLOCATE_INFO, NULL, pool, VK_COMMAND_BUFFER_LEVEL_PRIMARY, 1};
+    VkCommandBufferAllocateInfo allocate = {VK_STRUCTURE_TYPE_COMMAND_BUFFER_ALLOCATE_INFO, NULL, pool,
+                                            VK_COMMAND_BUFFER_LEVEL_PRIMARY, 1};
     VkCommandBuffer commands;
     must(vkAllocateCommandBuffers(device, &allocate, &commands));
     VkCommandBufferBeginInfo begin = {.sType = VK_STRUCTURE_TYPE_COMMAND_BUFFER_BEGIN_INFO};

@@ -65,7 +65,8 @@ static void right_null(void) {
     teardown();
 }
 
-//! use_after_destroy: ours VUID-vkGetBufferMemoryRequirements-buffer-parameter*1; layer VUID-vkGetBufferMemoryRequirements-buffer-parameter
+//! use_after_destroy: ours VUID-vkGetBufferMemoryRequirements-buffer-parameter*1; layer
+//!    VUID-vkGetBufferMemoryRequirements-buffer-parameter
 static void use_after_destroy(void) {
     setup();
     VkBuffer buffer = make_buffer();
@@ -84,7 +85,8 @@ static void destroy_twice(void) {
     teardown();
 }
 
-//! leak: ours VKR-vkDestroyDevice-device-children*1 VKR-vkDestroyInstance-instance-children*1; layer VUID-vkDestroyDevice-device-00378
+//! leak: ours VKR-vkDestroyDevice-device-children*1 VKR-vkDestroyInstance-instance-children*1; layer
+//!    VUID-vkDestroyDevice-device-00378
 static void leak(void) {
     setup();
     make_buffer();
@@ -102,7 +104,8 @@ static void leak_device(void) {
     teardown();
 }
 
-//! other_device: ours VUID-vkGetBufferMemoryRequirements-buffer-parent*1 VUID-vkDestroyBuffer-buffer-parent*1; layer VUID-vkGetBufferMemoryRequirements-buffer-parent VUID-vkDestroyBuffer-buffer-parent
+//! other_device: ours VUID-vkGetBufferMemoryRequirements-buffer-parent*1 VUID-vkDestroyBuffer-buffer-parent*1;
+//!    layer VUID-vkGetBufferMemoryRequirements-buffer-parent VUID-vkDestroyBuffer-buffer-parent
 static void other_device(void) {
     setup();
     VkDevice other = make_device();
@@ -130,7 +133,8 @@ static void set_after_reset(void) {
     teardown();
 }
 
-//! free_set_twice: ours VUID-vkFreeDescriptorSets-pDescriptorSets-parameter*1; layer VUID-vkFreeDescriptorSets-pDescriptorSets-00310
+//! free_set_twice: ours VUID-vkFreeDescriptorSets-pDescriptorSets-parameter*1; layer
+//!    VUID-vkFreeDescriptorSets-pDescriptorSets-00310
 static void free_set_twice(void) {
     setup();
     VkDescriptorSetLayout layout = make_set_layout(1);
@@ -143,7 +147,8 @@ static void free_set_twice(void) {
     teardown();
 }
 
-//! set_of_other_pool: ours VUID-vkFreeDescriptorSets-pDescriptorSets-parent*1; layer VUID-vkFreeDescriptorSets-pDescriptorSets-parent
+//! set_of_other_pool: ours VUID-vkFreeDescriptorSets-pDescriptorSets-parent*1; layer
+//!    VUID-vkFreeDescriptorSets-pDescriptorSets-parent
 static void set_of_other_pool(void) {
     setup();
     VkDescriptorSetLayout layout = make_set_layout(1);
@@ -157,7 +162,8 @@ static void set_of_other_pool(void) {
     teardown();
 }
 
-//! freed_commands_submitted: ours VUID-vkQueueSubmit-pCommandBuffers-parameter*1; layer VUID-VkSubmitInfo-pCommandBuffers-parameter
+//! freed_commands_submitted: ours VUID-vkQueueSubmit-pCommandBuffers-parameter*1; layer
+//!    VUID-VkSubmitInfo-pCommandBuffers-parameter
 static void freed_commands_submitted(void) {
     setup();
     VkCommandPool pool = make_command_pool();
@@ -185,7 +191,8 @@ static void dead_view(void) {
     teardown();
 }
 
-//! dead_render_pass: ours VUID-vkCreateFramebuffer-renderPass-parameter*1; layer VUID-VkFramebufferCreateInfo-renderPass-parameter
+//! dead_render_pass: ours VUID-vkCreateFramebuffer-renderPass-parameter*1; layer
+//!    VUID-VkFramebufferCreateInfo-renderPass-parameter
 static void dead_render_pass(void) {
     setup();
     VkImage image = make_image();
@@ -229,7 +236,8 @@ static void unmap_freed_memory(void) {
     teardown();
 }
 
-//! dead_fence: ours VUID-vkWaitForFences-pFences-parameter*1 VUID-vkResetFences-pFences-parameter*1; layer VUID-vkWaitForFences-pFences-parameter VUID-vkResetFences-pFences-parameter
+//! dead_fence: ours VUID-vkWaitForFences-pFences-parameter*1 VUID-vkResetFences-pFences-parameter*1; layer
+//!    VUID-vkWaitForFences-pFences-parameter VUID-vkResetFences-pFences-parameter
 static void dead_fence(void) {
     setup();
     VkFence fences[2] = {make_fence(), make_fence()};
@@ -240,7 +248,8 @@ static void dead_fence(void) {
     teardown();
 }
 
-//! dead_semaphore: ours VUID-vkQueueSubmit-pWaitSemaphores-parameter*1; layer VUID-VkSubmitInfo-pWaitSemaphores-parameter
+//! dead_semaphore: ours VUID-vkQueueSubmit-pWaitSemaphores-parameter*1; layer
+//!    VUID-VkSubmitInfo-pWaitSemaphores-parameter
 static void dead_semaphore(void) {
     setup();
     VkSemaphore semaphore = make_semaphore();
@@ -249,7 +258,8 @@ static void dead_semaphore(void) {
     teardown();
 }
 
-//! dead_event: ours VUID-vkSetEvent-event-parameter*1 VUID-vkGetEventStatus-event-parameter*1; layer VUID-vkSetEvent-event-parameter VUID-vkGetEventStatus-event-parameter
+//! dead_event: ours VUID-vkSetEvent-event-parameter*1 VUID-vkGetEventStatus-event-parameter*1; layer
+//!    VUID-vkSetEvent-event-parameter VUID-vkGetEventStatus-event-parameter
 static void dead_event(void) {
     setup();
     VkEvent event = make_event();
@@ -259,7 +269,8 @@ static void dead_event(void) {
     teardown();
 }
 
-//! dead_set_layout: ours VUID-vkCreatePipelineLayout-pSetLayouts-parameter*1; layer VUID-VkPipelineLayoutCreateInfo-pSetLayouts-parameter
+//! dead_set_layout: ours VUID-vkCreatePipelineLayout-pSetLayouts-parameter*1; layer
+//!    VUID-VkPipelineLayoutCreateInfo-pSetLayouts-parameter
 static void dead_set_layout(void) {
     setup();
     VkDescriptorSetLayout layout = make_set_layout(1);
@@ -268,7 +279,8 @@ static void dead_set_layout(void) {
     teardown();
 }
 
-//! dead_vertex_buffer: ours VUID-vkCmdBindVertexBuffers-pBuffers-parameter*1; layer VUID-vkCmdBindVertexBuffers-pBuffers-parameter
+//! dead_vertex_buffer: ours VUID-vkCmdBindVertexBuffers-pBuffers-parameter*1; layer
+//!    VUID-vkCmdBindVertexBuffers-pBuffers-parameter
 static void dead_vertex_buffer(void) {
     setup();
     VkBuffer buffer = make_buffer();
@@ -283,7 +295,8 @@ static void dead_vertex_buffer(void) {
     teardown();
 }
 
-//! null_index_buffer: ours VUID-vkCmdBindIndexBuffer-buffer-parameter*1; layer UNASSIGNED-GeneralParameterError-RequiredParameter
+//! null_index_buffer: ours VUID-vkCmdBindIndexBuffer-buffer-parameter*1; layer
+//!    UNASSIGNED-GeneralParameterError-RequiredParameter
 static void null_index_buffer(void) {
     setup();
     VkCommandPool pool = make_command_pool();
@@ -295,7 +308,8 @@ static void null_index_buffer(void) {
     teardown();
 }
 
-//! dead_shader: ours VUID-vkCreateComputePipelines-module-parameter*1; layer VUID-VkPipelineShaderStageCreateInfo-module-parameter
+//! dead_shader: ours VUID-vkCreateComputePipelines-module-parameter*1; layer
+//!    VUID-VkPipelineShaderStageCreateInfo-module-parameter
 static void dead_shader(void) {
     setup();
     VkShaderModule shader = make_shader();
@@ -337,7 +351,8 @@ static void value_again_dead(void) {
     teardown();
 }
 
-//! dead_copy_source: ours nothing; ours2 VUID-vkCmdCopyBuffer-srcBuffer-parameter*1; layer VUID-vkCmdCopyBuffer-srcBuffer-parameter
+//! dead_copy_source: ours nothing; ours2 VUID-vkCmdCopyBuffer-srcBuffer-parameter*1; layer
+//!    VUID-vkCmdCopyBuffer-srcBuffer-parameter
 static void dead_copy_source(void) {
     setup();
     VkBuffer from = make_buffer();
@@ -356,10 +371,12 @@ static void dead_copy_source(void) {
     teardown();
 }
 
-//! leak_query_pool: ours nothing; ours2 VKR-vkDestroyDevice-device-children*1 VKR-vkDestroyInstance-instance-children*1; layer VUID-vkDestroyDevice-device-00378
+//! leak_query_pool: ours nothing; ours2 VKR-vkDestroyDevice-device-children*1
+//!    VKR-vkDestroyInstance-instance-children*1; layer VUID-vkDestroyDevice-device-00378
 static void leak_query_pool(void) {
     setup();
-    VkQueryPoolCreateInfo info = {.sType = VK_STRUCTURE_TYPE_QUERY_POOL_CREATE_INFO, .queryType = VK_QUERY_TYPE_OCCLUSION, .queryCount = 4};
+    VkQueryPoolCreateInfo info = {
+        .sType = VK_STRUCTURE_TYPE_QUERY_POOL_CREATE_INFO, .queryType = VK_QUERY_TYPE_OCCLUSION, .queryCount = 4};
     VkQueryPool pool;
     vkCreateQueryPool(machine.device, &info, NULL, &pool);
     teardown();

@@ -1,4 +1,5 @@
-// Programs about the shape of what is recorded: several instances, long lists, newer commands, names, failures and ends.
+// Programs about the shape of what is recorded: several instances, long lists, newer commands, names, failures and
+// ends.
 #include "base.h"
 
 #include <signal.h>
@@ -39,8 +40,11 @@ static void long_lists(void) {
     vkAllocateDescriptorSets(machine.device, &info, all);
     VkDescriptorBufferInfo what = {buffer, 0, VK_WHOLE_SIZE};
     for (int i = 0; i < writes; i++) {
-        infos[i] = (VkWriteDescriptorSet){.sType = VK_STRUCTURE_TYPE_WRITE_DESCRIPTOR_SET, .dstSet = all[i % sets], .descriptorCount = 1,
-                                          .descriptorType = VK_DESCRIPTOR_TYPE_STORAGE_BUFFER, .pBufferInfo = &what};
+        infos[i] = (VkWriteDescriptorSet){.sType = VK_STRUCTURE_TYPE_WRITE_DESCRIPTOR_SET,
+                                          .dstSet = all[i % sets],
+                                          .descriptorCount = 1,
+                                          .descriptorType = VK_DESCRIPTOR_TYPE_STORAGE_BUFFER,
+                                          .pBufferInfo = &what};
     }
     vkUpdateDescriptorSets(machine.device, writes, infos, 0, NULL);
     vkFreeDescriptorSets(machine.device, pool, sets, all);
@@ -76,7 +80,8 @@ static void newer_commands(void) {
     teardown();
 }
 
-//! newer_dead_buffer: ours VUID-vkGetBufferMemoryRequirements-buffer-parameter*1; layer VUID-VkBufferMemoryRequirementsInfo2-buffer-parameter
+//! newer_dead_buffer: ours VUID-vkGetBufferMemoryRequirements-buffer-parameter*1; layer
+//!    VUID-VkBufferMemoryRequirementsInfo2-buffer-parameter
 static void newer_dead_buffer(void) {
     setup();
     VkBuffer buffer = make_buffer();
@@ -87,7 +92,8 @@ static void newer_dead_buffer(void) {
     teardown();
 }
 
-//! newer_freed_memory: ours VUID-vkBindBufferMemory-memory-parameter*2; layer VUID-VkBindBufferMemoryInfo-memory-parameter
+//! newer_freed_memory: ours VUID-vkBindBufferMemory-memory-parameter*2; layer
+//!    VUID-VkBindBufferMemoryInfo-memory-parameter
 static void newer_freed_memory(void) {
     setup();
     VkBuffer buffers[2] = {make_buffer(), make_buffer()};
@@ -104,8 +110,8 @@ static void newer_freed_memory(void) {
 static void name_buffer(VkBuffer buffer, const char *name) {
     PFN_vkSetDebugUtilsObjectNameEXT set_name =
         (PFN_vkSetDebugUtilsObjectNameEXT)vkGetInstanceProcAddr(machine.instance, "vkSetDebugUtilsObjectNameEXT");
-    VkDebugUtilsObjectNameInfoEXT info = {VK_STRUCTURE_TYPE_DEBUG_UTILS_OBJECT_NAME_INFO_EXT, NULL, VK_OBJECT_TYPE_BUFFER,
-                                          (uint64_t)buffer, name};
+    VkDebugUtilsObjectNameInfoEXT info = {VK_STRUCTURE_TYPE_DEBUG_UTILS_OBJECT_NAME_INFO_EXT, NULL,
+                                          VK_OBJECT_TYPE_BUFFER, (uint64_t)buffer, name};
     set_name(machine.device, &info);
 }
 
@@ -194,7 +200,8 @@ static void crash_in_call(void) {
     vkCreateFence(machine.device, &info, &callbacks, &fence);
 }
 
-//! crash_between: ours VUID-vkDestroyBuffer-buffer-parameter*1; layer VUID-vkDestroyBuffer-buffer-parameter; status 134
+//! crash_between: ours VUID-vkDestroyBuffer-buffer-parameter*1; layer VUID-vkDestroyBuffer-buffer-parameter;
+//!    status 134
 static void crash_between(void) {
     setup();
     VkBuffer buffer = make_buffer();

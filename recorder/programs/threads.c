@@ -116,7 +116,8 @@ static void bind_into_first(int number) {
     bind_often(commands[0], turns);
 }
 
-//! threads_command_buffer: ours VKR-vkCmdBindIndexBuffer-commandBuffer-overlap*some; layer UNASSIGNED-Threading-MultipleThreads
+//! threads_command_buffer: ours VKR-vkCmdBindIndexBuffer-commandBuffer-overlap*some; layer
+//!    UNASSIGNED-Threading-MultipleThreads
 static void threads_command_buffer(void) {
     setup();
     make_pools(1);
@@ -133,7 +134,8 @@ static void threads_command_buffer(void) {
 
 static void bind_into_own(int number) { bind_often(commands[number], turns); }
 
-//! threads_command_pool: ours VKR-vkCmdBindIndexBuffer-commandBuffer-overlap*some; layer UNASSIGNED-Threading-MultipleThreads
+//! threads_command_pool: ours VKR-vkCmdBindIndexBuffer-commandBuffer-overlap*some; layer
+//!    UNASSIGNED-Threading-MultipleThreads
 static void threads_command_pool(void) {
     setup();
     make_pools(1);
@@ -173,7 +175,8 @@ static void allocate_often(int number) {
     for (int i = 0; i < turns; i++) make_set(descriptor_pool, set_layout);
 }
 
-//! threads_descriptor_pool: ours VKR-vkAllocateDescriptorSets-descriptorPool-overlap*some; layer UNASSIGNED-Threading-MultipleThreads
+//! threads_descriptor_pool: ours VKR-vkAllocateDescriptorSets-descriptorPool-overlap*some; layer
+//!    UNASSIGNED-Threading-MultipleThreads
 static void threads_descriptor_pool(void) {
     setup();
     make_sets(1);
@@ -208,7 +211,8 @@ static void flush_often(int number) {
     }
 }
 
-//! threads_memory: ours VKR-vkMapMemory-memory-overlap*some VKR-vkUnmapMemory-memory-overlap*some; layer UNASSIGNED-Threading-MultipleThreads VUID-vkMapMemory-memory-00678 VUID-vkUnmapMemory-memory-00689
+//! threads_memory: ours VKR-vkMapMemory-memory-overlap*some VKR-vkUnmapMemory-memory-overlap*some; layer
+//!    UNASSIGNED-Threading-MultipleThreads VUID-vkMapMemory-memory-00678 VUID-vkUnmapMemory-memory-00689
 static void threads_memory(void) {
     setup();
     memory = make_memory(4096);
@@ -241,7 +245,8 @@ static void idle_or_submit(int number) {
     }
 }
 
-//! threads_idle: ours VKR-vkDeviceWaitIdle-device-overlap*some VKR-vkQueueSubmit-queue-overlap*some; layer UNASSIGNED-Threading-MultipleThreads
+//! threads_idle: ours VKR-vkDeviceWaitIdle-device-overlap*some VKR-vkQueueSubmit-queue-overlap*some; layer
+//!    UNASSIGNED-Threading-MultipleThreads
 static void threads_idle(void) {
     setup();
     beside(idle_or_submit, 2);
