@@ -94,7 +94,7 @@ VkImage make_image(void) {
                               .mipLevels = 1,
                               .arrayLayers = 1,
                               .samples = VK_SAMPLE_COUNT_1_BIT};
-    info.usage = VK_IMAGE_USAGE_COLOR_ATTACHMENT_BIT | VK_IMAGE_USAGE_TRANSFER_DST_BIT;
+    info.usage = VK_IMAGE_USAGE_COLOR_ATTACHMENT_BIT | VK_IMAGE_USAGE_SAMPLED_BIT;
     VkImage image = VK_NULL_HANDLE;
     expect(vkCreateImage(machine.device, &info, NULL, &image), "vkCreateImage");
     return image;
@@ -314,9 +314,9 @@ static const struct Entry *find(const struct Entry *entries, const char *name) {
 }
 
 int main(int count, char **words) {
-    const struct Entry *all[] = {lifetime_programs, thread_programs, shape_programs};
+    const struct Entry *all[] = {lifetime_programs, thread_programs, shape_programs, difference_programs};
     if (count == 3) turns = atoi(words[2]);
-    for (int i = 0; count >= 2 && i < 3; i++) {
+    for (int i = 0; count >= 2 && i < 4; i++) {
         const struct Entry *found = find(all[i], words[1]);
         if (found == NULL) continue;
         found->run();

@@ -1,6 +1,6 @@
 // What the small programs share: an instance, a device and a queue, and makers of objects. A maker of a device's
-// object takes the device from `machine`. Each program is a function with a head line, which may go on behind `//!` and
-// blanks:
+// object takes the device from `machine`. Each program is a function with a head line, which may go on behind `//!`
+// and blanks:
 //   //! NAME: ours REPORTS; layer REPORTS; FURTHER
 // `ours` says which reports vkreplay gives for the recorded trace, as ID*COUNT, or ID*some where threads decide how
 // often; `layer` what VK_LAYER_KHRONOS_validation reports; `nothing` stands for none. Further: `ours2 REPORTS` where a
@@ -29,6 +29,7 @@ struct Entry {
 extern const struct Entry lifetime_programs[];
 extern const struct Entry thread_programs[];
 extern const struct Entry shape_programs[];
+extern const struct Entry difference_programs[];
 
 void setup(void);
 void teardown(void);
