@@ -192,14 +192,15 @@ def handle_paths(registry, command):
     return found
 
 
-def vulkan_type(kind):
-    """The handle type of an object type of the table."""
-    return {"Surface": "VkSurfaceKHR", "Swapchain": "VkSwapchainKHR"}.get(kind, "Vk" + kind)
+def vulkan_type(registry, kind):
+    """The handle type of an object type of the table, which leaves the letters of an extension's author out."""
+    shape = re.compile(f"Vk{kind}[A-Z]*")
+    return next((handle for handle in registry.handles if shape.fullmatch(handle)), None)
 
 
 def paths_of(registry, command, param):
     """The paths to a row's parameter: those of its name and type, else the only one of its type."""
-    of_type = [p for p in handle_paths(registry, command) if p[-1].type == vulkan_type(param.type)]
+    of_type = [p for p in handle_paths(registry, command) if p[-1].type == vulkan_type(registry, param.type)]
     named = [p for p in of_type if p[-1].name == param.name]
     if not named and len(of_type) != 1:
         sys.exit(f"{command.name}: no handle for parameter {param.name} of its row")

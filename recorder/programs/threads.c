@@ -4,7 +4,7 @@
 #include <pthread.h>
 #include <stddef.h>
 
-enum { most_threads = 4, right_turns = 500, short_threads = 1500 };
+enum { most_threads = 4, right_turns = 500, short_threads = 1500, many_threads = 1100 };
 
 int turns = 20000;
 
@@ -266,6 +266,26 @@ static void threads_short(void) {
     teardown();
 }
 
+static void *make_and_hold(void *given) {
+    (void)given;
+    make_and_destroy(0);
+    pthread_barrier_wait(&start);
+    return NULL;
+}
+
+// More threads at once than a trace has numbers: the calls of those that find none are lost.
+//! threads_many: ours nothing; layer nothing
+static void threads_many(void) {
+    static pthread_t threads[many_threads];
+    setup();
+    pthread_barrier_init(&start, NULL, many_threads + 1);
+    for (int i = 0; i < many_threads; i++) pthread_create(&threads[i], NULL, make_and_hold, NULL);
+    pthread_barrier_wait(&start);
+    for (int i = 0; i < many_threads; i++) pthread_join(threads[i], NULL);
+    pthread_barrier_destroy(&start);
+    teardown();
+}
+
 const struct Entry thread_programs[] = {
     {"threads_right", threads_right},
     {"threads_queue", threads_queue},
@@ -278,5 +298,6 @@ const struct Entry thread_programs[] = {
     {"threads_wait", threads_wait},
     {"threads_idle", threads_idle},
     {"threads_short", threads_short},
+    {"threads_many", threads_many},
     {NULL, NULL},
 };
