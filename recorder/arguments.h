@@ -190,6 +190,13 @@ void arguments_of_vkQueueSubmit2(Call& call, VkQueue queue, uint32_t count, cons
     call.one(fence);
 }
 
+void results_of_vkEnumeratePhysicalDeviceGroups(Call& call, VkResult result, VkInstance, const uint32_t* count,
+                                                const VkPhysicalDeviceGroupProperties* groups) {
+    for (uint32_t i = 0; result >= 0 && groups != nullptr && i < *count; i++) {
+        call.results(groups[i].physicalDeviceCount, groups[i].physicalDevices);
+    }
+}
+
 // Logs the name that a program gives an object.
 void log_label(int32_t type, uint64_t handle, const char* name) {
     Log& log = Log::get();

@@ -135,6 +135,7 @@ private:
     void begin(const Record& record);
     void back(uint16_t thread);
     void label(const Record& record);
+    void keep_label(const Object* before, const Object* now);
     bool read_arguments(const Record& record, Written& call, uint32_t& place);
     bool resolve(const RowParam& param, uint64_t handle, std::vector<const Object*>& into);
     bool open_trace(const Back& back);
@@ -361,7 +362,8 @@ void Converter::write(const Record& record, Written& call, const Back& back) {
 // one for what came and one for what didn't.
 void Converter::write_pieces(const Record& record, Written& call, const Back& back, TraceWriter& writer) {
     if (record.kind == RecordKind::spread) {
-        const size_t count = call.arguments.back().size();
+        size_t count = call.arguments.back().size();
+        for (size_t i = 1; i < call.arguments.size(); i++) count = std::min(count, call.arguments[i].size());
         for (size_t k = 0; k < count; k++) {
             Written one = call;
             for (size_t i = 1; i < call.arguments.size(); i++) one.arguments[i] = {call.arguments[i][k]};
@@ -391,11 +393,22 @@ void Converter::back(uint16_t thread) {
     traces_[open.trace].writer->back(thread);
     for (Object* object : open.born) {
         if (open.is_given) {
+            keep_label(objects_.find(object->type, object->handle), object);
             objects_.give(object);
         } else {
             objects_.bear(object);
         }
     }
+}
+
+// A name that the program gave an object stays when a call gives the object again.
+void Converter::keep_label(const Object* before, const Object* now) {
+    if (before == nullptr || before->trace != now->trace) return;
+    Trace& trace = traces_[now->trace];
+    auto found = trace.labels.find(before);
+    if (found == trace.labels.end()) return;
+    trace.labelled.push_back(now);
+    trace.labels[now] = std::string(found->second);
 }
 
 void Converter::label(const Record& record) {

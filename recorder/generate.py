@@ -4,8 +4,8 @@ converter are built.
 
 TABLE is table.rt of the crate command_tables, FURTHER a file of rows in the same form (those of trace version 2),
 NEWER a list of newer commands with the older ones whose rows they take, REGISTRY Debian's vk.xml, and BY_HAND the
-header whose functions `arguments_of_COMMAND` log the handles of those commands whose members count under conditions,
-and whose functions `observe_COMMAND` log something else of commands without a row."""
+header whose functions `arguments_of_COMMAND` and `results_of_COMMAND` log the handles of those commands whose members
+count under conditions, and whose functions `observe_COMMAND` log something else of commands without a row."""
 import re
 import sys
 import xml.etree.ElementTree as ElementTree
@@ -234,7 +234,7 @@ def loops(path, what):
 
 def argument_lines(registry, command, row, by_hand):
     """C++ lines that log a call's handles in the order of its row."""
-    if command.name in by_hand:
+    if f"arguments_of_{command.name}" in by_hand:
         names = ", ".join(p.name for p in command.params)
         return [f"arguments_of_{command.name}(call, {names});"]
     lines = []
@@ -264,8 +264,11 @@ def member_of(path):
     return f"{' && '.join(tests)} ? {expression} : {path[-1].type}{{}}"
 
 
-def result_line(registry, command, row):
+def result_line(registry, command, row, by_hand):
     """The C++ line that logs the handles that a call gave, or none."""
+    if f"results_of_{command.name}" in by_hand:
+        names = ", ".join(p.name for p in command.params)
+        return [f"results_of_{command.name}(call, result, {names});"]
     made = [p for p in command.params if p.type in registry.handles and p.pointer and not p.constant]
     if not row.effect.startswith(("new", "get")) or not made:
         return []
@@ -294,7 +297,7 @@ def wrapper(registry, name, row, by_hand, numbers):
     nothing = command.result == "void"
     if row is None:
         first = f"count_call({numbers[name]});"
-        if command.name in by_hand:
+        if f"observe_{command.name}" in by_hand:
             first = f"observe_{command.name}({', '.join(p.name for p in command.params)});"
         body = [first, ("" if nothing else "return ") + down_line(command, name)]
     else:
@@ -302,7 +305,7 @@ def wrapper(registry, name, row, by_hand, numbers):
         body += argument_lines(registry, command, row, by_hand)
         body.append("call.goes_down();")
         body.append(("" if nothing else f"const {command.result} result = ") + down_line(command, name))
-        body += result_line(registry, command, row)
+        body += result_line(registry, command, row, by_hand)
         body.append("call.returned(result);" if command.result == "VkResult" else "call.returned();")
         if not nothing:
             body.append("return result;")
@@ -415,7 +418,7 @@ def main():
     by_name = {row.name: row for row in rows}
     newer = read_newer(newer_path)
     registry = read_registry(registry_path)
-    by_hand = set(re.findall(r"(?:arguments_of|observe)_(vk\w+)\(", hand_path.read_text()))
+    by_hand = set(re.findall(r"((?:arguments_of|results_of|observe)_vk\w+)\(", hand_path.read_text()))
     names = wrapped_names(registry)
 
     def row_of(name):

@@ -4,6 +4,7 @@
 #include <cstdio>
 #include <cstdlib>
 #include <cstring>
+#include <ctime>
 #include <fcntl.h>
 #include <new>
 #include <pthread.h>
@@ -16,11 +17,16 @@ constexpr uint64_t greatest_size = uint64_t{1} << 36;
 constexpr uint64_t first_step = uint64_t{1} << 20;
 constexpr uint64_t greatest_step = uint64_t{1} << 26;
 
-// The path of the next log of this process: VKRECORD_FOLDER, else the current folder.
-std::string log_path(int number) {
+// The path of a log that is opened now, so that logs stand in the order of their names: in VKRECORD_FOLDER, else in the
+// current folder.
+std::string log_path() {
+    timespec now{};
+    clock_gettime(CLOCK_REALTIME, &now);
+    char time[32];
+    std::snprintf(time, sizeof time, "%011lld%09ld", static_cast<long long>(now.tv_sec), now.tv_nsec);
     const char* folder = std::getenv("VKRECORD_FOLDER");
-    return std::string(folder != nullptr && *folder != 0 ? folder : ".") + "/vkrecord." + std::to_string(getpid()) +
-           "." + std::to_string(number) + ".log";
+    return std::string(folder != nullptr && *folder != 0 ? folder : ".") + "/vkrecord." + time + "." +
+           std::to_string(getpid()) + ".log";
 }
 
 // A forked process has the same mapping: it records nothing, so that one log has one process.
@@ -43,8 +49,8 @@ Log::Log() {
 }
 
 bool Log::open_file() {
-    for (int number = 1; file_ < 0; number++) {
-        file_ = open(log_path(number).c_str(), O_RDWR | O_CREAT | O_EXCL | O_CLOEXEC, 0644);
+    while (file_ < 0) {
+        file_ = open(log_path().c_str(), O_RDWR | O_CREAT | O_EXCL | O_CLOEXEC, 0644);
         if (file_ < 0 && errno != EEXIST) return false;
     }
     void* mapped = mmap(nullptr, greatest_size, PROT_READ | PROT_WRITE, MAP_SHARED | MAP_NORESERVE, file_, 0);

@@ -107,6 +107,19 @@ static void newer_freed_memory(void) {
     teardown();
 }
 
+//! physical_device_groups: ours nothing; layer nothing
+static void physical_device_groups(void) {
+    setup();
+    VkPhysicalDeviceGroupProperties groups[4];
+    for (int i = 0; i < 4; i++)
+        groups[i] = (VkPhysicalDeviceGroupProperties){.sType = VK_STRUCTURE_TYPE_PHYSICAL_DEVICE_GROUP_PROPERTIES};
+    uint32_t count = 4;
+    vkEnumeratePhysicalDeviceGroups(machine.instance, &count, groups);
+    machine.physical_device = groups[0].physicalDevices[0];
+    vkDestroyDevice(make_device(), NULL);
+    teardown();
+}
+
 static void name_buffer(VkBuffer buffer, const char *name) {
     PFN_vkSetDebugUtilsObjectNameEXT set_name =
         (PFN_vkSetDebugUtilsObjectNameEXT)vkGetInstanceProcAddr(machine.instance, "vkSetDebugUtilsObjectNameEXT");
@@ -230,6 +243,7 @@ const struct Entry shape_programs[] = {
     {"newer_commands", newer_commands},
     {"newer_dead_buffer", newer_dead_buffer},
     {"newer_freed_memory", newer_freed_memory},
+    {"physical_device_groups", physical_device_groups},
     {"labels", labels},
     {"failed_creation", failed_creation},
     {"right_pipelines", right_pipelines},
