@@ -6,7 +6,7 @@ use std::test::Fail;
 use trace_format::{Event, EventRoom, Name, ParseError, TraceArg, TraceFault};
 
 // A begin of thread 1: its command, arguments, results, code and payload. An argument is one place or a list of them, each by the
-// number of its name.
+// number of its name, or 0 for null.
 #[derive(Clone, Copy)]
 struct Begun<'a>(
     CommandId,
