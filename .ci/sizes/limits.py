@@ -179,31 +179,31 @@ SOAK = ["soak", "--number", "1", "--calls"]
 # What it is, the words, the variables, what is given, the text, the line that is said, the status, and the bound in MB,
 # about 1.5 times what was measured, which stands behind it. ROOM stands for the folder of the machines.
 TRACES = [
-    ("a million turns", [*SOAK, "1000000", "--root", MACHINE], {}, nothing, soaked(1_000_000), "", 0, 0),  # 0
+    ("a million turns", [*SOAK, "1000000", "--root", MACHINE], {}, nothing, soaked(1_000_000), "", 0, 16),  # 10.6
     ("a million turns, validated", [*SOAK, "1000000", "--root", MACHINE], VALIDATED, nothing, soaked(1_000_000), "", 0,
-     0),  # 0
+     41),  # 27.0
     ("10,000 turns through 64 validation layers", [*SOAK, "10000", "--root", "ROOM/layers"], ENABLED, nothing,
-     soaked(10_000), "", 0, 0),  # 0
+     soaked(10_000), "", 0, 41),  # 27.1
     ("16,777,216 lines, 4,194,304 names", RUN, {}, greatest(BEGIN), greatest_text(BARE), "line 16777217: OpenAtEnd", 3,
-     0),  # 0
+     105),  # 69.9
     ("a line more, validated", RUN, VALIDATED, greatest(WAIT), greatest_text(CHECKED), "limit Lines 16777216", 6,
-     0),  # 0
+     450),  # 298.9
     ("a name more, all living", RUN, {}, living("b 2 vkCreateFence %1.3 = %2.1 VK_SUCCESS\n"), living_text(BARE),
-     "limit Names 4194304", 6, 0),  # 0
+     "limit Names 4194304", 6, 875),  # 582.1
     ("a number more, all living, validated", RUN, VALIDATED, living("b 1 vkCreateFence %1.3 = %1.4194305 VK_SUCCESS\n"),
-     living_text(CHECKED), "line 8388610: Results", 3, 0),  # 0
-    ("lines of 65,536 bytes and of one more", RUN, {}, long_lines, long_text, "limit LineBytes 65536", 6, 0),  # 0
+     living_text(CHECKED), "line 8388610: Results", 3, 1220),  # 810.7
+    ("lines of 65,536 bytes and of one more", RUN, {}, long_lines, long_text, "limit LineBytes 65536", 6, 16),  # 10.5
     ("4,096 manifests of each kind, 64 layers", ["run", "--root", "ROOM/files"], ENABLED, lambda: [START], files_text,
-     "", 0, 0),  # 0
+     "", 0, 16),  # 10.6
 ]
 
 # The same of stream files, which are never at fault: what is wanted of them is the calls that they have.
 FILES = [
-    ("64 streams, 16 devices, 262,144 events", {}, many_events, 131_072, 0),  # 0
-    ("64 streams, 16 devices, 262,144 events, validated", VALIDATED, many_events, 131_072, 0),  # 0
-    ("262,144 names, most of streams", {}, many_names, 767, 0),  # 0
-    ("262,144 names, most of streams, validated", VALIDATED, many_names, 767, 0),  # 0
-    ("262,144 names of setup", {}, names_before, 885, 0),  # 0
+    ("64 streams, 16 devices, 262,144 events", {}, many_events, 131_072, 2048),  # not measured
+    ("64 streams, 16 devices, 262,144 events, validated", VALIDATED, many_events, 131_072, 2048),  # not measured
+    ("262,144 names, most of streams", {}, many_names, 767, 2048),  # not measured
+    ("262,144 names, most of streams, validated", VALIDATED, many_names, 767, 2048),  # not measured
+    ("262,144 names of setup", {}, names_before, 885, 2048),  # not measured
 ]
 
 
