@@ -197,14 +197,13 @@ TRACES = [
      "", 0, 16),  # 10.6
 ]
 
-# The same of stream files, which are never at fault: what is wanted of them is the calls that they have. They have
-# still to be measured, and are run where `--files` is given.
+# The same of stream files, which are never at fault: what is wanted of them is the calls that they have.
 FILES = [
-    ("64 streams, 16 devices, 262,144 events", {}, many_events, 131_072, 2048),  # not measured
-    ("64 streams, 16 devices, 262,144 events, validated", VALIDATED, many_events, 131_072, 2048),  # not measured
-    ("262,144 names, most of streams", {}, many_names, 767, 2048),  # not measured
-    ("262,144 names, most of streams, validated", VALIDATED, many_names, 767, 2048),  # not measured
-    ("262,144 names of setup", {}, names_before, 885, 2048),  # not measured
+    ("64 streams, 16 devices, 262,144 events", {}, many_events, 131_072, 285),  # 189
+    ("64 streams, 16 devices, 262,144 events, validated", VALIDATED, many_events, 131_072, 285),  # 188
+    ("262,144 names, most of streams", {}, many_names, 767, 145),  # 95
+    ("262,144 names, most of streams, validated", VALIDATED, many_names, 767, 180),  # 118
+    ("262,144 names of setup", {}, names_before, 885, 1370),  # 913
 ]
 
 
@@ -309,10 +308,10 @@ def bounded(number, room, took):
         raise Wrong(f"it took {memory} MB, where {bound} are its bound")
 
 
-def cases(room, took, files):
-    """The rows as cases, those of files where they are asked for; what they took is appended to a list."""
+def cases(room, took):
+    """The rows as cases; what they took is appended to a list."""
     machines(room)
-    for number, (what, *_) in enumerate([*TRACES, *(FILES if files else [])]):
+    for number, (what, *_) in enumerate([*TRACES, *FILES]):
         yield what, bounded, number, str(room), took
 
 
