@@ -9,7 +9,7 @@ use std::alloc::{AllocError, AllocFailed};
 use thiserror::Error;
 
 /// How many layers a chain may have.
-pub(crate) const MOST_LAYERS: usize = 64;
+pub const MOST_LAYERS: usize = 64;
 
 /// What is said beside a chain, once for each occurrence of the name.
 #[derive(Debug, PartialEq, Eq)]

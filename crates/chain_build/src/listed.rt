@@ -3,7 +3,7 @@ use env_filters::LayerKindBit;
 use layer_search::FoundLayer;
 
 /// How many levels of meta-layers may stand in one another.
-pub(crate) const MOST_LEVELS: usize = 8;
+pub const MOST_LEVELS: usize = 8;
 
 /// A layer that was found, and whether it is an explicit or an implicit one.
 #[derive(Clone, Copy)]

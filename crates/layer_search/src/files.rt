@@ -11,7 +11,7 @@ use replay_base::{Tree, TreeRead};
 use std::alloc::Global;
 
 /// How many bytes a manifest file may have.
-pub(crate) const MOST_BYTES: usize = 1_048_576;
+pub const MOST_BYTES: usize = 1_048_576;
 
 /// The bytes of a manifest file, or why it isn't read.
 pub(crate) fn bytes_of<T: Tree>(

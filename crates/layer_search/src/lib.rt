@@ -12,6 +12,7 @@ mod found;
 mod gathered;
 mod kinds;
 mod layers;
+mod limits;
 mod path_list;
 mod paths;
 mod places;
@@ -19,7 +20,10 @@ mod rows;
 
 pub use drivers::find_drivers;
 pub use errors::SearchError;
+pub use files::MOST_BYTES;
 pub use folder_list::folders;
 pub use found::{Drivers, FoundDriver, FoundLayer, LayerList, Note, NoteKind};
 pub use kinds::SearchKind;
 pub use layers::find_layers;
+pub use limits::the_limits_of_a_search;
+pub use path_list::MOST_PATHS;

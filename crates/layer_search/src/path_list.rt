@@ -5,7 +5,7 @@ ghost use Rattle.layer_search.specs.declared.path_list.TheConstants.{MOST_PATHS}
 use std::collections::BTreeSet;
 
 /// How many manifest files a search may meet.
-pub(crate) const MOST_PATHS: usize = 4_096;
+pub const MOST_PATHS: usize = 4_096;
 
 /// Paths, each once, and all that were met.
 #[derive(Drop)]

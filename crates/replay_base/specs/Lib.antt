@@ -5,3 +5,4 @@ pub mod Lines
 pub mod Memory
 pub mod Changes
 pub mod Reader
+pub mod Adapters

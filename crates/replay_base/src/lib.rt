@@ -20,7 +20,7 @@ mod tree;
 pub use adapters::{ReadSource, WriteSink};
 pub use faults::{Failed, NoMemory};
 pub use file_tree::FsTree;
-pub use limit::{MOST_LINE_BYTES, Which};
+pub use limit::{MOST_LINE_BYTES, Which, the_limit_of_a_line};
 pub use line::{Line, LineError};
 pub use lines::{Split, facts_of_lines, split_line};
 pub use memory_sink::MemSink;

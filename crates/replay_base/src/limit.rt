@@ -1,4 +1,6 @@
 // The limits of a run.
+ghost use Rattle.std.specs.Prelude.{◌≡◌};
+ghost use Rattle.replay_base.specs.declared.limit.TheConstants.{MOST_LINE_BYTES};
 
 /// The most bytes that a line may have, without its LF.
 pub const MOST_LINE_BYTES: usize = 65_536;
@@ -21,3 +23,8 @@ pub enum Which {
     /// The devices that the streams of a file name: 16.
     Devices,
 }
+
+/// A line has 65,536 bytes at most, without its LF.
+pub fn the_limit_of_a_line()
+    ensures { MOST_LINE_BYTES ≡ 65536 }
+{}

@@ -23,12 +23,18 @@ ghost use Rattle.replay_model.specs.Less.{less, no_layers};
 ghost use Rattle.replay_base.specs.Lines.{lines_of};
 ghost use Rattle.trace_format.specs.Reading.{read_line};
 ghost use Rattle.replay_model.specs.Stop.{events_of, stop};
+ghost use Rattle.replay_model.specs.declared.TheConstants.{MOST_LINES};
 
 use object_model::Object;
 use trace_format::Name;
 
 /// How many lines a trace may have, its header among them.
 pub const MOST_LINES: u64 = 16_777_216;
+
+/// A trace has 16,777,216 lines at most, its header among them.
+pub fn the_limit_of_lines()
+    ensures { MOST_LINES ≡ 16777216 }
+{}
 
 /// A name and the object for which it stands.
 #[derive(Clone, Copy, Debug, PartialEq, Eq)]

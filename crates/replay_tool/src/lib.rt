@@ -19,5 +19,5 @@ pub use environment::variables_of;
 pub use finish::{Finished, status_at_end};
 pub use laws::what_is_shown_is_what_is_judged;
 pub use process::{Invocation, exit_status};
-pub use saying::{put_two, say, say_fault, say_kind, say_limit};
+pub use saying::{put_two, say, say_fault, say_kind, say_limit, say_limit_of};
 pub use top::replay_main;

@@ -1,13 +1,17 @@
 // What is said on the error sink, whose failure changes nothing else, and texts that are written one behind another.
-ghost use Rattle.std.specs.Prelude.{◌≡◌, ◌++◌, OnOk, OnErr};
+ghost use Rattle.std.specs.Prelude.{◌≡◌, ◌++◌, OnOk, OnErr, decimal};
 ghost use Rattle.replay_base.specs.Bytes.{grown, GrownByFront};
 ghost use Rattle.replay_base.specs.Changes.{Change, changed};
 ghost use Rattle.replay_base.specs.Faults.{HasCause};
-ghost use Rattle.replay_tool.specs.Said.{Said, fault_line, kind_line, kind_text, limit_line, number_text};
+ghost use Rattle.replay_tool.specs.Said.{Said, fault_line, kind_line, kind_text, limit_front, limit_line, limit_name, limit_text, most_of};
 
+use chain_build::MOST_LAYERS;
 use itoa::Buffer;
-use replay_base::{Failed, Sink, Which, put_all};
-use trace_format::TraceFault;
+use layer_search::MOST_PATHS;
+use replay_base::{Failed, MOST_LINE_BYTES, Sink, Which, put_all};
+use replay_model::MOST_LINES;
+use stream_model::{MOST_DEVICES, MOST_EVENTS};
+use trace_format::{MAX_NAMES, TraceFault};
 
 /// One line.
 pub fn say<L: Sink>(errs: &mut L, line: &[u8])
@@ -28,16 +32,13 @@ pub fn put_two<L: Sink>(sink: &mut L, first: &[u8], second: &[u8]) -> Result<(),
     Ok(())
 }
 
-fn put_number<L: Sink>(errs: &mut L, line: u64) -> Result<(), Failed>
-    ensures all { OnOk result (L.held errs.new ≡ grown (L.held errs.old) (number_text line)) }
-    ensures front { OnErr result (GrownByFront (L.held errs.old) (L.held errs.new) (number_text line)) }
+// A number behind a text.
+fn put_number<L: Sink>(errs: &mut L, front: &[u8], number: u64) -> Result<(), Failed>
+    ensures all { OnOk result (L.held errs.new ≡ grown (L.held errs.old) (front.now ++ decimal number)) }
+    ensures front { OnErr result (GrownByFront (L.held errs.old) (L.held errs.new) (front.now ++ decimal number)) }
     ensures cause { HasCause (L.faults errs.old) (L.faults errs.new) result }
 {
-    put_two(
-        errs,
-        b"vkreplay: line ",
-        Buffer::new().format(line).as_bytes(),
-    )?;
+    put_two(errs, front, Buffer::new().format(number).as_bytes())?;
     Ok(())
 }
 
@@ -52,7 +53,7 @@ fn put_kind<L: Sink>(errs: &mut L, kind: &str) -> Result<(), Failed>
 fn put_refusal<L: Sink>(errs: &mut L, line: u64, kind: &str) -> Result<(), Failed>
     ensures { Said (kind_line line kind.now) (changed (L.held errs.old) (L.held errs.new) (L.faults errs.old) (L.faults errs.new)) }
 {
-    put_number(errs, line)?;
+    put_number(errs, b"vkreplay: line ", line)?;
     put_kind(errs, kind)?;
     put_all(errs, b"\n")?;
     Ok(())
@@ -72,23 +73,61 @@ pub fn say_fault<L: Sink>(errs: &mut L, line: u64, fault: TraceFault)
     say_kind(errs, line, fault.name())
 }
 
-fn limit_text(which: Which) -> &'static str
-    ensures { result.now ≡ limit_line which }
+fn name_of(which: Which) -> &'static str
+    ensures { result.now ≡ limit_name which }
 {
     match which {
-        Which::Manifests => "vkreplay: limit Manifests 4096\n",
-        Which::Lines => "vkreplay: limit Lines 16777216\n",
-        Which::LineBytes => "vkreplay: limit LineBytes 65536\n",
-        Which::Names => "vkreplay: limit Names 4194304\n",
-        Which::Chain => "vkreplay: limit Chain 64\n",
-        Which::Events => "vkreplay: limit Events 262144\n",
-        Which::Devices => "vkreplay: limit Devices 16\n",
+        Which::Manifests => "Manifests",
+        Which::Lines => "Lines",
+        Which::LineBytes => "LineBytes",
+        Which::Names => "Names",
+        Which::Chain => "Chain",
+        Which::Events => "Events",
+        Which::Devices => "Devices",
     }
 }
 
-/// The line of a limit that was reached.
+fn most_of(which: Which) -> u64
+    ensures { result ≡ most_of which }
+{
+    match which {
+        Which::Manifests => MOST_PATHS as u64,
+        Which::Lines => MOST_LINES,
+        Which::LineBytes => MOST_LINE_BYTES as u64,
+        Which::Names => u64::from(MAX_NAMES),
+        Which::Chain => MOST_LAYERS as u64,
+        Which::Events => MOST_EVENTS as u64,
+        Which::Devices => MOST_DEVICES as u64,
+    }
+}
+
+fn put_name<L: Sink>(errs: &mut L, which: Which) -> Result<(), Failed>
+    ensures all { OnOk result (L.held errs.new ≡ grown (L.held errs.old) (limit_front which)) }
+    ensures front { OnErr result (GrownByFront (L.held errs.old) (L.held errs.new) (limit_front which)) }
+    ensures cause { HasCause (L.faults errs.old) (L.faults errs.new) result }
+{
+    put_two(errs, b"vkreplay: limit ", name_of(which).as_bytes())
+}
+
+fn put_limit<L: Sink>(errs: &mut L, which: Which, most: u64) -> Result<(), Failed>
+    ensures { Said (limit_text which most) (changed (L.held errs.old) (L.held errs.new) (L.faults errs.old) (L.faults errs.new)) }
+{
+    put_name(errs, which)?;
+    put_number(errs, b" ", most)?;
+    put_all(errs, b"\n")?;
+    Ok(())
+}
+
+/// The line of a limit that was reached, with the number that it allows where it was.
+pub fn say_limit_of<L: Sink>(errs: &mut L, which: Which, most: u64)
+    ensures { Said (limit_text which most) (changed (L.held errs.old) (L.held errs.new) (L.faults errs.old) (L.faults errs.new)) }
+{
+    let _ = put_limit(errs, which, most);
+}
+
+/// The line of a limit that a run reached.
 pub fn say_limit<L: Sink>(errs: &mut L, which: Which)
     ensures { Said (limit_line which) (changed (L.held errs.old) (L.held errs.new) (L.faults errs.old) (L.faults errs.new)) }
 {
-    say(errs, limit_text(which).as_bytes())
+    say_limit_of(errs, which, most_of(which))
 }

@@ -15,5 +15,7 @@ pub use laws::{
     a_device_follows_the_setup, a_stream_file_is_a_trace, a_stream_file_is_within_its_limits,
     a_stream_is_of_one_thread, what_was_read_is_a_stream_file, what_was_read_is_of_the_grammar,
 };
-pub use limits::{HEADER, MOST_DEVICES, MOST_EVENTS, MOST_NAMES, MOST_STREAMS};
+pub use limits::{
+    HEADER, MOST_DEVICES, MOST_EVENTS, MOST_NAMES, MOST_STREAMS, the_limits_of_stream_files,
+};
 pub use refusal::Refusal;

@@ -17,6 +17,7 @@ use Rattle.chain_session.specs.declared.kept.Kept.{Kept}
 use Rattle.chain_session.specs.Standing.{StandsFor}
 use Rattle.command_tables.specs.Calls.{ReplyContent}
 use Rattle.stream_model.specs.FileParts.{FileParts, all_events}
+use Rattle.stream_model.specs.declared.limits.TheConstants.{MOST_NAMES}
 use Rattle.merge_model.specs.Merges.{merged_events}
 use Rattle.threaded_replay.specs.declared.error.StreamError.{StreamError}
 use Rattle.threaded_replay.specs.declared.error.StreamError.TheVariants as file_error
@@ -26,7 +27,7 @@ use Rattle.replay_core.specs.Traffic.{end_line_of, lines_of_events}
 use Rattle.replay_core.specs.declared.status.Status.{Status}
 use Rattle.replay_core.specs.declared.status.Status.TheVariants as status
 use Rattle.replay_tool.specs.Outcome.{IsUnread}
-use Rattle.replay_tool.specs.Said.{fault_line, kind_line, limit_line, no_memory_line, read_fault_line, write_fault_line}
+use Rattle.replay_tool.specs.Said.{fault_line, kind_line, limit_line, limit_text, no_memory_line, read_fault_line, write_fault_line}
 use Rattle.replay_tool.specs.Showing.{Search, UnderSetup, WroteNothing}
 use Rattle.threads_tool.specs.declared.reading.Stop.{Stop}
 use Rattle.threads_tool.specs.declared.reading.Stop.TheVariants as stop
@@ -36,7 +37,7 @@ use Rattle.threads_tool.specs.Printed.{printed}
 
 -- the line of a limit, with the number that a stream file is allowed
 abbrev pub file_limit_line : Which → List ℕ
-file_limit_line which.Names = codes "vkreplay: limit Names 262144\n"
+file_limit_line which.Names = limit_text which.Names MOST_NAMES
 file_limit_line other = limit_line other
 
 -- the line of a stream file's error

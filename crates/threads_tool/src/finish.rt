@@ -11,7 +11,8 @@ use crate::reading::Stop;
 use program_words::WordsError;
 use replay_base::{Sink, Which};
 use replay_core::{Session, Status};
-use replay_tool::{say, say_fault, say_kind, say_limit, status_at_end};
+use replay_tool::{say, say_fault, say_kind, say_limit, say_limit_of, status_at_end};
+use stream_model::MOST_NAMES;
 use threaded_replay::StreamError;
 
 // A stream file may have fewer names than a trace.
@@ -19,7 +20,7 @@ fn say_file_limit<L: Sink>(errs: &mut L, which: Which)
     ensures { Said (file_limit_line which) (changed (L.held errs.old) (L.held errs.new) (L.faults errs.old) (L.faults errs.new)) }
 {
     match which {
-        Which::Names => say(errs, b"vkreplay: limit Names 262144\n"),
+        Which::Names => say_limit_of(errs, Which::Names, MOST_NAMES as u64),
         other => say_limit(errs, other),
     }
 }

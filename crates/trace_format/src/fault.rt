@@ -4,7 +4,7 @@ ghost use Rattle.trace_format.specs.FaultNames.{fault_name};
 
 use std::fmt;
 
-/// Why a trace is refused, in the order in which faults of one line are found. The numbers are 1 to 17.
+/// Why a trace is refused, in the order in which faults of one line are found. The numbers are 1 to 16.
 #[derive(Clone, Copy, Debug, PartialEq, Eq)]
 pub enum TraceFault {
     /// The first line is missing, or is not the header.
@@ -68,6 +68,10 @@ impl TraceFault {
 }
 
 impl fmt::Display for TraceFault {
+    ghost use Rattle.std.specs.Prelude.{Some};
+
+    ghost output = { λ fault. Some (fault_name fault) };
+
     fn fmt<W: fmt::Write>(&self, f: &mut fmt::Formatter<W>) -> fmt::Result {
         f.write_str(self.name())
     }

@@ -18,7 +18,7 @@ pub use fault::TraceFault;
 pub use laws::{
     a_line_spells_one_event, a_printed_line_is_read_again, reading_agrees_with_spelling,
 };
-pub use limits::{HEADER, MAX_NAMES, MAX_PLACES, MAX_THREADS};
+pub use limits::{HEADER, MAX_NAMES, MAX_PLACES, MAX_THREADS, the_limits_of_a_grammar};
 pub use parse::{EventRoom, ParseError, parse_line};
 pub use print::print_line;
 pub use samples::{

@@ -17,3 +17,8 @@ pub fn facts_of_stops()
     ensures stops { (s : Setup) (number calls : ℕ) → calls ≤ MOST → StopsAtLayersAlone (stop s (generated number calls)) }
     ensures events { (s : Setup) (number calls : ℕ) → calls ≤ MOST → stop s (generated number calls) ≡ None → events_of s (generated number calls) ≡ reverse (generated_events number calls) }
 {}
+
+/// A trace of 1,000,000 turns at most is generated.
+pub fn the_limit_of_turns()
+    ensures { MOST ≡ 1000000 }
+{}

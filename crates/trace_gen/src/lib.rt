@@ -13,7 +13,7 @@ mod turns;
 mod writing;
 
 pub use error::GenError;
-pub use laws::{facts_of_stops, facts_of_traces};
+pub use laws::{facts_of_stops, facts_of_traces, the_limit_of_turns};
 pub use rows::traces_of_zero;
 pub use source::GenSource;
 pub use turns::MOST_CALLS;

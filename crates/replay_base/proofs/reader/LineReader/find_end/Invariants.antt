@@ -1,5 +1,6 @@
-use Rattle.std.proofs.Common.{◌≡◌, ◌-◌, ◌≤◌, length, take}
+use Rattle.std.proofs.Common.{◌≡◌, ◌+◌, ◌-◌, ◌≤◌, length, take}
 use Rattle.replay_base.specs.Lines.{HasNoFeed}
+use Rattle.replay_base.specs.declared.limit.TheConstants.{MOST_LINE_BYTES}
 use Rattle.replay_base.specs.Reader.{kept_of, rest, state_of}
 use Rattle.replay_base.proofs.reader.LineReader.find_end.Given as goal
 
@@ -16,4 +17,4 @@ invariant-loop-length g l = record {
 }
 
 abbrev pub decreases-loop-length : goal.decreases-loop-length
-decreases-loop-length g l = 65537 - length (kept_of l.self)
+decreases-loop-length g l = MOST_LINE_BYTES + 1 - length (kept_of l.self)
