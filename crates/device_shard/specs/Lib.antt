@@ -9,3 +9,4 @@ pub mod Refs
 pub mod Rooms
 pub mod Gathering
 pub mod Closing
+pub mod Locked

@@ -13,6 +13,7 @@ mod fresh;
 mod gathering;
 mod lane;
 mod laws;
+mod locked;
 mod making;
 mod measure;
 mod names;
@@ -26,6 +27,7 @@ mod shard_ref;
 
 pub use begun::Begun;
 pub use laws::a_token_knows_what_comes_next;
+pub use locked::LockedLog;
 pub use names::ShardNames;
 pub use place::event_in;
 pub use plan::Plan;

@@ -50,7 +50,7 @@ fn begin_at<N: ShardNames, const K: usize, H: Wait, G: Gate>(
 {
     let mut shard = lock.lock(rt);
     let begun = shard.begin_step(table, plan, log, clock, tick, seen, event, out);
-    gate.step(K, thread, true);
+    gate.step(shard.locked_log(), thread, true);
     begun
 }
 
@@ -81,7 +81,7 @@ fn return_at<N: ShardNames, const K: usize, H: Wait, G: Gate>(
 {
     let mut shard = lock.lock(rt);
     let returned = shard.return_step(table, plan, log, clock, tick, seen, thread, reply);
-    gate.step(K, thread, false);
+    gate.step(shard.locked_log(), thread, false);
     returned
 }
 
