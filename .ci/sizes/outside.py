@@ -38,7 +38,7 @@ ENVIRONMENTS = [
     ("a name counts with its case", [b"vk_driver_files=/a.json", b"VK_DRIVER_FILES_=/a.json"], DRIVER),
     ("a long entry", [b"X=" + b"x" * 9_995, b"VK_DRIVER_FILES=" + b"/n.json:" * 1_250 + b"/b.json"], "/b.json"),
     ("a long entry that sets nothing", [b"X" * 60_000, b"VK_DRIVER_FILES=/b.json"], "/b.json"),
-    ("the last of many", [b"X%d=x" % k for k in range(4_096)] + [b"VK_DRIVER_FILES=/b.json"], "/b.json"),
+    ("the last of many", [b"X%d=x" % k for k in range(1_000)] + [b"VK_DRIVER_FILES=/b.json"], "/b.json"),
 ]
 
 

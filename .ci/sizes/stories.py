@@ -372,7 +372,7 @@ def cases(room):
     for count in (1, 40, 10_000):
         yield from owners(count)
     for policy in ("fresh", "reuse", "share"):
-        for count in (1, 100):
+        for count in (1, 20):
             what = f"{count} times 1,024 command buffers, {policy}"
             yield returned(count).case(what, [*RUN, "--driver", policy])
     yield from copies()
