@@ -3,6 +3,8 @@
 #![tactic(auto)]
 
 #[cfg(test)]
+mod adapter_tests;
+#[cfg(test)]
 mod clock_tests;
 #[cfg(test)]
 mod folder_tests;

@@ -22,14 +22,18 @@ pub(crate) enum Step {
     SecondReturns,
 }
 
-/// How many steps there were on the shared device, how many begins on the others, how many calls came to the driver, and how many gave
-/// up waiting.
+/// How many calls of `vkDestroySampler` the driver keeps until all have come: one of each stream that a file may have.
+pub(crate) const CROWD: u64 = 64;
+
+/// How many steps there were on the shared device, how many begins on the others, how many calls came to the driver, how many of those
+/// that it keeps together, and how many gave up waiting.
 #[derive(Drop)]
 pub(crate) struct Conductor {
     pub order: [Step; 4],
     pub turn: AtomicU64,
     pub apart: AtomicU64,
     pub calls: AtomicU64,
+    pub crowd: AtomicU64,
     pub gave_up: AtomicU64,
 }
 
@@ -55,6 +59,7 @@ impl Conductor {
             turn: AtomicU64::new(0),
             apart: AtomicU64::new(0),
             calls: AtomicU64::new(0),
+            crowd: AtomicU64::new(0),
             gave_up: AtomicU64::new(0),
         }
     }
@@ -68,6 +73,12 @@ impl Conductor {
             spin_loop();
         }
         self.gave_up.fetch_add(1, Ordering::SeqCst);
+    }
+
+    // Until all of the calls that are kept together have come.
+    fn await_crowd(&self) {
+        self.crowd.fetch_add(1, Ordering::SeqCst);
+        self.await_count(&self.crowd, CROWD);
     }
 
     fn await_turn(&self, step: Step) {
@@ -126,6 +137,9 @@ impl<'a, D: SharedDriver> SharedDriver for Conducted<'a, D> {
         self.inner.call(seat, call, reply);
         if let Some(step) = step_behind(call) {
             self.by.await_turn(step);
+        }
+        if call.body.cmd == CommandId::DestroySampler {
+            self.by.await_crowd();
         }
     }
 }

@@ -1,20 +1,21 @@
 //! The steps of two threads on one device, in each order of their four events: no clause says that workers run beside each other, and
 //! no stored output shows it. In some of them both calls are with the driver at once, which so is called under no lock. Beside that
 //! each thread begins a call on a device of its own, under that device's lock, while the other does.
-use crate::conductor::{Conducted, Conductor, Step};
+use crate::conductor::{CROWD, Conducted, Conductor, Step};
 use crate::ends::source_of;
 use crate::fixtures::{Machine, sink_of};
-use crate::threads::{CHECKED, Ran, behind_device, is_refused, run_on};
+use crate::threads::{CHECKED, Ran, behind_device, is_done, is_refused, run_on};
 use Step::{FirstBegins, FirstReturns, SecondBegins, SecondReturns};
 use model_driver::{RecordingShared, SharedModel};
 use replay_core::Status;
-use std::alloc::Global;
+use std::alloc::{AllocError, Global};
 use std::process::Abort;
 use std::str::from_utf8;
 use std::sync::Wait;
 use std::sync::atomic::Ordering;
 use std::test::Fail;
 use std::thread::Threads;
+use stream_workers::{Gate, NoGate};
 
 // The shared device is the first one; the others are each thread's own.
 const CROSSED: &str =
@@ -73,12 +74,13 @@ fn is_in_order(printed: &str, order: &[Step; 4], end: &str) -> bool {
 }
 
 // A run of a file with this conductor.
-fn conducted<H: Threads + Wait + Sync>(
+fn conducted<H: Threads + Wait + Sync, G: Gate>(
     rt: &H,
     alloc: Global,
     machine: &Machine,
     rest: &str,
     conductor: &Conductor,
+    gate: &G,
 ) -> Result<Ran, Fail> {
     let driver = RecordingShared::new(Conducted {
         inner: SharedModel::new(),
@@ -87,7 +89,7 @@ fn conducted<H: Threads + Wait + Sync>(
     let file = behind_device(alloc, rest)?;
     let mut streams = source_of(alloc, &file, usize::MAX, usize::MAX)?;
     let out = sink_of(alloc, 65_536, &[])?;
-    run_on(rt, alloc, machine, 0, &mut streams, out, &driver, conductor)
+    run_on(rt, alloc, machine, 0, &mut streams, out, &driver, gate)
 }
 
 fn makes<H: Abort + Threads + Wait + Sync>(
@@ -97,7 +99,7 @@ fn makes<H: Abort + Threads + Wait + Sync>(
     end: &str,
 ) -> Result<(), Fail> {
     let conductor = Conductor::new(order);
-    let ran = conducted(rt, alloc, &CHECKED, CROSSED, &conductor)?;
+    let ran = conducted(rt, alloc, &CHECKED, CROSSED, &conductor, &conductor)?;
     assert_eq!(rt; conductor.gave_up.load(Ordering::SeqCst), 0);
     assert_eq!(rt; conductor.apart.load(Ordering::SeqCst), 2);
     assert_eq!(rt; conductor.turn.load(Ordering::SeqCst), 4);
@@ -140,9 +142,36 @@ fn no_driver_is_told_of_what_is_refused(rt: HostRuntime) -> Result<(), Fail> {
             env: &[("VK_LOADER_LAYERS_ENABLE", "*")],
             ..CHECKED
         };
-        let ran = conducted(&rt, rt.alloc(), &machine, rest, &conductor)?;
+        let ran = conducted(&rt, rt.alloc(), &machine, rest, &conductor, &conductor)?;
         is_refused(&rt, &ran, status, said);
         assert_eq!(rt; conductor.calls.load(Ordering::SeqCst), 0);
     }
+    Ok(())
+}
+
+// As many streams as a file may have, each with one call that the driver keeps until all have come.
+fn all_streams(alloc: Global) -> Result<String, AllocError> {
+    let mut text = String::new(alloc);
+    for stream in 1..CROWD + 1 {
+        let call = format!(in alloc;
+            "stream {stream}\nb {stream} vkDestroySampler %1.3 null void\nr {stream}\n"
+        )?;
+        text.push_str(&call)?;
+    }
+    text.push_str("teardown\n")?;
+    Ok(text)
+}
+
+#[test]
+fn all_streams_are_in_the_driver_at_once(rt: HostRuntime) -> Result<(), Fail> {
+    let conductor = Conductor::new(ORDERS[0].0);
+    let rest = all_streams(rt.alloc())?;
+    let ran = conducted(&rt, rt.alloc(), &CHECKED, &rest, &conductor, &NoGate)?;
+    let counts = (
+        conductor.gave_up.load(Ordering::SeqCst),
+        conductor.crowd.load(Ordering::SeqCst),
+    );
+    assert_eq!(rt; counts, (0, CROWD));
+    is_done(&rt, &ran, Status::Clean, 132);
     Ok(())
 }
