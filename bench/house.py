@@ -52,12 +52,13 @@ class File:
         return self.lines[self.line(begin) - 1:self.line(end)]
 
     def at(self, place):
+        """The path and the line of a place."""
         return f"{self.path}:{self.line(place)}"
 
 
 QUOTED = r'b?"(?:\\.|[^"\\])*"'
 RUST_BLANK = re.compile(rf'//[^\n]*|/\*.*?\*/|b?r#+".*?"#+|{QUOTED}|b?\'(?:\\[^\n]+?|[^\\\'\n])\'', re.S)
-ANTT_BLANK = re.compile(rf"--(?!\w)[^\n]*|--\w[^\n]*|{QUOTED}", re.S)
+ANTT_BLANK = re.compile(rf"--[^\n]*|{QUOTED}", re.S)
 
 
 def blanked(text, pattern):
@@ -80,7 +81,6 @@ def read(top):
     return found
 
 
-CLOSES = {"(": ")", "[": "]", "{": "}"}
 BRACKETS = re.compile(r"[()\[\]{}]")
 ANGLES = re.compile(r"->|=>|[<>]")
 
@@ -89,7 +89,7 @@ def behind(code, begin):
     """The place behind the bracket that closes the one at a place."""
     depth = 0
     for found in BRACKETS.finditer(code, begin):
-        depth += 1 if found.group() in CLOSES else -1
+        depth += 1 if found.group() in "([{" else -1
         if depth == 0:
             return found.end()
     return len(code)
@@ -131,6 +131,7 @@ class Clause:
 
     @property
     def width(self):
+        """The columns of its widest line."""
         return max(map(len, self.lines))
 
     def __str__(self):
@@ -149,9 +150,13 @@ class Function:
     has_self: bool
     arguments: list
     head: str
-    result: str
     clauses: list
     body: str
+
+    @property
+    def is_test(self):
+        """Whether a test's mark stands above it."""
+        return "#[test]" in self.file.between(max(self.begin - 20, 0), self.begin)
 
     @property
     def words(self):
@@ -211,11 +216,10 @@ def function_at(file, mark, around):
     inside = [b for b in around if b[0] < mark.start() < b[1]]
     owner, is_public = inside[-1][2:] if inside else (None, False)
     is_public = is_public or code[:mark.start()].endswith(("pub ", "pub const "))
-    result = code[end:first].strip().removeprefix("->").strip()
     end = behind(code, body) if code[body] == "{" else body
     head = code[mark.start():first]
     return Function(file, mark.group(1), mark.start(), end, owner, is_public, len(others) < len(listed), others, head,
-                    result, clauses, code[body:end])
+                    clauses, code[body:end])
 
 
 def functions_of(file):
@@ -228,11 +232,17 @@ def functions_of(file):
 
 @dataclass(eq=False)
 class Definition:
-    """A definition or a lemma: where it stands, its name, and its words without comments."""
+    """A definition or a lemma: where it stands, its name, and its words without comments and texts in quotes."""
     file: File
     name: str
     begin: int
     words: str
+
+    @property
+    def letters(self):
+        """Its words with the texts in quotes."""
+        text = self.file.text[self.begin:self.begin + len(self.words)]
+        return ANTT_BLANK.sub(lambda found: " " if found.group().startswith("--") else found.group(), text)
 
     def __str__(self):
         return f"{self.file.at(self.begin)}: {self.name}"
@@ -262,13 +272,11 @@ def definitions_of(file):
 USE = re.compile(r"^[ ]*(pub )?(?:ghost )?use Rattle\.(\w+)\.(\w+)((?:\.\w+)*)(?:\.\{([^}]*)\})?(?: as (\w+))?", re.M)
 WORD = re.compile(r"(?<![\w.])([^\W\d][\w'-]*)(?:\.(\w+))?|(?<= )([^\s\w(){}\[\].,;:\"]+)(?= )")
 FIELD = re.compile(r"(?<=[{;]) *\w+ =(?!=)|^ *pub \w+ :", re.M)
-
-
 BOUND = re.compile(r"[({]([\w ]+) :|λ ([^.]*)\.(?= )|\blet (\w+)|^ *\w+((?: (?!=)\S+)+) =", re.M)
 
 
 def words_in(text):
-    """The names in a text, each with the name behind its dot: none of a field that is declared or set, or a variable."""
+    """The names in a text, each with the name behind its dot: of no field that is declared or set, and no variable."""
     given = " ".join(part for found in BOUND.findall(text) for part in found)
     bound = set(re.findall(r"\b[a-z_]\w*", given))
     used = WORD.finditer(FIELD.sub(" ", text).replace("←", ">>="))
@@ -299,6 +307,7 @@ def scope_of(file):
 
 
 def module_of(file):
+    """What imports call a file of definitions."""
     return ".".join([file.crate, *file.path.with_suffix("").parts[2:]])
 
 
@@ -358,13 +367,14 @@ class Meanings:
 
 TOKEN = re.compile(r"[^\W\d]\w*|\d\w*|[^\s\w]")
 KEYWORDS = set("""as break const continue crate else enum false fn for if impl in let loop match mod move mut pub ref
-    return self Self static struct super trait true type unsafe use where while bool char str u8 u16 u32 u64 usize i32 i64
-    Ok Err Some None Option Result Vec""".split())
+    return self Self static struct super trait true type unsafe use where while
+    bool char str u8 u16 u32 u64 usize i32 i64 Ok Err Some None Option Result Vec""".split())
 
 
 def unnamed(definition):
-    """The words of a definition without its own name, however they are laid out."""
-    return " ".join(re.sub(rf"(?<![\w.-]){re.escape(definition.name)}(?![\w-])", "·", definition.words).split())
+    """The letters of a definition without its own name, however they are laid out."""
+    words = re.findall(r"[\w'-]+|[^\s\w]", definition.letters)
+    return tuple("" if word == definition.name else word for word in words)
 
 
 def in_two_crates(items, key):
@@ -402,6 +412,7 @@ class Place:
 
     @functools.cached_property
     def words(self):
+        """The words of all these lines."""
         return [word for _, words in self.lines[self.first:self.first + LEAST_TWICE + 1] for word in words]
 
     def rough(self):
@@ -417,11 +428,12 @@ def code_lines(file, functions):
     spans = [(file.line(c.begin), file.line(c.begin) + len(c.lines)) for f in functions for c in f.clauses]
     clauses = {number for begin, end in spans for number in range(begin, end)}
     lines = [(n, TOKEN.findall(line)) for n, line in enumerate(file.code.split("\n"), 1) if n not in clauses]
-    return [(n, words) for n, words in lines if re.search(r"\w", " ".join(words)) and not {"use", "mod"} & set(words[:3])]
+    return [(n, words) for n, words in lines
+            if re.search(r"\w", " ".join(words)) and not {"use", "mod"} & set(words[:3])]
 
 
 def places_twice(functions):
-    """For each two files of two crates with so many lines of code and one more that are alike but for names: the first."""
+    """For each two files of two crates with over so many lines that are alike but for names: where they are."""
     places = []
     for file, own in itertools.groupby(functions, lambda f: f.file):
         lines = code_lines(file, list(own))
@@ -435,12 +447,128 @@ def places_twice(functions):
     return list(found.values())
 
 
+# ---- what a line passes
+
+IMPORT = re.compile(r"^ *(?:pub )?use (\w+)::(?:\w+::)*(?:\{([^}]*)\}|(\w+(?: as \w+)?));", re.M)
+STRUCT = re.compile(r"\bstruct (\w+)[^;{(]*\{(.*?)^\}", re.S | re.M)
+CALL = re.compile(r"(\.|\b\w+(?:::<[^>]*>)?::)?\b([a-z_]\w*)(?:::<[^()]*?>)?(\()?")
+RECEIVER = re.compile(r"(?<![\w.)\]?])((?:\w+\.)*\w+)\s*$")
+OF_STD = set("""as_bytes as_ref as_slice clear clone contains copied drop eq extend first fmt from get get_mut insert
+    is_empty is_none is_some iter iter_mut last len map new next pop push remove reserve resize swap take to_vec
+    truncate""".split())
+
+
+def type_named(words):
+    """The first name of a type in the words of one."""
+    found = re.search(r"\b[A-Z]\w*", re.sub(r"\bBox<", "", words))
+    return found.group() if found else None
+
+
+def imported(file):
+    """What a file imports: the crate and the name there, by the name here."""
+    found = {}
+    for root, many, one in IMPORT.findall(file.code):
+        crate = file.crate if root in ("crate", "super", "self") else root
+        for entry in filter(None, (e.strip() for e in (many or one).split(","))):
+            name, _, other = entry.partition(" as ")
+            found[other or name] = crate, name
+    return found
+
+
+class Calls:
+    """Which functions of libraries and programs a function may call, as far as text tells it."""
+
+    def __init__(self, house):
+        self.functions = [f for f in house.functions if f.file.crate not in house.tests]
+        self.imports = {f.file: imported(f.file) for f in self.functions}
+        self.heads = {f.crate: imported(f) for f in house.files if f.path.name == "lib.rt"}
+        self.fields = {(name, field): type_named(words) for f in house.files if f.folder == "src"
+                       for name, inner in STRUCT.findall(f.code)
+                       for field, words in re.findall(r"^    (?:pub(?:\([a-z]+\))? )?(\w+): (.*),$", inner, re.M)}
+        self.free, self.owned, self.methods = defaultdict(list), defaultdict(list), defaultdict(list)
+        for f in self.functions:
+            (self.owned[f.owner, f.name] if f.owner else self.free[f.file.crate, f.name]).append(f)
+            self.methods[f.name, len(f.arguments)] += [f] if f.has_self else []
+        self.owners = {owner for owner, _ in self.owned}
+        self.below = stands_on(house.top)
+
+    def named(self, crate, name):
+        """The functions that a crate gives by a name, also those that it hands on."""
+        further = self.heads.get(crate, {}).get(name, (crate, name))
+        return self.free[crate, name] or (self.named(*further) if further != (crate, name) else [])
+
+    def receiver(self, function, text):
+        """The type at the end of a text that is a variable or its field, where one is declared."""
+        found = RECEIVER.search(text)
+        first, *inner = found.group(1).split(".") if found else [""]
+        declared = {a.partition(":")[0].strip().removeprefix("mut "): a.partition(":")[2] for a in function.arguments}
+        of = function.owner if first == "self" else type_named(declared.get(first, ""))
+        for field in inner:
+            of = self.fields.get((of, field))
+        return of if of in self.owners else None
+
+    def at(self, function, mark):
+        """The functions of which one is called or handed on at a place of a body."""
+        before, name, is_call = mark.groups()
+        if before == ".":
+            return self.method(function, mark) if is_call else []
+        if before:
+            of = before.partition("::")[0]
+            of = function.owner if of == "Self" else self.imports[function.file].get(of, (None, of))[1]
+            return self.owned.get((of, name), [])
+        own = [f for f in self.free.get((function.file.crate, name), []) if f.file is function.file]
+        return own or (self.named(*self.imports[function.file][name]) if name in self.imports[function.file] else [])
+
+    def method(self, function, mark):
+        """The methods of which one is called: those of the receiver's type, or where none is declared of any."""
+        body, name = function.body, mark.group(2)
+        count = len(parted(body[mark.end():behind(body, mark.end() - 1) - 1]))
+        of = self.receiver(function, body[:mark.start()])
+        if of:
+            return self.owned.get((of, name), [])
+        return [] if name in OF_STD else self.methods.get((name, count), [])
+
+    def called_by(self, function):
+        """The functions that a function may call: in its own crate and those on which that stands."""
+        reach = self.below[function.file.crate] | {function.file.crate}
+        found = {f for mark in CALL.finditer(function.body) for f in self.at(function, mark)}
+        return {f for f in found if f.file.crate in reach}
+
+    def reached(self, roots):
+        """All functions that may be called from these."""
+        found, level = set(), set(roots)
+        while level:
+            found |= level
+            level = {f for function in level for f in self.called_by(function)} - found
+        return found
+
+
+def stands_on(top):
+    """The crates below each crate."""
+    lines = re.findall(r"^(\w+)[^:\n]*:(.*)$", (top / "crates.txt").read_text(), re.M)
+    direct, found = {name: set(below.split()) for name, below in lines}, {}
+    for _ in range(len(direct)):
+        found = {name: below.union(*(found.get(d, set()) for d in below)) for name, below in direct.items()}
+    return found
+
+
+def line_passes(house):
+    """The functions that the replay of a line may pass, and those that the program hands to the session for it."""
+    calls = Calls(house)
+    main = next(f for f in calls.functions if (f.file.crate, f.name) == ("vkreplay", "main"))
+    values = [mark for mark in CALL.finditer(main.body) if mark.group(1) and not mark.group(3)]
+    handed = {f for mark in values for f in calls.at(main, mark)}
+    return calls.reached({house.function(TAKES_LINE), *handed})
+
+
 # ---- numbers that a further row or type changes
 
+LITERAL = re.compile(rf"(?<![\w.])(?:{'|'.join(NUMBERS)})(?![\w.])")
+
+
 def numbers_in(file):
-    """Where a line of a source has one of the numbers as a literal."""
-    literal = re.compile(rf"(?<![\w.])(?:{'|'.join(NUMBERS)})(?![\w.])")
-    found = [m.start() for m in literal.finditer(file.code)]
+    """The lines of a source in which one of the numbers stands as a literal, once for each."""
+    found = [m.start() for m in LITERAL.finditer(file.code)]
     return [f"{file.at(place)}: {file.lines[file.line(place) - 1].strip()}" for place in found]
 
 
@@ -502,6 +630,7 @@ def argument_rows(house):
     """Functions of libraries by how many arguments they have."""
     taken = [(len(f.arguments), f) for f in house.of_libraries]
     with_self = [(count + f.has_self, f) for count, f in taken]
+    yield "functions but for tests", [f for f in house.functions if not f.is_test]
     yield "library functions", house.of_libraries
     yield f"public, over {MOST_ARGUMENTS} arguments", over(MOST_ARGUMENTS, [it for it in taken if it[1].is_public])
     yield f"over {MOST_ARGUMENTS} arguments", over(MOST_ARGUMENTS, taken)
@@ -532,6 +661,7 @@ def clause_rows(house):
 
 
 def tallied(names):
+    """How often each name comes, the commonest first, in lines."""
     return [f"{count} {name}" for name, count in Counter(names).most_common()]
 
 
@@ -551,11 +681,20 @@ def twice_rows(house):
     yield "definitions in two crates", joined(in_two_crates(house.definitions, unnamed))
     yield "lemmas in two crates", joined(in_two_crates(lemmas, unnamed))
     yield f"functions over {LEAST_TWICE} lines in two crates", joined(functions_twice(functions))
-    yield f"files with over {LEAST_TWICE} lines of another crate's", joined(places_twice(functions))
+    yield f"pairs of files that share over {LEAST_TWICE} lines", joined(places_twice(functions))
 
 
 def joined(groups):
+    """A line for each group."""
     return [" = ".join(map(str, group)) for group in groups]
+
+
+def line_rows(house):
+    """What a reader meets who follows a line of a trace."""
+    passed = sorted(line_passes(house), key=str)
+    yield "functions that a line may pass", passed
+    yield "files that a line may pass", tallied(f.file.path for f in passed)
+    yield "crates that a line may pass", tallied(f.file.crate for f in passed)
 
 
 def number_rows(house):
@@ -570,14 +709,15 @@ def number_rows(house):
 
 def rows_of(house):
     """Each row: a name, a number and the entries behind it."""
-    for rows in (argument_rows, clause_rows, definition_rows, twice_rows, number_rows):
+    for rows in (argument_rows, clause_rows, definition_rows, twice_rows, line_rows, number_rows):
         for name, *number, entries in rows(house):
             yield name, number[0] if number else len(entries), entries
 
 
 def main():
     asked = argparse.ArgumentParser(description=__doc__, formatter_class=argparse.RawDescriptionHelpFormatter)
-    asked.add_argument("--in", dest="top", type=pathlib.Path, default=TOP, metavar="FOLDER", help="count that checkout")
+    asked.add_argument("--in", dest="top", type=pathlib.Path, default=TOP, metavar="FOLDER",
+                       help="count that checkout")
     asked.add_argument("--list", metavar="NAME", help="print the entries behind the number with that name")
     asked.add_argument("--behind", metavar="CRATE::FUNCTION", help="print what a contract stands on")
     asked = asked.parse_args()
