@@ -106,7 +106,8 @@ fn put_name<L: Sink>(errs: &mut L, which: Which) -> Result<(), Failed>
     ensures front { OnErr result (GrownByFront (L.held errs.old) (L.held errs.new) (limit_front which)) }
     ensures cause { HasCause (L.faults errs.old) (L.faults errs.new) result }
 {
-    put_two(errs, b"vkreplay: limit ", name_of(which).as_bytes())
+    put_two(errs, b"vkreplay: limit ", name_of(which).as_bytes())?;
+    Ok(())
 }
 
 fn put_limit<L: Sink>(errs: &mut L, which: Which, most: u64) -> Result<(), Failed>
