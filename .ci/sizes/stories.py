@@ -203,7 +203,7 @@ def update(descriptor_set):
 
 
 def sets(count):
-    """A pool's reset writes its living sets and ends them. Then, again and again, it ends just the one set there is."""
+    """A reset writes the living sets of its pool and ends them; then, again and again, just the one set there is."""
     story = Story()
     pool, other = story.make("DescriptorPool"), story.make("DescriptorPool")
     made, apart = take_sets(story, pool, count), take_sets(story, other, 1)[0]
