@@ -27,14 +27,14 @@ def executed(program, words, entries=(b"",), most=""):
             *map(str, words)]
 
 
-# The entries of an environment, of whose names VK_DRIVER_FILES names the drivers' manifests, and the driver that counts.
+# The entries of an environment, in which VK_DRIVER_FILES names the drivers' manifests, and the driver that counts.
 ENVIRONMENTS = [
     ("of two values the first one counts", [b"VK_DRIVER_FILES=/a.json", b"VK_DRIVER_FILES=/b.json"], "/a.json"),
     ("a value that is no text sets nothing", [b"VK_DRIVER_FILES=/\xff.json", b"VK_DRIVER_FILES=/b.json"], "/b.json"),
     ("an entry without = sets nothing", [b"VK_DRIVER_FILES", b"VK_DRIVER_FILES=/b.json"], "/b.json"),
     ("an entry without a name sets nothing", [b"=/a.json", b"=VK_DRIVER_FILES=/a.json"], DRIVER),
     ("a value may have =", [b"VK_DRIVER_FILES=/a=b.json"], "/a=b.json"),
-    ("of two values the first one counts, where it is empty", [b"VK_DRIVER_FILES=", b"VK_DRIVER_FILES=/b.json"], DRIVER),
+    ("an empty value that comes first counts", [b"VK_DRIVER_FILES=", b"VK_DRIVER_FILES=/b.json"], DRIVER),
     ("a name counts with its case", [b"vk_driver_files=/a.json", b"VK_DRIVER_FILES_=/a.json"], DRIVER),
     ("a long entry", [b"X=" + b"x" * 9_995, b"VK_DRIVER_FILES=" + b"/n.json:" * 1_250 + b"/b.json"], "/b.json"),
     ("a long entry that sets nothing", [b"X" * 60_000, b"VK_DRIVER_FILES=/b.json"], "/b.json"),
@@ -60,8 +60,8 @@ def short_writes(room):
     file = f"vkstreams 1\nsetup\n{DEVICE}{WAIT * 3_000}teardown\n"
     for most in (1, 1_000, 70_000):
         for program, words, given, whole in ((ALONE, ["run", *MACHINE], trace, text), (THREADS, MACHINE, file, trace)):
-            words = executed(program, words, most=most)
-            yield f"a file of {most} bytes, {program.name}", takes_a_front, room / f"{program.name}-{most}", words, given, whole[:most]
+            words, path = executed(program, words, most=most), room / f"{program.name}-{most}"
+            yield f"a file of {most} bytes, {program.name}", takes_a_front, path, words, given, whole[:most]
 
 
 def takes_a_front(path, words, given, front):
@@ -76,7 +76,8 @@ def breaks(program, words, given, text):
     """That a connection which breaks behind what was given, once its text has come, is a fault of reading."""
     ours, theirs = socket.socketpair()
     theirs.send(b"nobody reads this, so it breaks where it would end")
-    with subprocess.Popen([program, *words], stdin=theirs, stdout=subprocess.PIPE, stderr=subprocess.PIPE, env={}) as ran:
+    pipes = dict.fromkeys(("stdout", "stderr"), subprocess.PIPE)
+    with subprocess.Popen([program, *words], stdin=theirs, env={}, **pipes) as ran:
         theirs.close()
         ours.sendall(given.encode())
         wrote = ran.stdout.read(len(text)) if text else b""
@@ -88,10 +89,10 @@ def breaks(program, words, given, text):
 
 def broken_connections():
     yield "a connection that breaks at once", breaks, ALONE, ["run", *MACHINE], "", ""
-    whole = START + WAIT * 100
-    yield "a connection that breaks", breaks, ALONE, ["run", *MACHINE], whole, BARE + DEVICE_TEXT + waited(4, 100)
+    whole, text = START + WAIT * 100, BARE + DEVICE_TEXT + waited(4, 100)
+    yield "a connection that breaks", breaks, ALONE, ["run", *MACHINE], whole, text
     within = whole + WAIT.partition(" %1.3")[0]
-    yield "a connection that breaks in a line", breaks, ALONE, ["run", *MACHINE], within, BARE + DEVICE_TEXT + waited(4, 100)
+    yield "a connection that breaks in a line", breaks, ALONE, ["run", *MACHINE], within, text
     yield "a stream file that breaks", breaks, THREADS, MACHINE, f"vkstreams 1\nsetup\n{DEVICE}teardown\n", ""
 
 

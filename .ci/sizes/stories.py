@@ -203,10 +203,11 @@ def update(descriptor_set):
 
 
 def sets(count):
-    """A pool's reset writes its living sets and ends them. Then, again and again, it ends just the one set there is."""
+    """A reset writes the living sets of its pool and ends them; then, again and again, just the one set there is."""
     story = Story()
     pool, other = story.make("DescriptorPool"), story.make("DescriptorPool")
-    made, apart, reset = take_sets(story, pool, count), take_sets(story, other, 1)[0], f"vkResetDescriptorPool %1.3 {pool}"
+    made, apart = take_sets(story, pool, count), take_sets(story, other, 1)[0]
+    reset = f"vkResetDescriptorPool %1.3 {pool}"
     found = "descriptorPool", pool
     story.overlap(update(made[-1]), (reset,), *found, True)
     story.overlap(update(apart), (reset,), *found, False)
@@ -312,7 +313,8 @@ def copied(count, streams):
     story.call("vkDeviceWaitIdle %1.3", thread=2)
     if streams > 1:
         story.section("stream 3")
-        story.call(f"vkDestroyFence {other} {story.call(f'vkCreateFence {other}', 1, thread=3)[0]}", code="void", thread=3)
+        fence = story.call(f"vkCreateFence {other}", 1, thread=3)[0]
+        story.call(f"vkDestroyFence {other} {fence}", code="void", thread=3)
     story.section("teardown")
     story.call(f"vkDestroyDevice {other}", code="void")
     return story
