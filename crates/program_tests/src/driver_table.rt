@@ -43,8 +43,9 @@ pub(crate) const FIRST: Row = Row {
     ..PLAIN
 };
 
-/// Each begins with an instance; all but those of two drivers and of none go on with a physical device and a device.
-pub(crate) static ROWS: [Row; 20] = [
+/// Handles that drivers answer. Each row begins with an instance; all but those of two drivers and of none go on with a physical device
+/// and a device.
+pub(crate) static ANSWERED: [Row; 5] = [
     FIRST,
     // Without a driver no instance is made, and no driver is told.
     Row {
@@ -130,6 +131,10 @@ pub(crate) static ROWS: [Row; 20] = [
         ],
         ..CHECKED
     },
+];
+
+/// Destructions that are skipped, answers that are lost, and nulls.
+pub(crate) static SKIPPED_AND_LOST: [Row; 5] = [
     // The first destruction of the device is skipped, since its image lives.
     Row {
         events: &[
@@ -256,6 +261,10 @@ pub(crate) static ROWS: [Row; 20] = [
         ],
         ..CHECKED
     },
+];
+
+/// Two threads, two drivers, and what is given again.
+pub(crate) static TWICE_AND_AGAIN: [Row; 4] = [
     // Two threads' calls are told as they begin, and a list has the handles in its order.
     Row {
         events: &[
@@ -393,6 +402,10 @@ pub(crate) static ROWS: [Row; 20] = [
         ],
         ..CHECKED
     },
+];
+
+/// What the words name: a policy, also for a generated trace.
+pub(crate) static BY_POLICY: [Row; 6] = [
     // The words name the policy.
     Row {
         machine: Machine {

@@ -3,7 +3,7 @@ ghost use Rattle.std.specs.Prelude.{IsTrue};
 ghost use Rattle.model_driver.specs.Driver.{are_handles};
 
 use crate::alone::run_on;
-use crate::driver_table::{FIRST, ROWS, Row};
+use crate::driver_table::{ANSWERED, BY_POLICY, FIRST, Row, SKIPPED_AND_LOST, TWICE_AND_AGAIN};
 use crate::fixtures::{lines_of, put_told, sink_of};
 use model_driver::{AdverseDriver, Driver, ModelDriver, RecordingDriver};
 use replay_base::{MemSink, MemSource};
@@ -103,14 +103,33 @@ fn prints_under_each(rt: &impl Abort, alloc: Global, row: &Row, text: &[u8]) -> 
     )
 }
 
-#[test]
-fn the_drivers_are_told_what_they_answered(rt: HostRuntime) -> Result<(), Fail> {
-    let alloc = rt.alloc();
-    for row in ROWS.iter() {
-        let out = tells(&rt, alloc, row, ModelDriver::new(alloc), row.told)?;
-        prints_under_each(&rt, alloc, row, out.bytes())?;
+// The drivers are told these calls, and the text is the same whatever they answer.
+fn are_told(rt: &impl Abort, alloc: Global, rows: &[Row]) -> Result<(), Fail> {
+    for row in rows {
+        let out = tells(rt, alloc, row, ModelDriver::new(alloc), row.told)?;
+        prints_under_each(rt, alloc, row, out.bytes())?;
     }
     Ok(())
+}
+
+#[test]
+fn the_drivers_are_told_what_they_answered(rt: HostRuntime) -> Result<(), Fail> {
+    are_told(&rt, rt.alloc(), &ANSWERED)
+}
+
+#[test]
+fn no_driver_is_told_what_is_skipped(rt: HostRuntime) -> Result<(), Fail> {
+    are_told(&rt, rt.alloc(), &SKIPPED_AND_LOST)
+}
+
+#[test]
+fn the_drivers_are_told_their_last_values(rt: HostRuntime) -> Result<(), Fail> {
+    are_told(&rt, rt.alloc(), &TWICE_AND_AGAIN)
+}
+
+#[test]
+fn the_drivers_answer_by_the_policy_of_the_words(rt: HostRuntime) -> Result<(), Fail> {
+    are_told(&rt, rt.alloc(), &BY_POLICY)
 }
 
 #[test]
