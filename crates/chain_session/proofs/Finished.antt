@@ -7,6 +7,7 @@ use Rattle.std.specs.List.{AllByRecursion}
 use Rattle.std.specs.Option.{option_map_or}
 use Rattle.command_tables.specs.Calls.{CallContent, ReplyContent}
 use Rattle.model_driver.specs.Logs.{Log, logged}
+use Rattle.model_driver.proofs.Telling.{logged_nothing}
 use Rattle.trace_format.specs.Content.{TraceEvent, Return}
 use Rattle.object_model.specs.declared.PartKind.{PartKind}
 use Rattle.object_model.specs.History.{Birth, births}
@@ -158,14 +159,6 @@ can_finish s x thread guarded can =
       returns = returns_of s can.stands.kept can.events thread can.replies has.call has.form guarded (shorter (Return thread) can.events can.trace) can.stands.stands has.sent has.held;
     }
 
-none_logged : (log : Log) → log ≡ logged log []
-none_logged None = refl
-none_logged (Some log) = ap Some (none_more log)
-  where
-    none_more : {X : Type 0} (xs : List X) → xs ≡ xs ++ []
-    none_more [] = refl
-    none_more (x ∷ xs) = ap (λ ys. x ∷ ys) (none_more xs)
-
 -- a return more
 pub return_advances : (s : Setup) (x new : Kept) (thread : ℕ) (log : Log) (lines0 lines1 : List ℕ) → GivesGuarded s → Finishes x new thread lines0 lines1 → Advances s (Some x) (Some new) (Return thread) log log lines0 lines1
 return_advances s x new thread log lines0 lines1 guarded f = record {
@@ -181,7 +174,7 @@ return_advances s x new thread log lines0 lines1 guarded f = record {
         stands = well.stands g.births new.parts.names.kept.names new.parts.names.kept.handed g.since g.same;
       };
   each = λ events before st trace. refl;
-  told = λ events before st trace. none_logged log;
+  told = λ events before st trace. logged_nothing log;
   wrote = λ events before st trace.
       let has : HasCall st.kept thread = returns_busy s st.kept events thread before trace st.stands in
       let so_far : IsGapped events = shorter (Return thread) events trace in

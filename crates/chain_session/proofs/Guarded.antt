@@ -11,6 +11,7 @@ use Rattle.replay_model.specs.Setup.{parts_of}
 use Rattle.layer_model.specs.Walks.{are_parts_guarded, has_unique_kind}
 use Rattle.layer_model.proofs.Same.{and_true}
 use Rattle.chain_model.specs.Traces.{GivesGuarded}
+use Rattle.chain_build.specs.declared.answers.TheConstants.{MOST_LAYERS}
 use Rattle.chain_build.specs.Chain as built
 use Rattle.chain_build.specs.Chain.{NoteOf, chain_layers, chain_notes, chain_of, chain_with, driven, guarded_or, is_missing, present_or}
 use Rattle.chain_build.specs.Parts.{are_guarded, first_unguarded, is_unique, layer_parts, parts_in, placed_parts}
@@ -61,7 +62,7 @@ guarded_unless (Some name) layers drivers notes e = refl
 
 with_guarded : (layers : List LayerFound) (drivers : List DriverFound) (notes : List NoteOf) → are_parts_guarded (parts_of (outcome_of (chain_with layers drivers notes))) ≡ true
 unfolding chain_with
-with_guarded layers drivers notes = go (nat_le (length layers) 64)
+with_guarded layers drivers notes = go (nat_le (length layers) MOST_LAYERS)
   where
     go : (u : Bool) → are_parts_guarded (parts_of (outcome_of (cond u (guarded_or (first_unguarded layers) (record { layers = layers; parts = placed_parts 1 layers; drivers = drivers; notes = notes })) (built.TooLong (length layers))))) ≡ true
     go true = guarded_unless (first_unguarded layers) layers drivers notes refl

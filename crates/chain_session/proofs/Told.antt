@@ -8,20 +8,9 @@ use Rattle.model_driver.specs.declared.driver.DriverCall.{DriverCall}
 use Rattle.model_driver.specs.declared.driver.DriverReply.{DriverReply}
 use Rattle.model_driver.specs.Driver.{IsAnsweredBy, call_shown, reply_shown}
 use Rattle.model_driver.specs.Logs.{Log, logged}
+use Rattle.model_driver.proofs.Telling.{logged_nothing, logged_twice}
 use Rattle.session_model.specs.Stands.{AreRepliesTo}
 use Rattle.chain_session.specs.Telling.{AreAsked, AskedOnce, FrontAsked}
-
-pub logged_nothing : (log : Log) → log ≡ logged log []
-logged_nothing None = refl
-logged_nothing (Some xs) = ap (λ (ys : List (DriverCallContent × ReplyContent)). Some ys) (sym (go xs))
-  where
-    go : (xs : List (DriverCallContent × ReplyContent)) → xs ++ [] ≡ xs
-    go [] = refl
-    go (x ∷ xs) = ap (λ ys. x ∷ ys) (go xs)
-
-logged_twice : (log : Log) (a b : List (DriverCallContent × ReplyContent)) → logged (logged log a) b ≡ logged log (a ++ b)
-logged_twice None a b = refl
-logged_twice (Some xs) a b = ap (λ (ys : List (DriverCallContent × ReplyContent)). Some ys) (append_assoc xs a b)
 
 replies_more : (calls : List DriverCallContent) (own : List ReplyContent) (c : DriverCallContent) (r : ReplyContent) → AreRepliesTo calls own → IsAnsweredBy c r → AreRepliesTo (calls ++ c ∷ []) (own ++ r ∷ [])
 replies_more [] [] c r h a = (a, tt)

@@ -1,5 +1,5 @@
 -- A begin that no rule of a stream file's line refuses gives names where their owners are, and in a stream is on one device.
-use Rattle.std.proofs.Common.{◌≡◌, ◌∙◌, ◌==◌, ◌<◌, ◌≤◌, ℕ, Bool, true, false, not, cond, ◌&&◌, ◌||◌, Option, Some, None, List, [], ◌∷◌, refl, sym, ap, arith}
+use Rattle.std.proofs.Common.{◌≡◌, ◌∙◌, ◌==◌, ◌<◌, ◌≤◌, ℕ, Bool, true, false, not, cond, ◌&&◌, ◌||◌, Option, Some, None, List, [], ◌∷◌, refl, sym, ap, arith, lit<}
 use Rattle.std.specs.Prelude.{is_some, option_and_then}
 use Rattle.std.specs.List.{AllByRecursion, list_any}
 use Rattle.std.specs.Option.{is_none, option_map_or}
@@ -15,6 +15,7 @@ use Rattle.command_tables.specs.Effects.{type_made}
 use Rattle.command_tables.specs.Table.{row_of}
 use Rattle.command_tables.specs.Tests.{same_command, same_type}
 use Rattle.trace_format.specs.declared.event.Name.{Name}
+use Rattle.trace_format.specs.declared.limits.TheConstants.{MAX_THREADS}
 use Rattle.trace_format.specs.Accepting.{is_known, same_name, type_given}
 use Rattle.trace_format.specs.Content.{BeginEvent, TraceEvent, Begin}
 use Rattle.trace_format.specs.Grammar.{IsBegin, IsName}
@@ -29,6 +30,10 @@ use Rattle.device_facts.proofs.Beside.{NamesAre}
 use Rattle.device_facts.proofs.Looks.{all_to, name_is}
 use Rattle.device_facts.proofs.Opening.{Gives, NameBy, NameGiven, OfName, OnDevice}
 use Rattle.device_facts.proofs.Written.{Asked, both_true, effect_fits, ends_none, first_is, fits, gives_owner, global_nowhere, is_global, name_in, names_both, names_not, names_used_all, owner_fits, physical_global, plain_there, typed_first}
+
+-- an object's number, which tells names apart, has room for so many threads
+threads_fit : MAX_THREADS < 2048
+threads_fit = lit< tt
 
 -- a begin that may come behind events, and what tells the devices of names as they are written behind it
 pub record Lined (device_of : Name → Option Name) (before : List TraceEvent) (b : BeginEvent) : Type 0 where
@@ -107,7 +112,7 @@ module _ (device_of : Name → Option Name) (before : List TraceEvent) (b : Begi
 
   pub begin_gives : Gives device_of b
   begin_gives = record {
-    threads = all_to IsName (λ (n : Name). n.thread < 2048) (λ n is. let most : n.thread ≤ 1024 = is.0.1 in omega (arith, most)) b.results l.grammar.names;
+    threads = all_to IsName (λ (n : Name). n.thread < 2048) (λ n is. let most : n.thread ≤ MAX_THREADS = is.0.1 in omega (arith, most, threads_fit)) b.results l.grammar.names;
     given = all_members (λ n. NameGiven device_of b.args (row_of b.cmd).effect (device_of n)) b.results (λ n is. given_by (row_of b.cmd).effect n (fits b.cmd) (written n is));
   }
     where

@@ -9,6 +9,7 @@ use Rattle.command_tables.specs.declared.types.CommandId.TheVariants as cmd
 use Rattle.trace_format.specs.Accepting.{calls_begun}
 use Rattle.trace_format.specs.Content.{TraceEvent, Begin, Return}
 use Rattle.model_driver.specs.Logs.{Log, logged}
+use Rattle.model_driver.proofs.Telling.{logged_nothing, logged_twice}
 use Rattle.replay_model.specs.Setup.{Setup, Outcome, is_too_long}
 use Rattle.replay_model.specs.Stop.{exceeds_layers}
 use Rattle.replay_model.specs.Judged.{judged}
@@ -24,7 +25,6 @@ use Rattle.chain_session.specs.declared.error.SessionError.{SessionError}
 use Rattle.chain_session.specs.declared.error.SessionError.TheVariants as error
 use Rattle.chain_session.specs.Creation.{IsFault}
 use Rattle.chain_session.specs.Standing.{Advances, BeginsCall, CanCome, CanReturn, Counts, IsFaultAt, ReturnsAs, ShowsOnce, StandsFor, calls_before}
-use Rattle.chain_session.proofs.Told.{logged_nothing}
 use Rattle.event_replay.specs.Through.{CanGoOn, GoesThrough, IsLongAmong, Passage, lines_through}
 use Rattle.event_replay.proofs.Exchanged.{exchanged, gained_at, same_gained}
 use Rattle.event_replay.proofs.Lists.{any_before, any_behind, front_gapped, lines_append, turned}
@@ -134,10 +134,6 @@ can_behind s x y es more p can goes =
 -- the next may come behind those before
 pub can_next : (s : Setup) (x y : Option Kept) (all es : List TraceEvent) (e : TraceEvent) (more : List TraceEvent) (p : Passage) → all ≡ es ++ e ∷ more → CanGoOn s x all → GoesThrough s x y es p → CanGoOn s y (e ∷ [])
 can_next s x y all es e more p are can goes = can_front s y (e ∷ []) more (can_behind s x y es (e ∷ more) p (subst (λ evs. CanGoOn s x evs) are can) goes)
-
-logged_twice : (log : Log) (xs ys : List (DriverCallContent × ReplyContent)) → logged (logged log xs) ys ≡ logged log (xs ++ ys)
-logged_twice None xs ys = refl
-logged_twice (Some log) xs ys = ap (λ all. Some all) (append_assoc log xs ys)
 
 -- some, and then more
 pub goes_on : (s : Setup) (x y z : Option Kept) (es more : List TraceEvent) (log0 log1 log2 : Log) (lines0 lines1 lines2 : List ℕ)

@@ -1,4 +1,5 @@
 pub mod Backs
+pub mod Telling
 pub mod Copies
 pub mod Handles
 pub mod Outs

@@ -4,7 +4,7 @@ use Rattle.command_tables.specs.Calls.{DriverCallContent, ReplyContent}
 use Rattle.command_tables.specs.Handles.{count_in}
 use Rattle.model_driver.specs.declared.driver.Policy.{Policy}
 use Rattle.model_driver.specs.Driver.{handles_due}
-use Rattle.model_driver.specs.Logs.{Log}
+use Rattle.model_driver.specs.Logs.{Log, Untold, Replies, Calls}
 
 -- so many calls, so many handles of arguments and replies together, and so many payload bytes
 pub record SeatRoom : Type 0 where
@@ -30,10 +30,11 @@ shared_room a b = record { calls = min a.calls b.calls; handles = min a.handles 
 abbrev pub room_for : DriverCallContent → SeatRoom
 room_for c = record { calls = 1; handles = count_in c.args + handles_due c; bytes = length c.payload }
 
--- there was no call yet, where the calls are told
+-- there was no call yet, where the calls or their replies are told
 abbrev pub IsEmptyLog : Log → Type 0
-IsEmptyLog None = Unit {0}
-IsEmptyLog (Some log) = log ≡ []
+IsEmptyLog Untold = Unit {0}
+IsEmptyLog (Replies replies) = replies ≡ []
+IsEmptyLog (Calls calls) = calls ≡ []
 
 -- this is the policy, where one is told
 abbrev pub IsPolicy : Option Policy → Policy → Type 0

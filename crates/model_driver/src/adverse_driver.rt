@@ -62,8 +62,9 @@ impl Driver for AdverseDriver {
     ghost use Rattle.std.specs.Prelude.{◌≡◌, Option, None, drop};
     ghost use Rattle.model_driver.specs.Driver.{handles_due};
     ghost use Rattle.model_driver.specs.Policies.{given_from};
+    ghost use Rattle.model_driver.specs.Logs.{Untold};
 
-    ghost log = { λ _. None };
+    ghost log = { λ _. Untold };
 
     ghost answers_by = { λ _. None };
 

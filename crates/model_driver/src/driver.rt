@@ -98,7 +98,7 @@ pub trait Driver {
     ghost use Rattle.model_driver.specs.Driver.{call_shown, reply_shown, prepared, HasShape, IsAnsweredBy};
     ghost use Rattle.model_driver.specs.Logs.{Log, logged};
 
-    /// The calls so far, each with its reply, where the driver tells them.
+    /// What the driver tells of the calls so far: nothing, their replies, or each call with its reply.
     ghost log: { Self → Log };
 
     /// The policy by which it answers, where it tells one.

@@ -129,8 +129,9 @@ fn serve(
 impl Driver for ModelDriver {
     ghost use Rattle.std.specs.Prelude.{◌≡◌, Option, Some, None};
     ghost use Rattle.model_driver.specs.GivenValues.{handles_for, after_call};
+    ghost use Rattle.model_driver.specs.Logs.{Untold};
 
-    ghost log = { λ _. None };
+    ghost log = { λ _. Untold };
 
     ghost answers_by = { λ d. Some d.policy };
 

@@ -79,9 +79,10 @@ fn copy_call(alloc: Global, call: &DriverCall) -> Result<DriverCall, NoMemory>
 }
 
 impl<D: Driver> Driver for RecordingDriver<D> {
-    ghost use Rattle.std.specs.Prelude.{◌≡◌, ◌∷◌, [], ◌++◌, Some};
+    ghost use Rattle.std.specs.Prelude.{◌≡◌, ◌∷◌, [], ◌++◌};
+    ghost use Rattle.model_driver.specs.Logs.{Calls};
 
-    ghost log = { λ d. Some d.calls };
+    ghost log = { λ d. Calls d.calls };
 
     ghost answers_by = { λ d. D.answers_by d.inner };
 

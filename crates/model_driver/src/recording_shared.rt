@@ -55,10 +55,11 @@ impl<D: SharedDriver> RecordingShared<D> {
 impl<D: SharedDriver> SharedDriver for RecordingShared<D> {
     type Seat = RecordingSeat<D::Seat>;
 
-    ghost use Rattle.std.specs.Prelude.{◌≡◌, ◌∷◌, [], ◌++◌, Some};
+    ghost use Rattle.std.specs.Prelude.{◌≡◌, ◌∷◌, [], ◌++◌};
     ghost use Rattle.model_driver.specs.Seats.{shared_room};
+    ghost use Rattle.model_driver.specs.Logs.{Calls};
 
-    ghost log = { λ s. Some s.calls };
+    ghost log = { λ s. Calls s.calls };
 
     ghost answers_by = { λ s. D.answers_by s.inner };
 

@@ -61,8 +61,9 @@ impl SharedDriver for SharedModel {
 
     ghost use Rattle.std.specs.Prelude.{◌≡◌, ◌^◌, [], Some, None};
     ghost use Rattle.model_driver.specs.GivenValues.{handles_at_seat, seat_after};
+    ghost use Rattle.model_driver.specs.Logs.{Untold};
 
-    ghost log = { λ _. None };
+    ghost log = { λ _. Untold };
 
     ghost answers_by = { λ s. Some s.policy };
 

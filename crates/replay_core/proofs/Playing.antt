@@ -2,6 +2,7 @@
 use Rattle.std.proofs.Common.{◌≡◌, ℕ, Bool, true, false, cond, Option, Some, None, List, [], ◌∷◌, ◌++◌, length, take, refl, sym, ◌∙◌, ap, subst, append_assoc, append-nil}
 use Rattle.command_tables.specs.Calls.{DriverCallContent, ReplyContent}
 use Rattle.model_driver.specs.Logs.{Log, logged}
+use Rattle.model_driver.proofs.Telling.{logged_nothing, logged_twice}
 use Rattle.trace_format.specs.Content.{TraceEvent}
 use Rattle.replay_base.specs.Bytes.{grown, GrownByFront}
 use Rattle.replay_base.specs.Changes.{Gained}
@@ -22,14 +23,6 @@ use Rattle.replay_core.specs.Plays.{Step, next_of}
 use Rattle.replay_core.specs.Traffic.{Traffic, Start, upto, through, lines_of_events, lines_behind, next_calls, Told, Played, WentOut, CutInLines, RanOutBehind}
 use Rattle.replay_core.proofs.Sessions.{no_events, stands_first}
 
-logged_logged : (log : Log) (xs ys : List (DriverCallContent × ReplyContent)) → logged (logged log xs) ys ≡ logged log (xs ++ ys)
-logged_logged None xs ys = refl
-logged_logged (Some zs) xs ys = ap (λ all. Some all) (append_assoc zs xs ys)
-
-logged_nil : (log : Log) → log ≡ logged log []
-logged_nil None = refl
-logged_nil (Some xs) = ap (λ ys. Some ys) (sym (append-nil xs))
-
 pub lines_more : (s : Setup) (events : List TraceEvent) (e : TraceEvent) → lines_of_events s (e ∷ events) ≡ lines_of_events s events ++ lines_behind s events e
 lines_more s events e = lines-judge s (judged s events) e
 
@@ -47,13 +40,13 @@ played_none s x t none log held = record {
   replies = [];
   stands = stands_first s x none;
   trace = no_events;
-  told = record { each = refl; told = log ∙ logged_nil t.old_log };
+  told = record { each = refl; told = log ∙ logged_nothing t.old_log };
   wrote = held ∙ sym (grown_nil t.sink.old);
 }
 
 -- nothing went out, as of no event
 pub nothing_out : (s : Setup) (t : Traffic) → t.log ≡ t.old_log → t.sink.new ≡ t.sink.old → WentOut s [] t
-nothing_out s t log held = record { replies = []; told = record { each = refl; told = log ∙ logged_nil t.old_log }; wrote = held ∙ sym (grown_nil t.sink.old) }
+nothing_out s t log held = record { replies = []; told = record { each = refl; told = log ∙ logged_nothing t.old_log }; wrote = held ∙ sym (grown_nil t.sink.old) }
 
 -- what was replayed went out
 pub went_out : (s : Setup) (x : Option Kept) (events : List TraceEvent) (t : Traffic) → Played s x events t → WentOut s events t
@@ -71,7 +64,7 @@ told_more start s t events e more before so_far each all told = record {
   each = all;
   told = told
       ∙ (ap (λ l. logged l (exchanges_at s (judged s events) e (more ++ before))) so_far.told
-      ∙ (logged_logged start.log _ _ ∙ ap (logged start.log) (sym (exchanges-judge s (judged s events) e more before each))));
+      ∙ (logged_twice start.log _ _ ∙ ap (logged start.log) (sym (exchanges-judge s (judged s events) e more before each))));
 }
 
 -- the event was replayed, and its lines were written

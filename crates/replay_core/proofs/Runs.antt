@@ -25,7 +25,8 @@ use Rattle.replay_model.proofs.Stops.{placed-accepted, trace-accepted}
 use Rattle.chain_session.specs.declared.kept.Kept.{Kept}
 use Rattle.chain_session.specs.Standing.{Counts, StandsFor}
 use Rattle.chain_session.specs.Telling.{FrontAsked}
-use Rattle.chain_session.proofs.Told.{logged_nothing, none_asked}
+use Rattle.model_driver.proofs.Telling.{logged_nothing}
+use Rattle.chain_session.proofs.Told.{none_asked}
 use Rattle.replay_core.specs.declared.error.ReplayError.{ReplayError}
 use Rattle.replay_core.specs.declared.error.ReplayError.TheVariants as error
 use Rattle.replay_core.specs.Ending.{PutsText}

@@ -1,5 +1,5 @@
 -- What comes of building a chain can be printed, and its lines are those of the outcome by which traces are judged.
-use Rattle.std.proofs.Common.{◌≡◌, ◌≤◌, ℕ, false, refl, arith, List, length}
+use Rattle.std.proofs.Common.{◌≡◌, ◌≤◌, ◌<◌, ◌^◌, ℕ, false, refl, arith, lit<, List, length}
 use Rattle.layer_search.specs.Paths.{most_paths}
 use Rattle.chain_build.specs.Answers.{answer_content}
 use Rattle.chain_build.specs.Chain.{Outcome, LayerNotPresent, NoDriver, TooLong, Unguarded, Built, chain_of}
@@ -27,6 +27,10 @@ same_text (TooLong layers) call = refl
 same_text (Unguarded layer) call = refl
 same_text (Built chain) call = refl
 
+-- drivers are counted in 32 bits, which suffice for as many as there may be paths
+paths_counted : most_paths < 2 ^ 32
+paths_counted = lit< tt
+
 -- what comes of a setup can be printed
 pub printable : (setup : SetupContent) (app : List (List ℕ)) → length setup.drivers.list ≤ most_paths → IsPrintable (chain_of setup app)
-printable setup app few = let most : most_paths ≡ 4096 = refl in built_is_printable (chain_of setup app) setup app refl (omega (arith, few, most))
+printable setup app few = built_is_printable (chain_of setup app) setup app refl (omega (arith, few, paths_counted))

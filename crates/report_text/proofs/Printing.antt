@@ -1,10 +1,11 @@
 -- What is built of a setup can be printed.
-use Rattle.std.proofs.Common.{◌≡◌, ℕ, ◌+◌, ◌*◌, ◌<◌, ◌≤◌, ◌^◌, Bool, true, false, List, [], ◌∷◌, Option, Some, None, if◌then◌else◌, All, map, length, find, unwrap_or, nat_le, refl, sym, subst, arith, lit≤, length-append, codes}
+use Rattle.std.proofs.Common.{◌≡◌, ℕ, ◌+◌, ◌*◌, ◌<◌, ◌≤◌, ◌^◌, Bool, true, false, List, [], ◌∷◌, Option, Some, None, if◌then◌else◌, All, map, length, find, unwrap_or, nat_le, refl, sym, subst, arith, lit<, lit≤, length-append, codes}
 use Rattle.std.proofs.lemmas.Bool.{leb-true}
 use Rattle.std.proofs.lemmas.List.{length-map}
 use Rattle.std.proofs.lemmas.List.Elements.{All-append, All-map}
 use Rattle.std.specs.Str.{bytes_eq}
 use Rattle.layer_search.specs.Contents.{DriverFound, LayerFound}
+use Rattle.chain_build.specs.declared.answers.TheConstants.{MOST_LAYERS}
 use Rattle.chain_build.specs.Setup.{SetupContent}
 use Rattle.object_model.specs.declared.PartKind.{PartKind}
 use Rattle.object_model.specs.declared.PartKind.TheVariants.{Threads, Lifetimes, Unique}
@@ -45,15 +46,19 @@ within n (x ∷ layers) =
     (All-map (Within n (length (x ∷ layers))) (λ part. (part, n)) (layer_parts x) (λ k d l. (omega arith, omega arith)))
     (λ k d l. let rest = within (n + 1) layers k d l in let low = rest.0 in let high = rest.1 in (omega arith, omega arith))
 
+-- layers and their parts, three of each at most, are counted in 32 bits, which suffice for as many as a chain may have
+parts_counted : 3 * MOST_LAYERS < 2 ^ 32
+parts_counted = lit< tt
+
 -- what is built of few layers and drivers is counted
-counted : (layers : List LayerFound) (drivers : List DriverFound) (notes : List NoteOf) → length layers ≤ 64 → length drivers < 2 ^ 32
+counted : (layers : List LayerFound) (drivers : List DriverFound) (notes : List NoteOf) → length layers ≤ MOST_LAYERS → length drivers < 2 ^ 32
     → IsCounted (record { layers = layers; parts = placed_parts 1 layers; drivers = drivers; notes = notes })
 counted layers drivers notes few less =
     let parts = few_parts 1 layers in
     record {
       places = λ k d l. let at = within 1 layers k d l in let low = at.0 in let high = at.1 in (omega arith, omega arith);
-      few_layers = omega arith;
-      few_parts = omega arith;
+      few_layers = omega (arith, few, parts_counted);
+      few_parts = omega (arith, few, parts, parts_counted);
       few_drivers = less;
     }
 
@@ -63,9 +68,9 @@ guarded None chain h = h
 
 with_few : (layers : List LayerFound) (drivers : List DriverFound) (notes : List NoteOf) → length drivers < 2 ^ 32 → IsPrintable (chain_with layers drivers notes)
 unfolding chain_with
-with_few layers drivers notes less = go (nat_le (length layers) 64) (leb-true (length layers) 64)
+with_few layers drivers notes less = go (nat_le (length layers) MOST_LAYERS) (leb-true (length layers) MOST_LAYERS)
   where
-    go : (b : Bool) → (b ≡ true → length layers ≤ 64)
+    go : (b : Bool) → (b ≡ true → length layers ≤ MOST_LAYERS)
         → IsPrintable (if b then guarded_or (first_unguarded layers) (record { layers = layers; parts = placed_parts 1 layers; drivers = drivers; notes = notes }) else TooLong (length layers))
     go true few = guarded (first_unguarded layers) _ (counted layers drivers notes (few refl) less)
     go false few = tt

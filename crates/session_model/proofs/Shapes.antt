@@ -1,5 +1,5 @@
 -- A begin of the grammar has its command's shape, as it comes to the first part and as the drivers are told of it.
-use Rattle.std.proofs.Common.{◌≡◌, ℕ, suc, ◌≤◌, Bool, true, false, cond, List, [], ◌∷◌, length, map, refl, sym, ◌∙◌, ap, subst, arith}
+use Rattle.std.proofs.Common.{◌≡◌, ℕ, suc, ◌≤◌, Bool, true, false, cond, List, [], ◌∷◌, length, map, refl, sym, ◌∙◌, ap, subst, arith, lit≤}
 use Rattle.std.proofs.lemmas.Bool.{eqb-true}
 use Rattle.std.specs.Prelude.{nat_le, Option}
 use Rattle.std.specs.List.{AllByRecursion}
@@ -12,6 +12,7 @@ use Rattle.command_tables.specs.Table.{ParamSpec, row_of}
 use Rattle.command_tables.specs.Tests.{same_command}
 use Rattle.model_driver.specs.Driver.{FitsAsked, FitsParam, FitsRow, HasShape}
 use Rattle.trace_format.specs.declared.event.Name.{Name}
+use Rattle.trace_format.specs.declared.limits.TheConstants.{MAX_PLACES}
 use Rattle.trace_format.specs.Content.{Arg, BeginEvent, TraceEvent, Begin}
 use Rattle.trace_format.specs.Grammar.{FitParams, HasForm, IsBegin, takes}
 use Rattle.object_model.specs.declared.Argument.{Argument}
@@ -40,9 +41,13 @@ single_place : (many : Bool) (a : Arg) → HasForm many a → many ≡ false →
 single_place true a form is = cc
 single_place false a form is = eqb-true (length a.names) 1 form.1
 
-most_places : (many : Bool) (a : Arg) → HasForm many a → length a.names ≤ 1024
-most_places true a form = le_true (length a.names) 1024 form.1
-most_places false a form = let one : length a.names ≡ 1 = eqb-true (length a.names) 1 form.1 in omega arith
+-- a list may have one place at least
+one_place : 1 ≤ MAX_PLACES
+one_place = lit≤ tt
+
+most_places : (many : Bool) (a : Arg) → HasForm many a → length a.names ≤ MAX_PLACES
+most_places true a form = le_true (length a.names) MAX_PLACES form.1
+most_places false a form = let one : length a.names ≡ 1 = eqb-true (length a.names) 1 form.1 in omega (arith, one, one_place)
 
 twice_mapped : {X Y Z : Type 0} (f : Y → Z) (g : X → Y) (xs : List X) → length (map f (map g xs)) ≡ length xs
 twice_mapped f g [] = refl
@@ -51,7 +56,7 @@ twice_mapped f g (x ∷ xs) = ap suc (twice_mapped f g xs)
 fits_param : (f : Argument → ℕ) (g : Option Name → Argument) (p : ParamSpec) (a : Arg) → HasForm p.many a → FitsParam p (map f (map g a.names))
 fits_param f g p a form = record {
   single = λ one. twice_mapped f g a.names ∙ single_place p.many a form one;
-  most = subst (λ n. n ≤ 1024) (sym (twice_mapped f g a.names)) (most_places p.many a form);
+  most = subst (λ n. n ≤ MAX_PLACES) (sym (twice_mapped f g a.names)) (most_places p.many a form);
 }
 
 pub fit_params : (f : Argument → ℕ) (g : Option Name → Argument) (ps : List ParamSpec) (args : List Arg) → FitParams ps args → FitsRow ps (map (map f) (map (λ (a : Arg). map g a.names) args))
@@ -62,9 +67,9 @@ fit_params f g (p ∷ ps) (a ∷ args) fit = (fits_param f g p a fit.0, fit_para
 
 -- as many handles are asked for as the command takes results
 pub takes_fits : (e : Effect) (n : ℕ) → takes e n ≡ true → FitsAsked e n
-takes_fits (eff.Create t owner true) n h = le_true n 1024 h
+takes_fits (eff.Create t owner true) n h = le_true n MAX_PLACES h
 takes_fits (eff.Create t owner false) n h = eqb-true n 1 h
-takes_fits (eff.Retrieve t owner true) n h = le_true n 1024 h
+takes_fits (eff.Retrieve t owner true) n h = le_true n MAX_PLACES h
 takes_fits (eff.Retrieve t owner false) n h = eqb-true n 1 h
 takes_fits eff.None n h = eqb-true n 0 h
 takes_fits (eff.Destroy p) n h = eqb-true n 0 h

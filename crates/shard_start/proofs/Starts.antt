@@ -1,5 +1,5 @@
 -- A plan that is cut from a file can be followed from a session that stands for the file's setup.
-use Rattle.std.proofs.Common.{◌≡◌, ◌∙◌, ◌+◌, ◌≤◌, ◌<◌, ◌^◌, ℕ, nat_eq, true, Option, Some, None, List, [], ◌∷◌, ◌++◌, length, map, refl, sym, ap, subst, arith}
+use Rattle.std.proofs.Common.{◌≡◌, ◌∙◌, ◌+◌, ◌≤◌, ◌<◌, ◌^◌, ℕ, nat_eq, true, Option, Some, None, List, [], ◌∷◌, ◌++◌, length, map, refl, sym, ap, subst, arith, lit<}
 use Rattle.std.specs.Prelude.{is_some, reverse}
 use Rattle.std.specs.List.{AllByRecursion, IsDistinct}
 use Rattle.std.proofs.lemmas.List.{length-reverse}
@@ -14,6 +14,7 @@ use Rattle.replay_model.proofs.Accepted.{calls-judged}
 use Rattle.layer_model.specs.Walks.{PartState}
 use Rattle.chain_model.specs.Gaps.{IsGapped}
 use Rattle.chain_model.specs.Traces.{GivesGuarded}
+use Rattle.stream_model.specs.declared.limits.TheConstants.{MOST_EVENTS}
 use Rattle.stream_model.specs.FileLines.{FileLine}
 use Rattle.stream_model.specs.FileParts.{AreInOrder, StreamPart, all_events, parts}
 use Rattle.stream_model.specs.Order.{events, stream_threads}
@@ -46,7 +47,7 @@ abbrev pub EventsInOrder : Type 0
 EventsInOrder = (lines : List FileLine) → AreInOrder lines → all_events (parts lines) ≡ reverse (events lines)
 
 abbrev pub EventsFew : Type 0
-EventsFew = (lines : List FileLine) → AreInOrder lines → length (events lines) ≤ 262144
+EventsFew = (lines : List FileLine) → AreInOrder lines → length (events lines) ≤ MOST_EVENTS
 
 -- ---- the session
 
@@ -73,11 +74,15 @@ turns_along streams (e ∷ before) follows = (there (next_event streams e.thread
 
 -- ---- how many calls there are
 
-small : (n : ℕ) → n ≤ 262144 → n < 2 ^ 32
-small n few = omega arith
+-- calls are counted in 32 bits, which suffice for as many events as a file may have
+events_counted : MOST_EVENTS < 2 ^ 32
+events_counted = lit< tt
+
+small : (n : ℕ) → n ≤ MOST_EVENTS → n < 2 ^ 32
+small n few = omega (arith, few, events_counted)
 
 few_calls : EventsInOrder → EventsFew → (k : Kept) (s : Setup) (lines : List FileLine) (replies : List ReplyContent) (device : Name) → AreInOrder lines → StandsFor s (Some k) (reverse (parts lines).setup) replies
-    → k.calls + events_in (map (stream_on (device_written (parts lines)) device) (parts lines).streams) ≤ 262144
+    → k.calls + events_in (map (stream_on (device_written (parts lines)) device) (parts lines).streams) ≤ MOST_EVENTS
 few_calls ordered few k s lines replies device order stands =
     let shows : Shows s k stands.kept = stands.shows in
     let calls : k.calls ≡ calls_begun (reverse (parts lines).setup) = shows.calls ∙ (stands.stands.calls ∙ calls-judged s (reverse (parts lines).setup)) in
@@ -86,7 +91,7 @@ few_calls ordered few k s lines replies device order stands =
     let kept : events_in (map (stream_on (device_written (parts lines)) device) (parts lines).streams) ≤ events_in (parts lines).streams = fewer_in (device_written (parts lines)) device (parts lines).streams in
     let both : length (parts lines).setup + events_in (parts lines).streams ≤ length (all_events (parts lines)) = setup_and_streams (parts lines) in
     let all : length (all_events (parts lines)) ≡ length (events lines) = ap length (ordered lines order) ∙ length-reverse (events lines) in
-    let most : length (events lines) ≤ 262144 = few lines order in
+    let most : length (events lines) ≤ MOST_EVENTS = few lines order in
     omega (arith, calls, begun, setup, kept, both, all, most)
 
 -- ---- the plans

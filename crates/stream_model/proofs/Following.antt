@@ -18,6 +18,7 @@ use Rattle.chain_model.proofs.Eventing.{all_append}
 use Rattle.chain_model.proofs.Gapped.{gapped}
 use Rattle.stream_model.specs.declared.heading.Heading.{Heading}
 use Rattle.stream_model.specs.declared.heading.Heading.TheVariants as heading
+use Rattle.stream_model.specs.declared.limits.TheConstants.{MOST_STREAMS}
 use Rattle.stream_model.specs.declared.refusal.Refusal.TheVariants as refusal
 use Rattle.stream_model.specs.Devices.{has_result, written_device}
 use Rattle.stream_model.specs.FileLines.{FileLine, HeadingLine, EventLine}
@@ -193,7 +194,7 @@ module _ (device_of : Name → Option Name) (device : Name) where
 
   is_new : (ts : List ℕ) (t : ℕ) (a : Bool) → (a && is_new_stream ts t) ≡ true → list_any (λ x. x == t) ts ≡ false
   is_new ts t a is =
-      not-true (list_any (λ x. x == t) ts) (and_parts (nat_lt (length ts) 64) (not (list_any (λ x. x == t) ts)) (and_parts a (is_new_stream ts t) is).1).1
+      not-true (list_any (λ x. x == t) ts) (and_parts (nat_lt (length ts) MOST_STREAMS) (not (list_any (λ x. x == t) ts)) (and_parts a (is_new_stream ts t) is).1).1
 
   -- setup is closed: all events so far are its
   setup_whole : (lines : List FileLine) (file : FileParts) (latest : List TraceEvent) → file ≡ no_parts → all_events file ++ latest ≡ reverse (events lines) → events lines ≡ reverse latest

@@ -9,6 +9,7 @@ use Rattle.trace_format.specs.Accepting.{are_accepted, fault_after, fault_at_end
 use Rattle.trace_format.specs.Content.{TraceEvent}
 use Rattle.stream_model.specs.declared.heading.Heading.{Heading}
 use Rattle.stream_model.specs.declared.heading.Heading.TheVariants as heading
+use Rattle.stream_model.specs.declared.limits.TheConstants.{MOST_DEVICES, MOST_EVENTS, MOST_NAMES}
 use Rattle.stream_model.specs.declared.refusal.Refusal.{Refusal}
 use Rattle.stream_model.specs.declared.refusal.Refusal.TheVariants as refusal
 use Rattle.stream_model.specs.FileLines.{FileLine, HeadingLine, EventLine, file_line}
@@ -54,10 +55,10 @@ limits false true c is = cc
 limits false false true is = cc
 limits false false false is = (refl, refl, refl)
 
-pub within_limits : (names seen devices : ℕ) → limit_passed names seen devices ≡ None → (names ≤ 262144) × (seen ≤ 262144) × (devices ≤ 16)
+pub within_limits : (names seen devices : ℕ) → limit_passed names seen devices ≡ None → (names ≤ MOST_NAMES) × (seen ≤ MOST_EVENTS) × (devices ≤ MOST_DEVICES)
 within_limits names seen devices is =
-    let each = limits (nat_lt 262144 names) (nat_lt 262144 seen) (nat_lt 16 devices) is in
-    (ltb-false 262144 names each.0, ltb-false 262144 seen each.1, ltb-false 16 devices each.2)
+    let each = limits (nat_lt MOST_NAMES names) (nat_lt MOST_EVENTS seen) (nat_lt MOST_DEVICES devices) is in
+    (ltb-false MOST_NAMES names each.0, ltb-false MOST_EVENTS seen each.1, ltb-false MOST_DEVICES devices each.2)
 
 -- ---- a trace
 

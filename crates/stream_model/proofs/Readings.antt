@@ -3,6 +3,8 @@ use Rattle.std.proofs.Common.{◌≡◌, ◌∙◌, ◌+◌, ℕ, nat_lt, Bool, 
 use Rattle.std.specs.Prelude.{Result, Ok, Err}
 use Rattle.std.specs.Str.{bytes_eq}
 use Rattle.replay_base.specs.Lines.{lines_of}
+use Rattle.replay_base.specs.declared.limit.TheConstants.{MOST_LINE_BYTES}
+use Rattle.replay_model.specs.declared.TheConstants.{MOST_LINES}
 use Rattle.replay_model.specs.Stop.{LineBytes, Lines, cause_before}
 use Rattle.stream_model.specs.declared.limits.TheConstants.{HEADER}
 use Rattle.stream_model.specs.declared.refusal.Refusal.{Refusal}
@@ -15,7 +17,7 @@ use Rattle.stream_model.specs.Refusals.{Refused, ended, ended_at, file_lines, he
 
 -- a line that a trace may look at, a stream file may look at
 pub looked_at : (n : ℕ) (line : List ℕ) → cause_before n line ≡ None → refusal_before n line ≡ None
-looked_at n line is = go (nat_lt 16777216 n) (nat_lt 65536 (length line)) is
+looked_at n line is = go (nat_lt MOST_LINES n) (nat_lt MOST_LINE_BYTES (length line)) is
   where
     go : (many long : Bool) → cond many (Some Lines) (cond long (Some LineBytes) None) ≡ None → cond many (Some refusal.Lines) (cond long (Some refusal.LineBytes) None) ≡ None
     go true long p = cc
@@ -23,7 +25,7 @@ looked_at n line is = go (nat_lt 16777216 n) (nat_lt 65536 (length line)) is
     go false false p = refl
 
 pub too_many_lines : (n : ℕ) (line : List ℕ) → cause_before n line ≡ Some Lines → refusal_before n line ≡ Some refusal.Lines
-too_many_lines n line is = go (nat_lt 16777216 n) (nat_lt 65536 (length line)) is
+too_many_lines n line is = go (nat_lt MOST_LINES n) (nat_lt MOST_LINE_BYTES (length line)) is
   where
     go : (many long : Bool) → cond many (Some Lines) (cond long (Some LineBytes) None) ≡ Some Lines → cond many (Some refusal.Lines) (cond long (Some refusal.LineBytes) None) ≡ Some refusal.Lines
     go true long p = refl
@@ -31,7 +33,7 @@ too_many_lines n line is = go (nat_lt 16777216 n) (nat_lt 65536 (length line)) i
     go false false p = cc
 
 pub too_long_line : (n : ℕ) (line : List ℕ) → cause_before n line ≡ Some LineBytes → refusal_before n line ≡ Some refusal.LineBytes
-too_long_line n line is = go (nat_lt 16777216 n) (nat_lt 65536 (length line)) is
+too_long_line n line is = go (nat_lt MOST_LINES n) (nat_lt MOST_LINE_BYTES (length line)) is
   where
     go : (many long : Bool) → cond many (Some Lines) (cond long (Some LineBytes) None) ≡ Some LineBytes → cond many (Some refusal.Lines) (cond long (Some refusal.LineBytes) None) ≡ Some refusal.LineBytes
     go true long p = cc

@@ -10,6 +10,7 @@ use Rattle.trace_format.specs.Accepting.{names_in}
 use Rattle.trace_format.specs.Content.{TraceEvent}
 use Rattle.stream_model.specs.declared.heading.Heading.{Heading}
 use Rattle.stream_model.specs.declared.heading.Heading.TheVariants as heading
+use Rattle.stream_model.specs.declared.limits.TheConstants.{MOST_DEVICES, MOST_EVENTS, MOST_NAMES, MOST_STREAMS}
 use Rattle.stream_model.specs.FileLines.{FileLine, HeadingLine, EventLine}
 use Rattle.stream_model.specs.FileParts.{AreInOrder, FileParts, IsOfOneThread, closed_parts, open_events, parts, with_section}
 use Rattle.stream_model.specs.Order.{devices_named, event_thread, events, follows, heading_threads, is_in_order, is_new_stream, section, stream_threads, takes_thread}
@@ -17,17 +18,17 @@ use Rattle.stream_model.proofs.Orders.{heading_in_order, not_refused, within_lim
 
 -- ---- limits
 
-pub names_within : (lines : List FileLine) → AreInOrder lines → names_in (events lines) ≤ 262144
+pub names_within : (lines : List FileLine) → AreInOrder lines → names_in (events lines) ≤ MOST_NAMES
 names_within [] order = omega arith
 names_within (HeadingLine h ∷ lines) order = names_within lines order.0
 names_within (EventLine e ∷ lines) order = (within_limits (names_in (e ∷ events lines)) (length (e ∷ events lines)) (length (devices_named (EventLine e ∷ lines))) (not_refused lines e order.1).limit).0
 
-pub events_within : (lines : List FileLine) → AreInOrder lines → length (events lines) ≤ 262144
+pub events_within : (lines : List FileLine) → AreInOrder lines → length (events lines) ≤ MOST_EVENTS
 events_within [] order = omega arith
 events_within (HeadingLine h ∷ lines) order = events_within lines order.0
 events_within (EventLine e ∷ lines) order = (within_limits (names_in (e ∷ events lines)) (length (e ∷ events lines)) (length (devices_named (EventLine e ∷ lines))) (not_refused lines e order.1).limit).1
 
-pub devices_within : (lines : List FileLine) → AreInOrder lines → length (devices_named lines) ≤ 16
+pub devices_within : (lines : List FileLine) → AreInOrder lines → length (devices_named lines) ≤ MOST_DEVICES
 devices_within [] order = omega arith
 devices_within (HeadingLine h ∷ lines) order = devices_within lines order.0
 devices_within (EventLine e ∷ lines) order = (within_limits (names_in (e ∷ events lines)) (length (e ∷ events lines)) (length (devices_named (EventLine e ∷ lines))) (not_refused lines e order.1).limit).2
@@ -55,15 +56,15 @@ not_true false is = refl
 
 -- ---- how many streams
 
-heading_streams : (s : Option Heading) (ts : List ℕ) (h : Heading) → is_in_order s ts h ≡ true → length ts ≤ 64 → length (ts ++ heading_threads h) ≤ 64
-heading_streams s ts heading.Setup is few = subst (λ xs. length xs ≤ 64) (sym (append-nil ts)) few
-heading_streams s ts heading.Teardown is few = subst (λ xs. length xs ≤ 64) (sym (append-nil ts)) few
+heading_streams : (s : Option Heading) (ts : List ℕ) (h : Heading) → is_in_order s ts h ≡ true → length ts ≤ MOST_STREAMS → length (ts ++ heading_threads h) ≤ MOST_STREAMS
+heading_streams s ts heading.Setup is few = subst (λ xs. length xs ≤ MOST_STREAMS) (sym (append-nil ts)) few
+heading_streams s ts heading.Teardown is few = subst (λ xs. length xs ≤ MOST_STREAMS) (sym (append-nil ts)) few
 heading_streams s ts (heading.Stream t) is few =
     let n : length (ts ++ t ∷ []) ≡ length ts + 1 = length-append ts (t ∷ []) in
-    let less : length ts < 64 = ltb-true (length ts) 64 (left_true _ _ (right_true (follows s (heading.Stream t)) (is_new_stream ts t) is)) in
+    let less : length ts < MOST_STREAMS = ltb-true (length ts) MOST_STREAMS (left_true _ _ (right_true (follows s (heading.Stream t)) (is_new_stream ts t) is)) in
     omega (arith, n, less)
 
-pub streams_within : (lines : List FileLine) → AreInOrder lines → length (stream_threads lines) ≤ 64
+pub streams_within : (lines : List FileLine) → AreInOrder lines → length (stream_threads lines) ≤ MOST_STREAMS
 streams_within [] order = omega arith
 streams_within (HeadingLine h ∷ lines) order = heading_streams (section lines) (stream_threads lines) h (heading_in_order lines h order.1).0 (streams_within lines order.0)
 streams_within (EventLine e ∷ lines) order = streams_within lines order.0

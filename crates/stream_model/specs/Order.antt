@@ -76,7 +76,7 @@ follows (Some (heading.Stream before)) (heading.Stream thread) = true
 follows (Some (heading.Stream before)) heading.Teardown = true
 follows _ _ = false
 
--- there are at most 64 streams, and a thread has one
+-- there are no more streams than a file may have, and a thread has one
 abbrev pub is_new_stream : List ℕ → ℕ → Bool
 is_new_stream threads thread = nat_lt (length threads) MOST_STREAMS && not (list_any (λ t. t == thread) threads)
 

@@ -16,6 +16,7 @@ use Rattle.chain_model.specs.Gaps.{may_all_come, may_come}
 use Rattle.chain_model.proofs.Eventing.{all_append}
 use Rattle.stream_model.specs.declared.heading.Heading.{Heading}
 use Rattle.stream_model.specs.declared.heading.Heading.TheVariants as heading
+use Rattle.stream_model.specs.declared.limits.TheConstants.{MOST_DEVICES}
 use Rattle.stream_model.specs.FileLines.{FileLine, HeadingLine, EventLine}
 use Rattle.stream_model.specs.FileParts.{AreInOrder, FileParts, StreamPart, closed_parts, open_events, parts, with_section}
 use Rattle.stream_model.specs.Order.{device_named, events, heading_thread, section, stream, stream_refusal, with_device}
@@ -160,5 +161,5 @@ all_on_these lines order grammar =
     let all = settled lines order grammar in
     each_stream (IsOnOne f (devices_cut (parts lines))) (parts lines).streams (on_each f (in_streams (parts lines).streams) [] (on_lines f lines order all.come all.agrees))
 
-pub few_devices : (lines : List FileLine) → AreInOrder lines → AllByRecursion IsEvent (events lines) → length (devices_cut (parts lines)) ≤ 16
-few_devices lines order grammar = subst (λ devices. length devices ≤ 16) (sym (devices_first lines order grammar)) (devices_within lines order)
+pub few_devices : (lines : List FileLine) → AreInOrder lines → AllByRecursion IsEvent (events lines) → length (devices_cut (parts lines)) ≤ MOST_DEVICES
+few_devices lines order grammar = subst (λ devices. length devices ≤ MOST_DEVICES) (sym (devices_first lines order grammar)) (devices_within lines order)

@@ -13,5 +13,4 @@ mod plans;
 mod table;
 
 pub use laws::{each_call_is_on_a_planned_device, each_device_is_planned};
-pub use placing::place_calls;
-pub use plans::cut_plans;
+pub use plans::{Planned, plan_calls};

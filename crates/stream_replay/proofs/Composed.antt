@@ -4,7 +4,8 @@ use Rattle.std.specs.List.{AllByRecursion, flat_map}
 use Rattle.std.proofs.lemmas.List.{length-append, length-reverse}
 use Rattle.command_tables.specs.Calls.{DriverCallContent, ReplyContent}
 use Rattle.trace_format.specs.Content.{TraceEvent}
-use Rattle.model_driver.specs.Logs.{Log, logged}
+use Rattle.model_driver.specs.Logs.{Log, Untold, Replies, Calls, logged, replies_in}
+use Rattle.model_driver.proofs.Telling.{logged_twice}
 use Rattle.model_driver.specs.Seats.{IsEmptyLog}
 use Rattle.replay_model.specs.Direct.{exchanges}
 use Rattle.replay_model.specs.Judged.{judged}
@@ -28,17 +29,16 @@ use Rattle.stream_replay.proofs.Sections.{turned_sections}
 
 -- ---- what seats tell
 
-tells_new : (new : Log) (l more told : List (DriverCallContent × ReplyContent)) → l ≡ [] → more ≡ told → TellsJust told (Some (l ++ more))
-tells_new new l more told empty same = ap (λ xs. xs ++ more) empty ∙ same
+tells_new : {X : Type 0} (l more told : List X) → l ≡ [] → more ≡ told → l ++ more ≡ told
+tells_new l more told empty same = ap (λ xs. xs ++ more) empty ∙ same
 
 tells_one : (old new : Log) (more told : List (DriverCallContent × ReplyContent)) → IsEmptyLog old → new ≡ logged old more → more ≡ told → TellsJust told new
-tells_one None new more told empty is same = subst (TellsJust told) (sym is) tt
-tells_one (Some l) new more told empty is same = subst (TellsJust told) (sym is) (tells_new new l more told empty same)
+tells_one Untold new more told empty is same = subst (TellsJust told) (sym is) tt
+tells_one (Replies l) new more told empty is same = subst (TellsJust told) (sym is) (tells_new l (replies_in more) (replies_in told) empty (ap replies_in same))
+tells_one (Calls l) new more told empty is same = subst (TellsJust told) (sym is) (tells_new l more told empty same)
 
 tells_two : (old mid new : Log) (first last : List (DriverCallContent × ReplyContent)) → IsEmptyLog old → mid ≡ logged old first → new ≡ logged mid last → TellsJust (first ++ last) new
-tells_two None mid new first last empty one two = subst (TellsJust (first ++ last)) (sym (two ∙ ap (λ m. logged m last) one)) tt
-tells_two (Some l) mid new first last empty one two =
-    subst (TellsJust (first ++ last)) (sym (two ∙ ap (λ m. logged m last) one)) (ap (λ xs. (xs ++ first) ++ last) empty)
+tells_two old mid new first last empty one two = tells_one old new (first ++ last) (first ++ last) empty (two ∙ (ap (λ m. logged m last) one ∙ logged_twice old first last)) refl
 
 module _ {S : Type 0} (log : S → Log) (s : Setup) (file : FileParts) (merge : List TraceEvent) (r : SectionReplies) where
   abbrev told_of : StreamPart → List (DriverCallContent × ReplyContent)

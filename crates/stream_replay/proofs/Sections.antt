@@ -1,5 +1,5 @@
 -- The sections of a whole file, one after the other.
-use Rattle.std.proofs.Common.{◌≡◌, ◌∙◌, ◌≤◌, ◌<◌, ◌^◌, ◌+◌, ◌&&◌, ℕ, Bool, true, false, Option, Some, None, is_some, List, [], ◌∷◌, ◌++◌, length, reverse, refl, sym, ap, subst, arith, append_assoc, ◌||◌}
+use Rattle.std.proofs.Common.{◌≡◌, ◌∙◌, ◌≤◌, ◌<◌, ◌^◌, ◌+◌, ◌&&◌, ℕ, Bool, true, false, Option, Some, None, is_some, List, [], ◌∷◌, ◌++◌, length, reverse, refl, sym, ap, subst, arith, lit<, append_assoc, ◌||◌}
 use Rattle.std.specs.List.{AllByRecursion, flat_map, list_any}
 use Rattle.std.specs.Option.{is_none}
 use Rattle.std.proofs.lemmas.List.{length-append, length-reverse, reverse-append, reverse-reverse}
@@ -30,14 +30,17 @@ setup_gapped file es gapped order =
     let turned : es ≡ reverse rest ++ reverse file.setup = sym (reverse-reverse es) ∙ (ap reverse (sym order) ∙ reverse-append file.setup rest) in
     earlier (reverse rest) (reverse file.setup) (subst IsGapped turned gapped)
 
+-- events are counted in a usize, which suffices for as many as a file may have
+events_counted : MOST_EVENTS < 2 ^ 63
+events_counted = lit< tt
+
 pub setup_short : (file : FileParts) (es : List TraceEvent) → length es ≤ MOST_EVENTS → all_events file ≡ reverse es → length file.setup < 2 ^ 63
 setup_short file es few order =
     let rest = flat_map (λ (s : StreamPart). s.events) file.streams ++ file.teardown in
     let all : length (all_events file) ≡ length es = ap length order ∙ length-reverse es in
     let both : length (file.setup ++ rest) ≡ length file.setup + length rest = length-append file.setup rest in
     let same : length (file.setup ++ rest) ≡ length (all_events file) = refl in
-    let most : MOST_EVENTS ≡ 262144 = refl in
-    omega (arith, few, all, both, same, most)
+    omega (arith, few, all, both, same, events_counted)
 
 -- ---- all sections
 
@@ -46,9 +49,7 @@ turned_sections file merge =
     reverse-append file.setup (merge ++ file.teardown) ∙ (ap (λ es. es ++ reverse file.setup) (reverse-append merge file.teardown) ∙ append_assoc (reverse file.teardown) (reverse merge) (reverse file.setup))
 
 pub few_events : (n : ℕ) (m : ℕ) → n ≡ m → m ≤ MOST_EVENTS → n < 2 ^ 63
-few_events n m same few =
-    let most : MOST_EVENTS ≡ 262144 = refl in
-    omega (arith, few, same, most)
+few_events n m same few = omega (arith, few, same, events_counted)
 
 -- ---- no chain is made by a merge
 

@@ -9,6 +9,11 @@ use Rattle.chain_session.specs.declared.kept.Kept.{Kept}
 use Rattle.chain_session.specs.Standing.{StandsFor}
 use Rattle.event_replay.specs.Through.{lines_through}
 
+-- the replies that a driver with written ones has given, and those that are left
+pub record Played : Type 0 where
+  pub given : List ReplyContent
+  pub left : List ReplyContent
+
 -- For each list of events and replies for which the session stood and which these may follow, it stands for those with these and with just these replies,
 -- and their lines were written.
 pub record Follows (s : Setup) (old new : Option Kept) (es : List TraceEvent) (replies : List ReplyContent) (old_lines lines : List ℕ) : Type 0 where

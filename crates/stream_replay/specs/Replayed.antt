@@ -6,7 +6,7 @@ use Rattle.command_tables.specs.Calls.{DriverCallContent, ReplyContent}
 use Rattle.trace_format.specs.declared.event.Name.{Name}
 use Rattle.trace_format.specs.Content.{TraceEvent}
 use Rattle.trace_format.specs.Grammar.{IsEvent}
-use Rattle.model_driver.specs.Logs.{Log}
+use Rattle.model_driver.specs.Logs.{Log, Untold, Replies, Calls, replies_in}
 use Rattle.replay_model.specs.Direct.{exchanges, sends_in}
 use Rattle.replay_model.specs.Judged.{judged}
 use Rattle.replay_model.specs.Setup.{Setup}
@@ -51,10 +51,11 @@ pub record AnswerEach (s : Setup) (file : FileParts) (merge : List TraceEvent) (
   pub setup : length r.setup ≡ sends_in (judged s (reverse file.setup))
   pub before : length (replies_before r) ≡ sends_in (judged s (reverse merge ++ reverse file.setup))
 
--- a log has just these, where it is told
+-- a log tells just these calls, as much as it tells of calls
 abbrev pub TellsJust : List (DriverCallContent × ReplyContent) → Log → Type 0
-TellsJust told None = ⊤
-TellsJust told (Some log) = log ≡ told
+TellsJust told Untold = ⊤
+TellsJust told (Replies replies) = replies ≡ replies_in told
+TellsJust told (Calls calls) = calls ≡ told
 
 -- The log of one seat has the driver calls of setup and those of teardown, each with its reply.
 pub record TellsEnds (s : Setup) (file : FileParts) (merge : List TraceEvent) (r : SectionReplies) (log : Log) : Type 0 where

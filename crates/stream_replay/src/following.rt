@@ -10,14 +10,13 @@ ghost use Rattle.report_text.specs.Setups.{trace_setup};
 ghost use Rattle.event_replay.specs.Through.{CanGoOn, GoesThrough};
 ghost use Rattle.stream_replay.specs.Playing.{Follows};
 
-use crate::played::{PlayedDriver, same_replies};
+use crate::played::PlayedDriver;
 use chain_build::Setup;
 use chain_session::{Session, SessionError};
 use command_tables::NoMemory;
 use dispatch_chain::Kit;
 use event_replay::replay_events;
-use model_driver::{Driver, DriverReply, RecordingDriver};
-use std::alloc::Global;
+use model_driver::{Driver, DriverReply};
 use trace_format::Event;
 
 // Events none of which makes a chain of too many layers.
@@ -45,7 +44,6 @@ pub(crate) fn replay_within<D: Driver>(
 /// Replays events behind those for which the session stands, with written replies, oldest first, in place of a driver, and adds the lines. `NoMemory`
 /// comes also where the replies aren't just those that the calls of these events need. After it the session is for dropping alone.
 pub(crate) fn follow(
-    alloc: Global,
     session: &mut Session,
     events: &[Event],
     replies: &[DriverReply],
@@ -58,9 +56,9 @@ pub(crate) fn follow(
     requires within { list_any (exceeds_layers (trace_setup (setup_content setup.now))) (map content events.now) ≡ false }
     ensures { OnOk result (Follows (trace_setup (setup_content setup.now)) (option_map (λ x. x.value.kept) session.old.started) (option_map (λ x. x.value.kept) session.new.started) (map content events.now) (map reply_shown replies.now) lines.old.items lines.new.items) }
 {
-    let mut driver = RecordingDriver::new(alloc, PlayedDriver::new(replies));
+    let mut driver = PlayedDriver::new(replies);
     replay_within(session, events, setup, kit, &mut driver, lines)?;
-    if !same_replies(driver.log(), replies) {
+    if !driver.has_given(replies) {
         return Err(NoMemory);
     }
     Ok(())

@@ -1,36 +1,44 @@
-// A driver that answers what is written, and whether what a driver answered is what is written.
-ghost use Rattle.std.specs.Prelude.{◌≡◌, ◌↔◌, IsTrue, OnOk, map};
+// A driver that answers what is written.
+ghost use Rattle.std.specs.Prelude.{◌≡◌, ◌↔◌, [], IsTrue, OnOk, map};
 ghost use Rattle.model_driver.specs.Driver.{call_shown, reply_shown, handles_due, are_handles, IsAnsweredBy};
-ghost use Rattle.model_driver.specs.Logs.{exchanges_shown};
 
 use command_tables::{Code, NoMemory};
 use model_driver::{Driver, DriverCall, DriverReply, Policy};
 use std::marker::Model;
 
 /// Answers the replies of a list in order, each where it fits the call, and where none is left or the next one doesn't fit it has no memory.
-/// It tells no log, and to prepare it changes nothing.
+/// It tells the replies that it has given, and to prepare it changes nothing.
 #[derive(Drop)]
 pub(crate) struct PlayedDriver<'a> {
     replies: &'a [DriverReply],
     next: usize,
 }
 
-// The replies that it hasn't given yet.
 impl<'a> Model for PlayedDriver<'a> {
-    ghost use Rattle.std.specs.Prelude.{List, drop, map};
-    ghost use Rattle.command_tables.specs.Calls.{ReplyContent};
+    ghost use Rattle.std.specs.Prelude.{◌≤◌, drop, length, map, take};
     ghost use Rattle.model_driver.specs.Driver.{reply_shown};
+    ghost use Rattle.stream_replay.specs.Playing.{Played};
 
-    ghost Value = { List ReplyContent };
+    ghost Value = { Played };
 
-    ghost view = { λ d. map reply_shown (drop d.next d.replies.now) };
+    ghost view = { λ d. record { given = map reply_shown (take d.next d.replies.now); left = map reply_shown (drop d.next d.replies.now) } };
+
+    ghost invariant = { λ d. d.next ≤ length d.replies.now };
 }
 
 impl<'a> PlayedDriver<'a> {
     pub(crate) fn new(replies: &'a [DriverReply]) -> PlayedDriver<'a>
-        ensures { result ≡ map reply_shown replies.now }
+        ensures given { result.given ≡ [] }
+        ensures left { result.left ≡ map reply_shown replies.now }
     {
         PlayedDriver { replies, next: 0 }
+    }
+
+    /// Whether just these replies were given.
+    pub(crate) fn has_given(&self, replies: &[DriverReply]) -> bool
+        ensures { IsTrue result ↔ self.now.given ≡ map reply_shown replies.now }
+    {
+        same_replies(&self.replies[..self.next], replies)
     }
 }
 
@@ -81,20 +89,42 @@ fn copy_reply(from: &DriverReply, to: &mut DriverReply) -> Result<(), NoMemory>
     Ok(())
 }
 
-impl<'a> Driver for PlayedDriver<'a> {
-    ghost use Rattle.std.specs.Prelude.{◌≡◌, ◌∷◌, None};
+fn same_reply(a: &DriverReply, b: &DriverReply) -> bool
+    ensures { IsTrue result ↔ reply_shown a.now ≡ reply_shown b.now }
+{
+    same_code(a.code, b.code) && a.handles == b.handles
+}
 
-    ghost log = { λ _. None };
+// Whether two lists have the same replies.
+fn same_replies(some: &[DriverReply], others: &[DriverReply]) -> bool
+    ensures { IsTrue result ↔ map reply_shown some.now ≡ map reply_shown others.now }
+{
+    if some.len() != others.len() {
+        return false;
+    }
+    for (k, reply) in some.iter().enumerate() {
+        if !same_reply(reply, &others[k]) {
+            return false;
+        }
+    }
+    true
+}
+
+impl<'a> Driver for PlayedDriver<'a> {
+    ghost use Rattle.std.specs.Prelude.{◌≡◌, ◌∷◌, [], ◌++◌, None};
+    ghost use Rattle.model_driver.specs.Logs.{Replies};
+
+    ghost log = { λ d. Replies d.given };
 
     ghost answers_by = { λ _. None };
 
     ghost prepare_gives = { λ before _ behind. behind ≡ before };
 
-    ghost call_gives = { λ before _ reply behind. before ≡ reply ∷ behind };
+    ghost call_gives = { λ before _ reply behind. (behind.given ≡ before.given ++ reply ∷ []) × (before.left ≡ reply ∷ behind.left) };
 
     fn prepare(&mut self, _policy: Policy) {}
 
-    #[tactic(auto, using(crate::proofs::PlayingLists::next_left))]
+    #[tactic(auto, using(crate::proofs::PlayingLists::next_left, crate::proofs::PlayingLists::next_given))]
     fn call(&mut self, call: &DriverCall, reply: &mut DriverReply) -> Result<(), NoMemory> {
         let Some(written) = self.replies.get(self.next) else {
             return Err(NoMemory);
@@ -106,25 +136,4 @@ impl<'a> Driver for PlayedDriver<'a> {
         self.next += 1;
         Ok(())
     }
-}
-
-fn same_reply(a: &DriverReply, b: &DriverReply) -> bool
-    ensures { IsTrue result ↔ reply_shown a.now ≡ reply_shown b.now }
-{
-    same_code(a.code, b.code) && a.handles == b.handles
-}
-
-/// Whether these are the replies of these calls.
-pub(crate) fn same_replies(told: &[(DriverCall, DriverReply)], replies: &[DriverReply]) -> bool
-    ensures { IsTrue result ↔ map reply_shown replies.now ≡ map (λ x. x.1) (exchanges_shown told.now) }
-{
-    if told.len() != replies.len() {
-        return false;
-    }
-    for (k, exchange) in told.iter().enumerate() {
-        if !same_reply(&replies[k], &exchange.1) {
-            return false;
-        }
-    }
-    true
 }

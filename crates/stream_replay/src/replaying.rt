@@ -91,7 +91,6 @@ pub fn replay_streams<H: Threads + Wait + Sync, D: SharedDriver, G: Gate>(
     let seats = make_seats(alloc, file, policy, driver)?;
     let (merged, told) = run_streams(rt, alloc, file, &session, driver, gate, seats)?;
     follow(
-        alloc,
         &mut session,
         &merged.events,
         &merged.replies,

@@ -7,6 +7,7 @@ use Rattle.atomic_table.specs.Seated.{TableId}
 use Rattle.model_driver.specs.Logs.{Log}
 use Rattle.model_driver.specs.Seats.{SeatRoom}
 use Rattle.chain_session.specs.declared.kept.Kept.{Kept}
+use Rattle.stream_model.specs.declared.limits.TheConstants.{MOST_DEVICES}
 use Rattle.stream_model.specs.FileParts.{FileParts, StreamPart}
 use Rattle.stream_model.specs.Plans.{DevicePlan, device_written}
 use Rattle.merge_model.specs.Planned.{PlannedCall, calls_planned}
@@ -70,8 +71,8 @@ ready_each {S} room names clock plans others calls old was same before ready =
 
 -- ---- what can run, by lists that are the same
 
-pub few_at : (k : Option Kept) (file : FileParts) (p : Prepared) (names : List ShardName) (plans : List Plan) → CanRun k file p names → plans ≡ p.plans.items → length plans ≤ 16
-few_at k file p names plans can same = subst (λ (ps : List Plan). length ps ≤ 16) (sym same) can.few
+pub few_at : (k : Option Kept) (file : FileParts) (p : Prepared) (names : List ShardName) (plans : List Plan) → CanRun k file p names → plans ≡ p.plans.items → length plans ≤ MOST_DEVICES
+few_at k file p names plans can same = subst (λ (ps : List Plan). length ps ≤ MOST_DEVICES) (sym same) can.few
 
 pub cut_at : (k : Option Kept) (file : FileParts) (p : Prepared) (names : List ShardName) (plans : List Plan) → CanRun k file p names → plans ≡ p.plans.items → AreCutFrom k (map plan_content plans)
 cut_at k file p names plans can same = subst (λ (ps : List Plan). AreCutFrom k (map plan_content ps)) (sym same) can.cut

@@ -17,6 +17,7 @@ use Rattle.chain_model.specs.Traces.{GivesGuarded}
 use Rattle.chain_session.specs.declared.kept.Kept.{Kept}
 use Rattle.chain_session.specs.Splitting.{kinds_in_force}
 use Rattle.chain_session.specs.Standing.{StandsFor}
+use Rattle.stream_model.specs.declared.limits.TheConstants.{MOST_DEVICES}
 use Rattle.stream_model.specs.FileLines.{FileLine}
 use Rattle.stream_model.specs.FileParts.{AreInOrder, FileParts, StreamPart, parts}
 use Rattle.stream_model.specs.Order.{devices_named, events, refusal_at_end, stream_threads}
@@ -55,7 +56,7 @@ abbrev pub DevicesDiffer : Type 0
 DevicesDiffer = (lines : List FileLine) → AreInOrder lines → AllByRecursion IsEvent (events lines) → IsDistinct same_name (devices_cut (parts lines))
 
 abbrev pub FewDevices : Type 0
-FewDevices = (lines : List FileLine) → AreInOrder lines → AllByRecursion IsEvent (events lines) → length (devices_cut (parts lines)) ≤ 16
+FewDevices = (lines : List FileLine) → AreInOrder lines → AllByRecursion IsEvent (events lines) → length (devices_cut (parts lines)) ≤ MOST_DEVICES
 
 abbrev pub HavePlans : Type 0
 HavePlans =
@@ -173,7 +174,7 @@ module _ (differ : ThreadsDiffer) (on : OnThese) (apart : DevicesDiffer) (few : 
       let devices = devices_cut file in
       let plans = map plan_content p.plans.items in
       let are : plans ≡ map (plan_cut file) devices = plans_are file plans devices made.cut made.devices in
-      let least : length devices ≤ 16 = few lines order grammar in
+      let least : length devices ≤ MOST_DEVICES = few lines order grammar in
       let count = ap (λ (ds : List Name). length ds) made.devices in
       record {
         few = omega (arith, least, count, length-map plans (λ (q : DevicePlan). q.device), length-map p.plans.items plan_content);

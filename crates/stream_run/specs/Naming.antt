@@ -3,6 +3,7 @@ use Rattle.std.specs.Prelude.{◌≡◌, ◌≤◌, Option, Some, None, List, []
 use Rattle.std.specs.List.{AllByRecursion}
 use Rattle.atomic_table.specs.Seated.{TableId}
 use Rattle.object_model.specs.declared.PartKind.{PartKind}
+use Rattle.stream_model.specs.declared.limits.TheConstants.{MOST_DEVICES}
 use Rattle.stream_model.specs.FileParts.{FileParts}
 use Rattle.stream_model.specs.Plans.{DevicePlan}
 use Rattle.chain_session.specs.declared.kept.Kept.{Kept}
@@ -30,7 +31,7 @@ names_of (Some k) plans logs = names_from k plans logs
 
 -- What the shards of a file with these names, and its workers, are made from.
 pub record CanRun (k : Option Kept) (file : FileParts) (p : Prepared) (names : List ShardName) : Type 0 where
-  pub few : length p.plans.items ≤ 16
+  pub few : length p.plans.items ≤ MOST_DEVICES
   pub cut : AreCutFrom k (map plan_content p.plans.items)
   pub logs : AreLogs names p.logs.items
   pub named : AreNamedBy k (map plan_content p.plans.items) names

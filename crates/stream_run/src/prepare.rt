@@ -10,7 +10,7 @@ use device_shard::Plan;
 use std::alloc::{AllocError, Global};
 use stream_crew::make_logs;
 use stream_log::{DeviceLog, Owner, StepClock, Tick};
-use stream_plans::{cut_plans, place_calls};
+use stream_plans::{Planned, plan_calls};
 use threaded_replay::StreamFile;
 use trace_format::Event;
 
@@ -70,8 +70,7 @@ pub(crate) fn prepare(alloc: Global, file: &StreamFile) -> Result<Prepared, NoMe
     requires { IsDistinct nat_eq (map (λ s. s.thread) (file_parts file.now).streams) }
     ensures { IfOk result (λ p. IsPrepared (file_parts file.now) p) }
 {
-    let plans = cut_plans(alloc, file)?;
-    let places = place_calls(alloc, file, &plans)?;
+    let Planned { plans, places } = plan_calls(alloc, file)?;
     let threads = threads_in(alloc, &file.streams)?;
     let logs = make_logs(alloc, &plans, &threads)?;
     let steps = count_steps(&places)?;

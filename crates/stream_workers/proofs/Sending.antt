@@ -13,6 +13,7 @@ use Rattle.model_driver.specs.declared.driver.DriverCall.{DriverCall}
 use Rattle.model_driver.specs.declared.driver.DriverReply.{DriverReply}
 use Rattle.model_driver.specs.Driver.{IsAnsweredBy, call_shown, handles_due, reply_shown}
 use Rattle.model_driver.specs.Logs.{Log, logged}
+use Rattle.model_driver.proofs.Telling.{logged_nothing}
 use Rattle.model_driver.specs.Seats.{FitsIn, SeatRoom, joined_room, room_for}
 use Rattle.session_model.specs.Stands.{AreRepliesTo}
 use Rattle.shard_room.specs.Needs.{names_at, names_in}
@@ -86,10 +87,6 @@ more_reply : (call : DriverCall) (old new : DriverReply) (calls : List PlannedCa
 more_reply call old new [] more fit = tt
 more_reply call old new (c ∷ calls) more fit = let enough = fit.0.1 in ((fit.0.0, omega (arith, enough, more)), more_reply call old new calls more fit.1)
 
-pub log_same : (log : Log) → log ≡ logged log []
-log_same None = refl
-log_same (Some calls) = ap (λ (l : List (DriverCallContent × ReplyContent)). Some l) (sym (append-nil calls))
-
 -- whether the last mark is of a call that isn't skipped
 pub goes_on : (u : Bool) → not u ≡ true → u ≡ false
 goes_on true marks = cc marks
@@ -142,7 +139,7 @@ module _ {S : Type 0} (room : S → SeatRoom) (log : S → Log) (c : Course) (b 
   is_not_sent stops =
       record {
         same = refl;
-        told = log_same (log old.seat) ∙ ap (logged (log old.seat)) (sym (ap (λ (cs : List DriverCallContent). zip cs (replies_read b.skip (reply_shown old.reply))) (open_.opened.begun.silent stops)));
+        told = logged_nothing (log old.seat) ∙ ap (logged (log old.seat)) (sym (ap (λ (cs : List DriverCallContent). zip cs (replies_read b.skip (reply_shown old.reply))) (open_.opened.begun.silent stops)));
         to_return = record {
           opened = open_.opened;
           replied = λ goes. absurd (both goes stops);

@@ -12,6 +12,7 @@ use Rattle.stream_log.specs.declared.line.Line.{Line}
 use Rattle.stream_log.specs.Log.{SeenView}
 use Rattle.model_driver.specs.Driver.{reply_shown}
 use Rattle.model_driver.specs.Logs.{Log, logged}
+use Rattle.model_driver.proofs.Telling.{logged_nothing, logged_twice}
 use Rattle.model_driver.specs.Seats.{SeatRoom}
 use Rattle.device_shard.specs.Lanes.{replies_read}
 use Rattle.device_shard.proofs.Lists.{drop_here, one}
@@ -22,7 +23,6 @@ use Rattle.stream_workers.specs.Held.{GoesOn, HaveGained, HaveGrown, StandsAt, l
 use Rattle.stream_workers.specs.Opens.{HasBegun, HasReturned, HasSent}
 use Rattle.stream_workers.specs.Work.{Course, HasDone, HasMadeCalls, IsReady, IsReadyFor}
 use Rattle.stream_workers.proofs.Holding.{goes_same, goes_through, there}
-use Rattle.stream_workers.proofs.Sending.{log_same}
 
 -- ---- lists
 
@@ -63,10 +63,6 @@ entries_push k calls m =
     go true = refl
     go false = refl
 
-logged_more : (log : Log) (xs ys : List (DriverCallContent × ReplyContent)) → logged (logged log xs) ys ≡ logged log (xs ++ ys)
-logged_more None xs ys = refl
-logged_more (Some calls) xs ys = ap (λ (l : List (DriverCallContent × ReplyContent)). Some l) (append_assoc calls xs ys)
-
 exchanges_push : (calls : List MadeCall) (m : MadeCall) → flat_map exchange_made (calls ++ m ∷ []) ≡ flat_map exchange_made calls ++ exchange_made m
 exchanges_push calls m = flat_map-append exchange_made calls (m ∷ []) ∙ ap (λ (xs : List (DriverCallContent × ReplyContent)). flat_map exchange_made calls ++ xs) (append-nil (exchange_made m))
 
@@ -104,7 +100,7 @@ none_yet room log c planned w is =
         gained = λ k. sym (append-nil (lines_of_thread w.thread (list_at w.tokens.items k)));
         grown = λ k. goes_same (list_at w.tokens.items k) (list_at w.tokens.items k) refl;
         stand = tt;
-        told = log_same (log w.seat);
+        told = logged_nothing (log w.seat);
         sent = sym (append-nil w.sent.items);
       };
       ready = is.ready;
@@ -181,7 +177,7 @@ module _ {S : Type 0} (room : S → SeatRoom) (log : S → Log) (c : Course) (pl
       ap log returned.stepped.seat
       ∙ (sent.told
       ∙ (ap (λ (l : Log). logged l (zip begun.call.told (replies_read begun.call.skip (reply_shown y.reply)))) (ap log begun.stepped.seat ∙ so_far.done.told)
-      ∙ (logged_more (log old.seat) (flat_map exchange_made so_far.calls) (zip begun.call.told (replies_read begun.call.skip (reply_shown y.reply)))
+      ∙ (logged_twice (log old.seat) (flat_map exchange_made so_far.calls) (zip begun.call.told (replies_read begun.call.skip (reply_shown y.reply)))
       ∙ ap (logged (log old.seat)) (ap (λ (xs : List (DriverCallContent × ReplyContent)). flat_map exchange_made so_far.calls ++ xs) exchanged ∙ sym (exchanges_push so_far.calls returned.call)))))
 
   marks : z.sent.items ≡ old.sent.items ++ map (λ (m : MadeCall). not m.begun.skip) (so_far.calls ++ returned.call ∷ [])

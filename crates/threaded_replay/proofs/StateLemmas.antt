@@ -1,15 +1,17 @@
 -- The state of a stream file takes one line after another.
-use Rattle.std.proofs.Common.{◌≡◌, ◌∙◌, ◌+◌, ◌≤◌, ◌<◌, ℕ, Bool, true, false, cond, Option, Some, None, List, ◌∷◌, length, sym, ap, subst, arith, eqb-true}
+use Rattle.std.proofs.Common.{◌≡◌, ◌∙◌, ◌+◌, ◌≤◌, ◌<◌, ℕ, Bool, true, false, cond, Option, Some, None, List, ◌∷◌, length, sym, ap, subst, arith, eqb-true, lit≤}
 use Rattle.std.specs.Prelude.{Result, Ok, Err, option_map}
 use Rattle.std.proofs.lemmas.Bool.{leb-true, ltb-true}
 use Rattle.command_tables.specs.declared.types.Effect.{Effect}
 use Rattle.command_tables.specs.declared.types.Effect.TheVariants as eff
 use Rattle.command_tables.specs.Table.{row_of}
 use Rattle.trace_format.specs.declared.fault.TraceFault.{TraceFault}
+use Rattle.trace_format.specs.declared.limits.TheConstants.{MAX_NAMES, MAX_PLACES}
 use Rattle.trace_format.specs.Accepting.{exceeds_names, fault_after, names_in}
 use Rattle.trace_format.specs.Content.{TraceEvent, Begin, Return}
 use Rattle.trace_format.specs.Grammar.{IsEvent, takes}
 use Rattle.trace_format.specs.State.{SumsUp}
+use Rattle.stream_model.specs.declared.limits.TheConstants.{MOST_NAMES}
 use Rattle.stream_model.specs.declared.refusal.Refusal.{Refusal}
 use Rattle.stream_model.specs.declared.refusal.Refusal.TheVariants as refusal
 use Rattle.stream_model.specs.FileLines.{EventLine}
@@ -22,26 +24,33 @@ use Rattle.threaded_replay.specs.Taking.{SectionsTake, StateTakes, TraceTakes, s
 
 -- ---- names
 
--- no call has more than 1,024 results
-few_taken : (e : Effect) (n : ℕ) → takes e n ≡ true → n ≤ 1024
-few_taken (eff.Create t owner false) n is = omega (arith, eqb-true n 1 is)
-few_taken (eff.Create t owner true) n is = leb-true n 1024 is
-few_taken (eff.Retrieve t owner false) n is = omega (arith, eqb-true n 1 is)
-few_taken (eff.Retrieve t owner true) n is = leb-true n 1024 is
+-- the only proofs here that need the limits' values: what one place needs, and what keeps a stream file's names, with those of a call more, within a trace's
+one_place : 1 ≤ MAX_PLACES
+one_place = lit≤ tt
+
+names_suffice : MOST_NAMES + MAX_PLACES ≤ MAX_NAMES
+names_suffice = lit≤ tt
+
+-- no call has more results than a list may have places
+few_taken : (e : Effect) (n : ℕ) → takes e n ≡ true → n ≤ MAX_PLACES
+few_taken (eff.Create t owner false) n is = omega (arith, eqb-true n 1 is, one_place)
+few_taken (eff.Create t owner true) n is = leb-true n MAX_PLACES is
+few_taken (eff.Retrieve t owner false) n is = omega (arith, eqb-true n 1 is, one_place)
+few_taken (eff.Retrieve t owner true) n is = leb-true n MAX_PLACES is
 few_taken eff.None n is = omega (arith, eqb-true n 0 is)
 few_taken (eff.Destroy p) n is = omega (arith, eqb-true n 0 is)
 few_taken (eff.Free p) n is = omega (arith, eqb-true n 0 is)
 few_taken (eff.Reset p) n is = omega (arith, eqb-true n 0 is)
 
 -- so the names of a stream file never come to the limit of a trace
-pub never_exceeds : (before : List TraceEvent) (e : TraceEvent) → IsEvent e → names_in before ≤ 262144 → exceeds_names before e ≡ true → ⊥
+pub never_exceeds : (before : List TraceEvent) (e : TraceEvent) → IsEvent e → names_in before ≤ MOST_NAMES → exceeds_names before e ≡ true → ⊥
 never_exceeds before (Begin b) event few is =
-    let more : 4194304 < names_in before + length b.results = ltb-true 4194304 (names_in before + length b.results) is in
-    let results : length b.results ≤ 1024 = few_taken (row_of b.cmd).effect (length b.results) event.results in
-    omega (arith, more, results, few)
+    let more : MAX_NAMES < names_in before + length b.results = ltb-true MAX_NAMES (names_in before + length b.results) is in
+    let results : length b.results ≤ MAX_PLACES = few_taken (row_of b.cmd).effect (length b.results) event.results in
+    omega (arith, more, results, few, names_suffice)
 never_exceeds before (Return thread) event few is =
-    let more : 4194304 < names_in before = ltb-true 4194304 (names_in before) is in
-    omega (arith, more, few)
+    let more : MAX_NAMES < names_in before = ltb-true MAX_NAMES (names_in before) is in
+    omega (arith, more, few, names_suffice)
 
 -- ---- an event, by whether it is of the section, its fault, and what else it is refused for
 

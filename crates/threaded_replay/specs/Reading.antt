@@ -34,7 +34,8 @@ pub record ReadsFile (source : Change) (file : FileParts) : Type 0 where
   pub made : file ≡ parts lines
   pub stood : Stood source
 
--- A line of the source's bytes is refused, and the error says where and why. No more was read than the lines up to it and 65,537 bytes behind them.
+-- A line of the source's bytes is refused, and the error says where and why. No more was read than the lines up to it and `MOST_LINE_BYTES` + 1
+-- bytes behind them.
 pub record IsRefused (source : Change) (e : StreamError) : Type 0 where
   pub bytes : List ℕ
   pub place : Refused

@@ -1,6 +1,7 @@
 //! What is kept of a file's lines beside the state of its trace: the section, the streams, where names come from, and how much there is.
 ghost use Rattle.std.specs.Prelude.{◌≤◌, length};
 ghost use Rattle.stream_model.specs.declared.limits.TheConstants.{MOST_DEVICES as DEVICES, MOST_EVENTS as EVENTS, MOST_NAMES as NAMES};
+ghost use Rattle.trace_format.specs.declared.limits.TheConstants.{MAX_PLACES as PLACES};
 
 use crate::device_list::{add_device, count_with};
 use crate::devices::{makes_devices, owner_written};
@@ -110,7 +111,7 @@ impl Sections {
 
     // Which limit a call with so many results, on this device, would pass.
     fn limit_passed(&self, results: usize, device: Option<Name>) -> Option<Refusal>
-        requires { results ≤ 1024 }
+        requires { results ≤ PLACES }
         ensures { result ≡ limit_passed (self.now.names + results) (self.now.events + 1) (length (with_device device self.now.devices.items)) }
     {
         if self.names + results > MOST_NAMES {
@@ -154,7 +155,7 @@ impl Sections {
         args: &[TraceArg],
         results: &[Name],
     ) -> Result<(), NotTaken>
-        requires { length results.now ≤ 1024 }
+        requires { length results.now ≤ PLACES }
         ensures { SectionsTake self.old self.new (Begin (call_of cmd (map arg_content args.now) results.now)) result }
     {
         if let Some(refusal) = self.call_refusal(cmd, args) {

@@ -42,7 +42,7 @@ impl StreamFile {
     /// Reads a stream file, a line at a time, up to the first line that is refused. The first line is `vkstreams 1`; then come `setup`, the
     /// events of any threads, for each stream `stream` and its thread with the events of that thread, `teardown`, and events of any threads.
     /// Lines count from 1, and what is missing at the end is refused one line behind the last. `Read` comes only where the source failed.
-    /// Where a line is refused, the source may have given up to 65,537 bytes behind it.
+    /// Where a line is refused, the source may have given up to `MOST_LINE_BYTES` + 1 bytes behind it.
     pub fn read<S: Source>(alloc: Global, source: &mut S) -> Result<StreamFile, StreamError>
         ensures file { let change = changed (S.left source.old) (S.left source.new) (S.faults source.old) (S.faults source.new) in
             IfOk result (λ file. ReadsFile change (file_parts file)) }

@@ -20,7 +20,7 @@ fn value(word: &[u8]) -> Option<u32>
     Some(value)
 }
 
-/// A thread: a decimal number from 1 to 1,024, without leading zeros.
+/// A thread: a decimal number from 1 to `MAX_THREADS`, without leading zeros.
 #[tactic(auto, unfolding(trace_format::specs::Words::number_up_to))]
 pub fn thread(word: &[u8]) -> Option<u32>
     ensures { result ≡ thread_of word.now }

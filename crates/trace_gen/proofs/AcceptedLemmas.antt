@@ -8,6 +8,7 @@ use Rattle.std.specs.List.{flat_map, remove}
 use Rattle.command_tables.specs.declared.types.ObjectType.TheVariants as ty
 use Rattle.command_tables.specs.Table.{row_of}
 use Rattle.command_tables.specs.Tests.{same_code, same_command, same_type}
+use Rattle.trace_format.specs.declared.limits.TheConstants.{MAX_NAMES}
 use Rattle.trace_format.specs.Accepting.{breaks_in, exceeds_names, header, fault_after, fault_at_end, names_given, names_in, open_threads, type_given}
 use Rattle.trace_format.specs.Content.{TraceEvent, Return}
 use Rattle.trace_format.specs.Grammar.{IsEvent, IsName, spelling}
@@ -16,9 +17,11 @@ use Rattle.replay_base.specs.Lines.{HasNoFeed, line_text, lines_of}
 use Rattle.replay_base.proofs.LineLemmas.{line_before}
 use Rattle.trace_gen.specs.declared.call.Call.{Call}
 use Rattle.trace_gen.specs.declared.call.Call.TheVariants as call
+use Rattle.trace_gen.specs.declared.turns.TheConstants.{MOST_CALLS}
 use Rattle.trace_gen.specs.Text.{begin_of, calls_text, event_line, events_of, generated, generated_events, name}
 use Rattle.trace_gen.specs.Turns.{Between, Turn, calls_of, started, asks, creates, destroys, drawn, ending, following, turn, turn_by, turns}
 use Rattle.trace_gen.specs.Accepted.{Follow, IsFaultless}
+use Rattle.trace_gen.proofs.Bounds.{first_thread, names_suffice}
 
 -- between two calls, of which the next creation gives the name next: no call is open, the names below it were given, name 1 is an instance's, 3 a device's,
 -- and those behind are buffers'
@@ -133,22 +136,22 @@ creates_past before next past low = record {
 
 -- ---- numbers of names
 
-name_fits : (k : ℕ) → 1 ≤ k → k ≤ 1000004 → IsName (name k)
-name_fits k low high = ((omega arith, omega arith), (low, omega arith))
+name_fits : (k : ℕ) → 1 ≤ k → k ≤ MOST_CALLS + 4 → IsName (name k)
+name_fits k low high = (first_thread, (low, omega (arith, names_suffice)))
 
 -- a call without names passes no limit
-few_names : (before : List TraceEvent) (next : ℕ) → Past before next → next ≤ 1000004 → ltb 4194304 (names_in before + 0) ≡ false
-few_names before next past few = le-ltb 4194304 (names_in before + 0) (omega (arith, past.names))
+few_names : (before : List TraceEvent) (next : ℕ) → Past before next → next ≤ MOST_CALLS + 4 → ltb MAX_NAMES (names_in before + 0) ≡ false
+few_names before next past few = le-ltb MAX_NAMES (names_in before + 0) (omega (arith, past.names, names_suffice))
 
-few_more_names : (before : List TraceEvent) (next : ℕ) → Past before next → next + 1 ≤ 1000004 → ltb 4194304 (names_in before + 1) ≡ false
-few_more_names before next past few = le-ltb 4194304 (names_in before + 1) (omega (arith, past.names))
+few_more_names : (before : List TraceEvent) (next : ℕ) → Past before next → next + 1 ≤ MOST_CALLS + 4 → ltb MAX_NAMES (names_in before + 1) ≡ false
+few_more_names before next past few = le-ltb MAX_NAMES (names_in before + 1) (omega (arith, past.names, names_suffice))
 
 -- ---- events of the grammar
 
-begins_buffer : (k : ℕ) → 1 ≤ k → k ≤ 1000004 → IsEvent (begin_of (call.CreateBuffer k))
+begins_buffer : (k : ℕ) → 1 ≤ k → k ≤ MOST_CALLS + 4 → IsEvent (begin_of (call.CreateBuffer k))
 unfolding row_of
 begins_buffer k low high = record {
-  thread = (omega arith, omega arith);
+  thread = first_thread;
   args = ((refl, refl, (name_fits 3 (omega arith) (omega arith), tt)), tt);
   first = (refl, tt);
   results = refl;
@@ -157,10 +160,10 @@ begins_buffer k low high = record {
   payload = tt;
 }
 
-begins_asking : (k : ℕ) → 1 ≤ k → k ≤ 1000004 → IsEvent (begin_of (call.GetBufferMemoryRequirements k))
+begins_asking : (k : ℕ) → 1 ≤ k → k ≤ MOST_CALLS + 4 → IsEvent (begin_of (call.GetBufferMemoryRequirements k))
 unfolding row_of
 begins_asking k low high = record {
-  thread = (omega arith, omega arith);
+  thread = first_thread;
   args = ((refl, refl, (name_fits 3 (omega arith) (omega arith), tt)), ((refl, refl, (name_fits k low high, tt)), tt));
   first = (refl, tt);
   results = refl;
@@ -169,10 +172,10 @@ begins_asking k low high = record {
   payload = tt;
 }
 
-begins_end : (k : ℕ) → 1 ≤ k → k ≤ 1000004 → IsEvent (begin_of (call.DestroyBuffer k))
+begins_end : (k : ℕ) → 1 ≤ k → k ≤ MOST_CALLS + 4 → IsEvent (begin_of (call.DestroyBuffer k))
 unfolding row_of
 begins_end k low high = record {
-  thread = (omega arith, omega arith);
+  thread = first_thread;
   args = ((refl, refl, (name_fits 3 (omega arith) (omega arith), tt)), ((refl, refl, (name_fits k low high, tt)), tt));
   first = (refl, tt);
   results = refl;
@@ -184,7 +187,7 @@ begins_end k low high = record {
 begins_device_end : IsEvent (begin_of call.DestroyDevice)
 unfolding row_of
 begins_device_end = record {
-  thread = (omega arith, omega arith);
+  thread = first_thread;
   args = ((refl, refl, (name_fits 3 (omega arith) (omega arith), tt)), tt);
   first = (refl, tt);
   results = refl;
@@ -196,7 +199,7 @@ begins_device_end = record {
 begins_instance_end : IsEvent (begin_of call.DestroyInstance)
 unfolding row_of
 begins_instance_end = record {
-  thread = (omega arith, omega arith);
+  thread = first_thread;
   args = ((refl, refl, (name_fits 1 (omega arith) (omega arith), tt)), tt);
   first = (refl, tt);
   results = refl;
@@ -209,7 +212,7 @@ begins_instance_end = record {
 
 -- a call that fits comes before events that follow it
 call_follows : (before : List TraceEvent) (c : Call) (events : List TraceEvent) → IsEvent (begin_of c) → fault_after before (begin_of c) ≡ None → exceeds_names before (begin_of c) ≡ false → Follow (Return 1 ∷ begin_of c ∷ before) events → Follow before (events_of c ++ events)
-call_follows before c events event fits few rest = (event, fits, few, ((omega arith, omega arith), return_fits before c, few, rest))
+call_follows before c events event fits few rest = (event, fits, few, (first_thread, return_fits before c, few, rest))
 
 -- names of buffers that were created
 abbrev Within : ℕ → List ℕ → Type 0
@@ -238,7 +241,7 @@ abbrev behind : Call → List TraceEvent → List TraceEvent
 behind c before = Return 1 ∷ begin_of c ∷ before
 
 -- the end: the buffers, the device and the instance
-ends_follow : (before : List TraceEvent) (next : ℕ) (ks : List ℕ) → Past before next → next ≤ 1000004 → Within next ks → Follow before (flat_map events_of (ending ks))
+ends_follow : (before : List TraceEvent) (next : ℕ) (ks : List ℕ) → Past before next → next ≤ MOST_CALLS + 4 → Within next ks → Follow before (flat_map events_of (ending ks))
 ends_follow before next [] past few all =
     let left : List TraceEvent = behind call.DestroyDevice before in
     let past_left : Past left next = device_past before next past in
@@ -256,7 +259,7 @@ ends_follow before next (k ∷ ks) past few all =
 record Ready (before : List TraceEvent) (b : Between) (left : ℕ) : Type 0 where
   past : Past before b.next
   low : 4 ≤ b.next
-  few : b.next + left ≤ 1000004
+  few : b.next + left ≤ MOST_CALLS + 4
   within : Within b.next b.buffers
 
 -- a turn's call fits, and what is known then
@@ -330,7 +333,7 @@ turns_follow (suc n) before b ready =
 begins_instance : IsEvent (begin_of call.CreateInstance)
 unfolding row_of
 begins_instance = record {
-  thread = (omega arith, omega arith);
+  thread = first_thread;
   args = tt;
   first = tt;
   results = refl;
@@ -342,7 +345,7 @@ begins_instance = record {
 begins_devices : IsEvent (begin_of call.EnumeratePhysicalDevices)
 unfolding row_of
 begins_devices = record {
-  thread = (omega arith, omega arith);
+  thread = first_thread;
   args = ((refl, refl, (name_fits 1 (omega arith) (omega arith), tt)), tt);
   first = (refl, tt);
   results = refl;
@@ -354,7 +357,7 @@ begins_devices = record {
 begins_device : IsEvent (begin_of call.CreateDevice)
 unfolding row_of
 begins_device = record {
-  thread = (omega arith, omega arith);
+  thread = first_thread;
   args = ((refl, refl, (name_fits 2 (omega arith) (omega arith), tt)), tt);
   first = (refl, tt);
   results = refl;
@@ -399,14 +402,14 @@ third_past = record {
   settled = λ e. refl;
 }
 
-follow_all : (number count : ℕ) → count ≤ 1000000 → Follow [] (generated_events number count)
+follow_all : (number count : ℕ) → count ≤ MOST_CALLS → Follow [] (generated_events number count)
 follow_all number count few =
     let later : List TraceEvent = flat_map events_of (turns count (started number)) in
     let ready : Ready third_call (started number) count = record { past = third_past; low = omega arith; few = omega arith; within = tt } in
-    let third : Follow second_call (events_of call.CreateDevice ++ later) = call_follows second_call call.CreateDevice later begins_device third_fits (le-ltb 4194304 3 (omega arith)) (turns_follow count third_call (started number) ready) in
+    let third : Follow second_call (events_of call.CreateDevice ++ later) = call_follows second_call call.CreateDevice later begins_device third_fits (le-ltb MAX_NAMES 3 (omega (arith, names_suffice))) (turns_follow count third_call (started number) ready) in
     let second : Follow first_call (events_of call.EnumeratePhysicalDevices ++ (events_of call.CreateDevice ++ later)) =
-    call_follows first_call call.EnumeratePhysicalDevices (events_of call.CreateDevice ++ later) begins_devices second_fits (le-ltb 4194304 2 (omega arith)) third in
-    call_follows [] call.CreateInstance (events_of call.EnumeratePhysicalDevices ++ (events_of call.CreateDevice ++ later)) begins_instance first_fits (le-ltb 4194304 1 (omega arith)) second
+    call_follows first_call call.EnumeratePhysicalDevices (events_of call.CreateDevice ++ later) begins_devices second_fits (le-ltb MAX_NAMES 2 (omega (arith, names_suffice))) third in
+    call_follows [] call.CreateInstance (events_of call.EnumeratePhysicalDevices ++ (events_of call.CreateDevice ++ later)) begins_instance first_fits (le-ltb MAX_NAMES 1 (omega (arith, names_suffice))) second
 
 -- ---- lines
 
@@ -430,7 +433,7 @@ calls_lines (c ∷ calls) before follow =
 header_first : (more : List ℕ) → lines_of (line_text header true ++ more) ≡ header ∷ lines_of more
 header_first more = refl
 
-pub faultless : (number count : ℕ) → count ≤ 1000000 → IsFaultless (generated number count) (generated_events number count)
+pub faultless : (number count : ℕ) → count ≤ MOST_CALLS → IsFaultless (generated number count) (generated_events number count)
 faultless number count few =
     let follow : Follow [] (generated_events number count) = follow_all number count few in
     record { lines = header_first (calls_text (calls_of number count)) ∙ ap (λ ls. header ∷ ls) (calls_lines (calls_of number count) [] follow); follow = follow }

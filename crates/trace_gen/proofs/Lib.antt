@@ -1,3 +1,4 @@
+pub mod Bounds
 pub mod TurnLemmas
 pub mod TextLemmas
 pub mod WriteLemmas

@@ -18,9 +18,9 @@ use Rattle.stream_run.proofs.prepare.prepare.Goals as goal
 pub make_logs-requires-clause-threads : goal.make_logs-requires-clause-threads
 make_logs-requires-clause-threads c =
     let file = file_parts c.args.file.now in
-    let own : c.in_ok-threads.threads.items ≡ threads_of file.streams = c.in_ok-threads.ensures ∙ ap (λ (ss : List (ℕ × Vec Event Global)). threads_of (map (stream_part {A = Global}) ss)) c.deref-2.ensures.value in
-    subst (λ (ps : List Plan). HaveThreads c.deref-4.result.now (map plan_content ps)) (sym c.deref-3.ensures.value)
-    (have_threads file c.deref-4.result.now (map plan_content c.in_ok-plans.plans.items) (c.deref-4.ensures.value ∙ own) c.in_ok-plans.ensures.cut)
+    let own : c.in_ok-threads.threads.items ≡ threads_of file.streams = c.in_ok-threads.ensures ∙ ap (λ (ss : List (ℕ × Vec Event Global)). threads_of (map (stream_part {A = Global}) ss)) c.deref.ensures.value in
+    subst (λ (ps : List Plan). HaveThreads c.deref-3.result.now (map plan_content ps)) (sym c.deref-2.ensures.value)
+    (have_threads file c.deref-3.result.now (map plan_content c.in_ok-plans.field-0.plans.items) (c.deref-3.ensures.value ∙ own) c.in_ok-plans.ensures.cut)
 
 pub returns : goal.returns
 returns c =
@@ -28,10 +28,10 @@ returns c =
     record {
       cut = c.in_ok-plans.ensures.cut;
       devices = c.in_ok-plans.ensures.devices;
-      places = c.in_ok-places.ensures ∙ map_both (λ (s : StreamPart). calls_planned (device_written file) (devices_cut file) s.events) places_of file.streams;
-      threads = c.in_ok-threads.ensures ∙ ap (λ (ss : List (ℕ × Vec Event Global)). threads_of (map (stream_part {A = Global}) ss)) c.deref-2.ensures.value;
-      logs = λ names plans logs. c.in_ok-logs.ensures.logs names (plans ∙ ap (λ (ps : List Plan). map plan_content ps) (sym c.deref-3.ensures.value)) logs;
-      count = c.in_ok-logs.ensures.count ∙ ap length c.deref-3.ensures.value;
+      places = c.in_ok-plans.ensures.places ∙ map_both (λ (s : StreamPart). calls_planned (device_written file) (devices_cut file) s.events) places_of file.streams;
+      threads = c.in_ok-threads.ensures ∙ ap (λ (ss : List (ℕ × Vec Event Global)). threads_of (map (stream_part {A = Global}) ss)) c.deref.ensures.value;
+      logs = λ names plans logs. c.in_ok-logs.ensures.logs names (plans ∙ ap (λ (ps : List Plan). map plan_content ps) (sym c.deref-2.ensures.value)) logs;
+      count = c.in_ok-logs.ensures.count ∙ ap length c.deref-2.ensures.value;
       tick = c.in_ok-clock.ensures
-          ∙ ap (λ (n : ℕ). tick_view c.in_ok-clock.clock n 0) (c.in_ok-steps.ensures ∙ ap (λ (vs : List (Vec ℕ Global)). steps_of (map (λ (v : Vec ℕ Global). v.items) vs)) c.deref-5.ensures.value);
+          ∙ ap (λ (n : ℕ). tick_view c.in_ok-clock.clock n 0) (c.in_ok-steps.ensures ∙ ap (λ (vs : List (Vec ℕ Global)). steps_of (map (λ (v : Vec ℕ Global). v.items) vs)) c.deref-4.ensures.value);
     }
