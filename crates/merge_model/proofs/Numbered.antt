@@ -49,12 +49,13 @@ number_at devices d n is =
     let at = position-Some (λ (x : Name). same_name x d) devices n d is in
     (at.0, slice_get-get_or devices n d at.0 ∙ ap Some (name_is _ d at.1))
 
-within_number : (devices : List Name) (o : Option Name) (n : ℕ) → number_among devices o ≡ Some n → n < length devices
+-- a number is one of theirs
+pub within_number : (devices : List Name) (o : Option Name) (n : ℕ) → number_among devices o ≡ Some n → n < length devices
 within_number devices None n is = cc is
 within_number devices (Some d) n is = (number_at devices d n is).0
 
 -- a device has the number of another alone where both are one
-number_same : (devices : List Name) (k : ℕ) (device : Name) → IsDistinct same_name devices → slice_get devices k ≡ Some device → (o : Option Name) (n : ℕ) → number_among devices o ≡ Some n → (n == k) ≡ same_device o (Some device)
+pub number_same : (devices : List Name) (k : ℕ) (device : Name) → IsDistinct same_name devices → slice_get devices k ≡ Some device → (o : Option Name) (n : ℕ) → number_among devices o ≡ Some n → (n == k) ≡ same_device o (Some device)
 number_same devices k device distinct there None n is = cc is
 number_same devices k device distinct there (Some d) n is = go (same_name d device) refl
   where

@@ -1,5 +1,5 @@
 -- What is cut of the streams of a file, one event after another.
-use Rattle.std.proofs.Common.{◌≡◌, ◌∙◌, ◌+◌, ◌<◌, ℕ, Bool, true, false, Option, List, [], ◌∷◌, ◌++◌, take, drop, length, map, get_or, refl, sym, ap, subst, append_assoc}
+use Rattle.std.proofs.Common.{◌≡◌, ◌∙◌, ◌+◌, ◌<◌, ℕ, Bool, true, false, Option, List, [], ◌∷◌, ◌++◌, take, drop, length, map, get_or, refl, sym, ap, subst}
 use Rattle.std.specs.Prelude.{Vec, reverse}
 use Rattle.std.specs.List.{AllByRecursion, flat_map}
 use Rattle.std.proofs.lemmas.List.{map-append}
@@ -51,17 +51,6 @@ calls_first f device on (Return thread) events = go on
     go : (u : Bool) → kept_if u (Return thread) (calls_on f device u events) ≡ kept_if u (Return thread) [] ++ calls_on f device u events
     go true = refl
     go false = refl
-
--- one event more
-pub cut_next : (f : Name → Option Name) (device : Name) (on here : Bool) (was now : List TraceEvent) (xs : List Event) (k : ℕ) (x : Event) → k < length xs → x ≡ get_or xs k x
-    → was ++ calls_on f device on (map content (drop k xs)) ≡ calls_on f device false (map content xs) → here ≡ stays_on f device on (content x) → now ≡ was ++ kept_if here (content x) []
-    → now ++ calls_on f device here (map content (drop (k + 1) xs)) ≡ calls_on f device false (map content xs)
-cut_next f device on here was now xs k x less at so_far stays is =
-    let rest : List TraceEvent = map content (drop (k + 1) xs) in
-    ap (λ es. es ++ calls_on f device here rest) is
-    ∙ (append_assoc was (kept_if here (content x) []) (calls_on f device here rest)
-    ∙ (ap (λ u. was ++ (kept_if u (content x) [] ++ calls_on f device u rest)) stays
-    ∙ (ap (λ es. was ++ es) (sym (calls_first f device on (content x) rest)) ∙ (ap (λ ys. was ++ calls_on f device on (map content ys)) (sym (left_over xs k x less at)) ∙ so_far))))
 
 -- ---- one more of what is mapped
 

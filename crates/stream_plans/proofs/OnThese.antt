@@ -33,10 +33,10 @@ use Rattle.stream_plans.proofs.NamedLemmas.{Agrees, agrees_before, devices_first
 
 -- ---- names
 
-name_self : (n : Name) → same_name n n ≡ true
+pub name_self : (n : Name) → same_name n n ≡ true
 name_self n = rw (eq-eqb n.thread n.thread refl, eq-eqb n.number n.number refl) refl
 
-names_equiv : IsEquivalence same_name
+pub names_equiv : IsEquivalence same_name
 names_equiv = decided same_name (λ a b. (name_is a b, λ e. ap (same_name a) (sym e) ∙ name_self a))
 
 -- ---- the number of a device
@@ -49,7 +49,7 @@ found p i (x ∷ xs) = go (p x) (found p (i + 1) xs)
     go true rest = refl
     go false rest = rest
 
-is_numbered : (devices : List Name) (d : Name) → is_some (position (λ (x : Name). same_name x d) devices) ≡ list_any (same_name d) devices
+pub is_numbered : (devices : List Name) (d : Name) → is_some (position (λ (x : Name). same_name x d) devices) ≡ list_any (same_name d) devices
 is_numbered devices d =
     ap is_some (position_from-zero (λ (x : Name). same_name x d) devices)
     ∙ (found (λ (x : Name). same_name x d) 0 devices ∙ ap (λ test. list_any test devices) (ext (λ (x : Name). same_name x d) (same_name d) (λ x. names_equiv.symm x d)))
@@ -94,7 +94,7 @@ apart_all : (f : Name → Option Name) (es : List TraceEvent) (devices : List Na
 apart_all f [] devices apart = apart
 apart_all f (e ∷ es) devices apart = apart_all f es (with_device (event_device f e) devices) (apart_one (event_device f e) devices apart)
 
-none_apart : IsDistinct same_name []
+pub none_apart : IsDistinct same_name []
 unfolding IsDistinct
 none_apart = tt
 

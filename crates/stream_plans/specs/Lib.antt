@@ -1,3 +1,4 @@
 pub mod Tables
 pub mod Contents
 pub mod Cuts
+pub mod Dealt

@@ -1,4 +1,4 @@
--- What a table keeps of the written devices of names. Source: this project.
+-- What a table keeps of names, and of their written devices. Source: this project.
 use Rattle.std.specs.Prelude.{◌≡◌, ◌++◌, ℕ, Bool, if◌then◌else◌, Option, Some, None, List, Vec, option_and_then, reverse, slice_get}
 use Rattle.std.specs.List.{list_any, slice_index_or}
 use Rattle.trace_format.specs.declared.event.Name.{Name}
@@ -7,16 +7,20 @@ use Rattle.trace_format.specs.Content.{TraceEvent}
 use Rattle.stream_model.specs.Devices.{written_device}
 
 -- what stands in a place of a row, if anything: nothing beyond the row's end
-abbrev pub cell_in : List (Option Name) → ℕ → Option Name
+abbrev pub cell_in : {V : Type 0} → List (Option V) → ℕ → Option V
 cell_in cells at = slice_index_or cells at None
 
 -- what stands in a place of one of these rows, if anything
-abbrev pub cell : {A : Type 0} → List (Vec (Option Name) A) → ℕ → ℕ → Option Name
+abbrev pub cell : {V A : Type 0} → List (Vec (Option V) A) → ℕ → ℕ → Option V
 cell rows row at = option_and_then (λ r. cell_in r.items at) (slice_get rows row)
 
--- the device that is kept of a name, in the row of its thread, at its number
+-- what is kept of a name, in the row of its thread, at its number
+abbrev pub value_in : {V A : Type 0} → List (Vec (Option V) A) → Name → Option V
+value_in rows n = cell rows n.thread n.number
+
+-- the device that is kept of a name
 abbrev pub device_in : {A : Type 0} → List (Vec (Option Name) A) → Name → Option Name
-device_in rows n = cell rows n.thread n.number
+device_in rows n = value_in rows n
 
 -- the device of a result: itself, or that of its owner
 abbrev pub device_of_result : Bool → Option Name → Name → Option Name

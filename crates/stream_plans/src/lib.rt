@@ -4,11 +4,12 @@
 //! Leaves to others what a stream file is, how one is read, and how a plan is carried out.
 #![tactic(auto)]
 
-mod cutting;
+mod adding;
+mod dealing;
 mod filling;
 mod laws;
 mod naming;
-mod placing;
+mod numbers;
 mod plans;
 mod table;
 

@@ -1,21 +1,25 @@
-//! The written devices of the names of a file, by thread and number: a look-up is two reads.
+//! What is kept of the names of a file, by thread and number: a look-up is two reads.
 ghost use Rattle.std.specs.Prelude.{◌≡◌, ◌&&◌, ◌==◌, ◌<◌, ◌^◌, ℕ, [], OnOk, if◌then◌else◌, length};
 ghost use Rattle.trace_format.specs.declared.event.Name.{Name};
 ghost use Rattle.trace_format.specs.Accepting.{same_name};
-ghost use Rattle.stream_plans.specs.Tables.{PutResults, cell, cell_in, device_in, device_of_result};
+ghost use Rattle.stream_plans.specs.Tables.{cell, cell_in, value_in};
 
 use std::alloc::{AllocError, Global};
 use trace_format::Name;
 
-/// The devices of names; what was never given has no place or an empty one, and so has what is of no device.
+/// Values of names; what has none has no place or an empty one.
 #[derive(Drop)]
-pub struct DeviceTable {
+pub struct NameTable<V: Copy + Drop> {
     alloc: Global,
-    pub rows: Vec<Vec<Option<Name>>>,
+    pub rows: Vec<Vec<Option<V>>>,
 }
 
 // There are rows up to this one.
-fn add_rows(alloc: Global, rows: &mut Vec<Vec<Option<Name>>>, row: usize) -> Result<(), AllocError>
+fn add_rows<V: Copy + Drop>(
+    alloc: Global,
+    rows: &mut Vec<Vec<Option<V>>>,
+    row: usize,
+) -> Result<(), AllocError>
     ensures there { OnOk result (row < length rows.new.items) }
     ensures same { (r n : ℕ) → cell rows.new.items r n ≡ cell rows.old.items r n }
 {
@@ -26,7 +30,7 @@ fn add_rows(alloc: Global, rows: &mut Vec<Vec<Option<Name>>>, row: usize) -> Res
 }
 
 // A row has places up to this one.
-fn lengthen(cells: &mut Vec<Option<Name>>, at: usize) -> Result<(), AllocError>
+fn lengthen<V: Copy + Drop>(cells: &mut Vec<Option<V>>, at: usize) -> Result<(), AllocError>
     requires { at < 2 ^ 63 }
     ensures there { OnOk result (at < length cells.new.items) }
     ensures same { (n : ℕ) → cell_in cells.new.items n ≡ cell_in cells.old.items n }
@@ -37,90 +41,78 @@ fn lengthen(cells: &mut Vec<Option<Name>>, at: usize) -> Result<(), AllocError>
     Ok(())
 }
 
-// A device is put into a place of a row.
-fn put_in(cells: &mut Vec<Option<Name>>, at: usize, device: Option<Name>) -> Result<(), AllocError>
+// A value is put into a place of a row.
+fn put_in<V: Copy + Drop>(
+    cells: &mut Vec<Option<V>>,
+    at: usize,
+    value: Option<V>,
+) -> Result<(), AllocError>
     requires { at < 2 ^ 63 }
-    ensures ok { OnOk result ((n : ℕ) → cell_in cells.new.items n ≡ (if at == n then device else cell_in cells.old.items n)) }
+    ensures ok { OnOk result ((n : ℕ) → cell_in cells.new.items n ≡ (if at == n then value else cell_in cells.old.items n)) }
 {
     lengthen(cells, at)?;
-    cells[at] = device;
+    cells[at] = value;
     Ok(())
 }
 
-// Puts a device into a place, in memory up to the place.
-fn put_value(
+// Puts a value into a place, in memory up to the place.
+fn put_value<V: Copy + Drop>(
     alloc: Global,
-    rows: &mut Vec<Vec<Option<Name>>>,
+    rows: &mut Vec<Vec<Option<V>>>,
     row: usize,
     at: usize,
-    device: Option<Name>,
+    value: Option<V>,
 ) -> Result<(), AllocError>
     requires { at < 2 ^ 63 }
-    ensures { OnOk result ((r n : ℕ) → cell rows.new.items r n ≡ (if row == r && at == n then device else cell rows.old.items r n)) }
+    ensures { OnOk result ((r n : ℕ) → cell rows.new.items r n ≡ (if row == r && at == n then value else cell rows.old.items r n)) }
 {
     add_rows(alloc, rows, row)?;
-    put_in(&mut rows[row], at, device)?;
+    put_in(&mut rows[row], at, value)?;
     Ok(())
 }
 
 // What is kept in a place of a row, if anything.
-fn value_at(rows: &[Vec<Option<Name>>], row: usize, at: usize) -> Option<Name>
+fn value_at<V: Copy + Drop>(rows: &[Vec<Option<V>>], row: usize, at: usize) -> Option<V>
     ensures { result ≡ cell rows.now row at }
 {
     match rows.get(row) {
         None => None,
         Some(cells) => match cells.get(at) {
             None => None,
-            Some(device) => *device,
+            Some(value) => *value,
         },
     }
 }
 
-impl DeviceTable {
+impl<V: Copy + Drop> NameTable<V> {
     /// No names yet.
-    pub fn new(alloc: Global) -> DeviceTable
+    pub fn new(alloc: Global) -> NameTable<V>
         ensures { result.rows.items ≡ [] }
     {
-        DeviceTable {
+        NameTable {
             alloc,
             rows: Vec::new(alloc),
         }
     }
 
-    /// The device of a name.
-    pub fn device(&self, name: Name) -> Option<Name>
-        ensures { result ≡ device_in self.now.rows.items name }
+    /// The value of a name.
+    pub fn value(&self, name: Name) -> Option<V>
+        ensures { result ≡ value_in self.now.rows.items name }
     {
         value_at(&self.rows, name.thread as usize, name.number as usize)
     }
 
-    // A name has its device.
-    fn put(&mut self, name: Name, device: Option<Name>) -> Result<(), AllocError>
-        ensures { OnOk result ((n : Name) → device_in self.new.rows.items n ≡ (if same_name name n then device else device_in self.old.rows.items n)) }
+    /// A name has this value, or none.
+    pub fn put(&mut self, name: Name, value: Option<V>) -> Result<(), AllocError>
+        ensures { OnOk result ((n : Name) → value_in self.new.rows.items n ≡ (if same_name name n then value else value_in self.old.rows.items n)) }
     {
         put_value(
             self.alloc,
             &mut self.rows,
             name.thread as usize,
             name.number as usize,
-            device,
+            value,
         )?;
-        Ok(())
-    }
-
-    /// The results of a call have their devices: a device is its own, and anything else is its owner's.
-    pub fn put_results(
-        &mut self,
-        results: &[Name],
-        is_device: bool,
-        owner: Option<Name>,
-    ) -> Result<(), AllocError>
-        ensures { OnOk result (PutResults self.old.rows.items self.new.rows.items results.now (device_of_result is_device owner)) }
-    {
-        for name in results {
-            let device = if is_device { Some(*name) } else { owner };
-            self.put(*name, device)?;
-        }
         Ok(())
     }
 }

@@ -11,10 +11,13 @@ use Rattle.stream_plans.proofs.naming.devices_of.Goals as goal
 pub loop-stream-preserved : goal.loop-stream-preserved
 loop-stream-preserved c =
     let f = device_in c.args.table.now.rows.items in
-    named_stream f c.loop-stream.devices.items c.add_named.new.devices.items c.args.streams.now c.loop-stream.stream-index c.stream-item.result c.loop-stream-test.true c.stream-item.is c.loop-stream.invariant
-    (c.in_ok-add_named.ensures ∙ ap (λ es. devices_with f c.loop-stream.devices.items (map content es)) c.deref.ensures.value)
+    record {
+      names = named_stream f c.loop-stream.devices.names.items c.add_named.new.devices.names.items c.args.streams.now c.loop-stream.stream-index c.stream-item.result c.loop-stream-test.true c.stream-item.is c.loop-stream.invariant.names
+          (c.in_ok-add_named.ensures.names ∙ ap (λ es. devices_with f c.loop-stream.devices.names.items (map content es)) c.deref.ensures.value);
+      numbered = c.in_ok-add_named.ensures.numbered;
+    }
 
-pub returns : goal.returns
-returns c =
+pub returns-clause-names : goal.returns-clause-names
+returns-clause-names c =
     let whole : take c.loop-stream.stream-index c.args.streams.now ≡ c.args.streams.now = grind (arith, common_steps) in
-    c.loop-stream.invariant ∙ ap (λ ss. devices_with (device_in c.args.table.now.rows.items) [] (flat_map (λ s. s.events) (map stream_part ss))) whole
+    c.loop-stream.invariant.names ∙ ap (λ ss. devices_with (device_in c.args.table.now.rows.items) [] (flat_map (λ s. s.events) (map stream_part ss))) whole

@@ -3,7 +3,7 @@ use Rattle.stream_plans.specs.Tables.{cell}
 use Rattle.stream_plans.proofs.table.add_rows.Given as goal
 
 abbrev pub invariant-rows : goal.invariant-rows
-invariant-rows l = (r n : ℕ) → cell l.rows.items r n ≡ cell l.initial.rows.items r n
+invariant-rows g l = (r n : ℕ) → cell l.rows.items r n ≡ cell l.initial.rows.items r n
 
 abbrev pub decreases-rows : goal.decreases-rows
-decreases-rows l = l.row + 1 - vec_len l.rows
+decreases-rows g l = l.row + 1 - vec_len l.rows
